@@ -10,7 +10,7 @@ use Rattle.xa_records.specs.declared.refusal.Failure.TheVariants.{Memory, Store}
 use Rattle.xa_records.specs.Changes.{Change}
 use Rattle.xa_records.specs.Kept.{Kept, IsMade, state_of}
 
--- of a value that isn't read
+-- why a kept value isn't read: want of memory, or its text is none of its type
 abbrev pub failure_of_value : OrMemory ReadError → Failure
 failure_of_value or_memory.Memory = Memory
 failure_of_value (or_memory.Error fault) = Store
@@ -31,7 +31,7 @@ Changes old new (Err (Failed failure)) name change = new ≡ old
 abbrev pub Leaves : (Kept → Type 0) → (Kept → Type 0) → Kept → List ℕ → Change → Type 0
 Leaves before after old name change = (left : Kept) → after left → before left ⊎ IsMade change name old left
 
--- unless the call failed: the change was made, or is refused
+-- the claim, unless the call failed
 abbrev pub IfAnswered : {X : Type 0} → Result X ChangeError → Type 0 → Type 0
 IfAnswered (Ok x) claim = claim
 IfAnswered (Err (Refused e)) claim = claim
@@ -41,13 +41,13 @@ IfAnswered (Err (Failed failure)) claim = Unit {0}
 abbrev pub IsOneMore : ℕ → ℕ → Type 0
 IsOneMore old new = (new ≡ old + 1) ⊎ ((old + 1 ≡ 2 ^ 64) × (new ≡ old))
 
--- of the calls that failed for want of storage each is counted, and no other: of the readings
+-- a reading that answers `Store` is counted, and no other
 abbrev pub CountsReading : {X : Type 0} → ℕ → ℕ → Result X Failure → Type 0
 CountsReading old new (Ok x) = new ≡ old
 CountsReading old new (Err Memory) = new ≡ old
 CountsReading old new (Err Store) = IsOneMore old new
 
--- and of the changes
+-- a change that answers `Store` is counted, and no other
 abbrev pub CountsChange : {X : Type 0} → ℕ → ℕ → Result X ChangeError → Type 0
 CountsChange old new (Ok x) = new ≡ old
 CountsChange old new (Err (Refused e)) = new ≡ old

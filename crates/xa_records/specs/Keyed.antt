@@ -13,7 +13,7 @@ abbrev pub key_if : Result Parsed NotationError → Option DocumentKey
 key_if (Ok parsed) = Some (key_of parsed)
 key_if (Err _) = None
 
--- the key of the document that a text is, if it is one
+-- the key of the document that a text is, if it is one: `key_in text ≡ Some key` says what `IsDocumentOf key text` says
 abbrev pub key_in : List ℕ → Option DocumentKey
 key_in text = key_if (document_of text)
 

@@ -1,10 +1,9 @@
 -- What the contracts of the keeper in memory cite beside the trait's.
 use Rattle.std.specs.Prelude.{◌≡◌, ℕ, Bool, List, bytes_eq, if◌then◌else◌}
-use Rattle.std.specs.Prelude.{map, filter, Option, Some, None, Result, Ok, Err}
+use Rattle.std.specs.Prelude.{Option, Some, None, Result, Ok, Err}
 use Rattle.std.specs.FinMap.{FinMap, get, insert}
 use Rattle.xa_policy.specs.declared.document_key.DocumentKey.{DocumentKey}
 use Rattle.xa_policy.specs.DocumentKey.{compare_keys}
-use Rattle.xa_records.specs.declared.active_text.ActiveText.{ActiveText}
 use Rattle.xa_records.specs.declared.refusal.ChangeError.{ChangeError}
 use Rattle.xa_records.specs.declared.refusal.ChangeError.TheVariants.{Failed, Refused}
 use Rattle.xa_records.specs.declared.refusal.Failure.{Failure}
@@ -17,7 +16,6 @@ use Rattle.xa_value.specs.Gives.{◌>>=◌}
 use Rattle.xa_records.specs.Changes.{or_absent}
 use Rattle.xa_records.specs.DomainState.{DomainState, StoredDocument}
 use Rattle.xa_records.specs.Kept.{DecidesAlike, Domain, IsGreatest, IsNextEpoch, IsRaised}
-use Rattle.xa_records.specs.Readings.{active_text}
 
 -- one more, up to the greatest number
 abbrev pub RaisesTo : ℕ → Result ℕ Failure → Type 0
@@ -25,12 +23,12 @@ RaisesTo number (Ok next) = IsRaised number next
 RaisesTo number (Err Store) = IsGreatest number
 RaisesTo number (Err Memory) = ⊥
 
--- the documents where that one is active or not
 abbrev pub active_at : DocumentKey → Bool → FinMap compare_keys StoredDocument → Option StoredDocument
     → FinMap compare_keys StoredDocument
 active_at key active documents None = documents
 active_at key active documents (Some document) = insert documents key (record { text = document.text; active = active })
 
+-- the documents where that one is active or not
 abbrev pub with_activity : DocumentKey → Bool → FinMap compare_keys StoredDocument → FinMap compare_keys StoredDocument
 with_activity key active documents = active_at key active documents (get documents key)
 
@@ -41,10 +39,6 @@ activity_at key state = or_absent (get state.documents key) >>= (λ document. Ok
 -- what becomes of an upload over a document of the same key
 abbrev pub upload_again : StoredDocument → List ℕ → Result Upload ChangeError
 upload_again document text = if bytes_eq document.text text then Ok Same else Err (Refused SameVersionOtherText)
-
--- the texts of the active ones
-abbrev pub active_among : List (DocumentKey × StoredDocument) → List ActiveText
-active_among documents = map active_text (filter (λ entry. entry.1.active) documents)
 
 -- the domain has gone over into that state
 abbrev pub GoesOver : Domain → Domain → DomainState → Type 0

@@ -26,9 +26,13 @@ gate_of name kept = option_map gate_of_domain (get kept.domains name)
 abbrev pub active_text : DocumentKey × StoredDocument → ActiveText
 active_text entry = record { key = entry.0; text = entry.1.text }
 
+-- the texts of the active ones among these documents
+abbrev pub active_among : List (DocumentKey × StoredDocument) → List ActiveText
+active_among documents = map active_text (filter (λ entry. entry.1.active) documents)
+
 -- the texts of the active documents, in the order of their keys
 abbrev pub active_texts : DomainState → List ActiveText
-active_texts state = map active_text (filter (λ entry. entry.1.active) (entries state.documents))
+active_texts state = active_among (entries state.documents)
 
 -- what decides in a domain
 abbrev pub view_of_state : DomainState → KeptView

@@ -1,4 +1,4 @@
-//! What is kept of all domains: their tokens, documents, roots and source rows, and the changes to it.
+//! What is kept of all domains, their tokens, documents, roots and source rows, and how it is changed.
 //!
 //! `records` has the trait of a keeper. A reading gives a `gate` of tokens with their `digest`s, a
 //! `kept_view` of `active_text`s, or documents as they are `listed`; `listing` writes bodies of these. A

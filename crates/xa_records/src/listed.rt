@@ -1,7 +1,7 @@
-//! The listing of a domain's documents.
+//! A document as it is listed.
 use xa_policy::DocumentKey;
 
-/// A document as it is listed.
+/// What a list of documents tells of one.
 #[derive(Debug, Drop)]
 pub struct Listed {
     /// Its kind, id and version.

@@ -155,7 +155,8 @@ pub trait Records {
     fn keeps_documents(&self)
         ensures { (custody self.now).sound → KeepsDocuments (custody self.now).kept };
 
-    /// Law: no two domains have one number, and every number is below the next.
+    /// Law: no two domains have one number, every number is below the next, and that and all epochs are
+    /// at most 2^63 - 1.
     ghost numbered: { (s : Self) → (custody s).sound → IsNumbered (custody s).kept };
 
     /// Law: a crash leaves what is kept, and nothing else.

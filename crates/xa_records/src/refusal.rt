@@ -35,8 +35,8 @@ pub enum Failure {
     /// There was no memory for it.
     #[error("out of memory")]
     Memory,
-    /// The storage failed, or the next number or an epoch is the greatest already. The keeper counts
-    /// these calls.
+    /// The storage failed; or the next number or an epoch is the greatest already; or a value or a row is
+    /// none that the storage can keep. The keeper counts these calls.
     #[error("the storage failed")]
     Store,
 }

@@ -1,13 +1,13 @@
 -- The rows of a sound table are those that a keeper writes: for any table, and for domains, tokens and the rows of sources.
 use Rattle.std.proofs.Common.{◌≡◌, ℕ, ℤ, Bool, true, false, List, [], ◌∷◌, map, drop, refl, subst, ◌∙◌}
-use Rattle.xa_store.proofs.Common.{AllByRecursion, Row, column, Schema, Table, Trees, Int, IsSound, IsKeyedBy, AreApart, all_both, all_from_test, all_of, all_unmap, all_weaker, first_of_both, second_of_both, Datatype, NotNull, Unique, agree, are_present, are_typed, clashes, passes, Eq, at_ints, at_texts, at_blobs, then_term, last_term, Kind, Domains, Tokens, Attributes, Sources, as_read, is_sound_table, is_whole_row, row_number, tree_of, AttributeRow, DomainRow, TokenRow, attribute_in, attribute_row, domain_in, domain_row, token_in, token_row, AreRows, same_name, same_place, same_token, attributes, domains, first_schema, our_schema, rising, sources, tokens}
+use Rattle.xa_store.proofs.Common.{AllByRecursion, Row, column, Schema, Table, Trees, Int, IsSound, IsKeyedBy, AreApart, all_both, all_from_test, all_of, all_unmap, all_weaker, first_of_both, second_of_both, Datatype, NotNull, Unique, agree, are_present, are_typed, clashes, passes, Eq, at_ints, at_texts, at_blobs, then_term, last_term, CheckedTable, Domains, Tokens, Attributes, Sources, as_read, is_sound_table, is_whole_row, row_number, tree_of, AttributeRow, DomainRow, TokenRow, attribute_in, attribute_row, domain_in, domain_row, token_in, token_row, AreRows, same_name, same_place, same_token, attributes, domains, first_schema, our_schema, rising, sources, tokens}
 use Rattle.sqlite_schema.specs.declared.schema.Constraint.{Constraint}
 use Rattle.sqlite_value.specs.Keys.{first_key}
 use Rattle.xa_store.proofs.ShapedLemmas.{apart_from, domain_back, first_source_back, free_of, keyed_from, places_agree, rows_ascend, source_back, token_back, written_from}
 
 -- ---- any table
 
-module _ (kind : Kind) (next : ℤ) (db : Trees) (sound : is_sound_table db next kind ≡ true) where
+module _ (kind : CheckedTable) (next : ℤ) (db : Trees) (sound : is_sound_table db next kind ≡ true) where
   abbrev pub IsWhole : Row → Type 0
   IsWhole r = is_whole_row kind next (as_read kind r) ≡ true
 

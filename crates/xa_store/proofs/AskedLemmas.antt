@@ -7,12 +7,18 @@ use Rattle.sqlite.specs.declared.error.Error.TheVariants.{SqliteFailure, SqlInpu
 use Rattle.sqlite.specs.declared.error.ErrorCode.TheVariants.{NameTaken, OutOfMemory as NoMemory}
 use Rattle.sqlite_trees.specs.declared.error.StoreError.{StoreError}
 use Rattle.sqlite_trees.specs.declared.error.StoreError.TheVariants.{OutOfMemory, Io, Corrupt, Full, Broken, Unstorable}
-use Rattle.xa_store.specs.Check.{Asks, GoesOn, IsUnguarded, is_misfit, refused_as}
+use Rattle.xa_store.specs.Check.{Asks, GoesOn, IsUnguarded, refused_as}
 use Rattle.xa_store.specs.Opening.{IsFailure}
 use Rattle.xa_store.proofs.AskLemmas.{commits_idle, failed_held, failed_open, failed_same, goes_then, holds_then, plain_at, shown_goes, shown_held, shown_open, shown_same}
 use Rattle.xa_store.proofs.QuietLemmas.{rests_after}
 
 -- ---- errors
+
+-- an error that no query of a keeper's tables has
+abbrev pub is_misfit : Error → Bool
+is_misfit (SqlInputError fault) = true
+is_misfit (SqliteFailure NameTaken) = true
+is_misfit _ = false
 
 fit : (e other : Error) → e ≡ other → is_misfit other ≡ false → is_misfit e ≡ false
 fit e other is fits = ap is_misfit is ∙ fits

@@ -1,16 +1,16 @@
 -- What the queries are by which the rows of the tables are checked.
 use Rattle.std.proofs.Common.{◌≡◌, ℕ, true, List, [], ◌∷◌, map, codes, refl, sym, true≢false}
 use Rattle.sqlite.specs.Listing.{understood}
-use Rattle.xa_store.proofs.Common.{Query, col, Kind, Domains, Tokens, Documents, Roots, Attributes, Sources, SchemaVersion, Schema1, Schema2, read_columns, schema_of, sources_in, tree_of}
+use Rattle.xa_store.proofs.Common.{Query, col, CheckedTable, Domains, Tokens, Documents, Roots, Attributes, Sources, SchemaVersion, Schema1, Schema2, read_columns, schema_of, sources_in, tree_of}
 use Rattle.sqlite_tied.specs.Compute.{everything}
-use Rattle.xa_store.specs.Check.{has_kind, places_text_of, text_of}
+use Rattle.xa_store.specs.Check.{has_table, places_text_of, text_of}
 use Rattle.xa_store.specs.Texts.{meta_shown}
 use Rattle.xa_store.proofs.TextLemmas.{of_table, reading, IsQuery, IsQueryIn}
 
-abbrev pub query_of : Kind → Query
+abbrev pub query_of : CheckedTable → Query
 query_of kind = of_table (tree_of kind) [] (map (λ at. col 1 at) (read_columns kind)) (0 ∷ [])
 
-abbrev pub names_of : Kind → List (List ℕ)
+abbrev pub names_of : CheckedTable → List (List ℕ)
 names_of Domains = codes "number" ∷ codes "name" ∷ codes "epoch" ∷ []
 names_of Tokens = codes "rowid" ∷ codes "number" ∷ codes "digest" ∷ codes "role" ∷ []
 names_of Documents = codes "rowid" ∷ codes "number" ∷ codes "kind" ∷ codes "id" ∷ codes "version" ∷ codes "body" ∷ codes "active" ∷ []
@@ -18,7 +18,7 @@ names_of Roots = codes "number" ∷ codes "kind" ∷ codes "id" ∷ codes "patte
 names_of Attributes = codes "rowid" ∷ codes "number" ∷ codes "place" ∷ codes "category" ∷ codes "entity" ∷ codes "attribute" ∷ codes "value_type" ∷ codes "value" ∷ []
 names_of Sources = codes "rowid" ∷ codes "number" ∷ codes "place" ∷ codes "category" ∷ codes "entity" ∷ codes "attribute" ∷ codes "value_type" ∷ codes "value" ∷ codes "issuer" ∷ []
 
-pub checked_is : (kind : Kind) (version : SchemaVersion) → has_kind kind version ≡ true → IsQueryIn (schema_of version) (text_of kind) (reading (query_of kind) (names_of kind))
+pub checked_is : (kind : CheckedTable) (version : SchemaVersion) → has_table kind version ≡ true → IsQueryIn (schema_of version) (text_of kind) (reading (query_of kind) (names_of kind))
 unfolding understood everything
 checked_is Domains Schema1 has = (refl, refl, (refl, refl))
 checked_is Domains Schema2 has = (refl, refl, (refl, refl))

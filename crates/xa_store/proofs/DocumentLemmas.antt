@@ -8,17 +8,20 @@ use Rattle.xa_store.specs.Lookup.{FindsDocument, found_of}
 use Rattle.xa_store.specs.Rows.{given as given_by, version_in}
 use Rattle.xa_store.specs.Columns.{TellsOne, document_told, listed_told, text_told}
 use Rattle.xa_store.specs.Steps.{is_document}
-use Rattle.xa_store.specs.Texts.{document_shown, documents_shown, active_shown}
+use Rattle.xa_store.specs.Texts.{document_shown, kinds_shown, documents_shown, active_shown}
 use Rattle.xa_store.proofs.EntryLemmas.{got, has}
 use Rattle.xa_store.proofs.FilterLemmas.{filter_both}
 use Rattle.xa_store.proofs.FoundLemmas.{finds_one, found_is, found_all, find_both, map_alike, read_back}
-use Rattle.xa_store.proofs.HitLemmas.{document_hit, documents_hit}
+use Rattle.xa_store.proofs.HitLemmas.{document_hit, kinds_hit, documents_hit}
 use Rattle.xa_store.proofs.OrderedLemmas.{all_among, apart_among, apart_then, entries_sorted, rises_sorted}
 use Rattle.xa_store.proofs.SqlLemmas.{Answered, answered, hits}
-use Rattle.xa_store.proofs.TextLemmas.{is, is_one, document_shown_is, documents_shown_is, active_shown_is}
+use Rattle.xa_store.proofs.TextLemmas.{is, is_one, document_shown_is, kinds_shown_is, documents_shown_is, active_shown_is}
 
 pub document_plain : IsPlain (understood our_schema document_shown)
 document_plain = document_shown_is.2
+
+pub kinds_plain : IsPlain (understood our_schema kinds_shown)
+kinds_plain = kinds_shown_is.2
 
 pub documents_plain : IsPlain (understood our_schema documents_shown)
 documents_plain = documents_shown_is.2
@@ -174,13 +177,16 @@ module _ (old new : State) (number : ℤ) (ours : Ours old) where
       (all_weaker IsBack _ (λ d back. ap (list_row trees number ours.tables) back) _ (backs trees of_number ours.tables.documents.written)) in
       subst (λ l. IsPermutation l items) each (subst (IsPermutation (map listed_told (map list_shown (filter of_number (map document_in (trees 5)))))) (sym told) (IsPermutation-map listed_told _ rows all))
 
-  pub documents_counted : (rows : List Row) → Shown documents_shown (Int number ∷ []) old new rows → length rows ≡ len (state_at (rows_of trees) number).documents
+  abbrev only_kind : DocumentRow → Row
+  only_kind d = Int (kind_number d.key.kind) ∷ []
+
+  pub documents_counted : (rows : List Row) → Shown kinds_shown (Int number ∷ []) old new rows → length rows ≡ len (state_at (rows_of trees) number).documents
   documents_counted rows shown =
-      let answer = answered 5 (is 1 0 ∷ []) (col 1 2 ∷ col 1 3 ∷ col 1 4 ∷ col 1 6 ∷ []) (2 ∷ 3 ∷ 4 ∷ []) trees refl (Int number ∷ []) rows
-      (reads_as documents_shown (Int number ∷ []) old new our_schema ours.rests.schema _ documents_shown_is.0 documents_shown_is.2 documents_shown_is.1 rows shown).answer in
-      let all = found_all 5 (is 1 0 ∷ []) (col 1 2 ∷ col 1 3 ∷ col 1 4 ∷ col 1 6 ∷ []) (2 ∷ 3 ∷ 4 ∷ []) trees refl (Int number ∷ []) document_row document_in ours.tables.documents.written of_number
-      (all_of _ (documents_hit number trees) (map document_in (trees 5))) rows answer in
-      length_permutation _ rows all ∙ length-map (filter of_number (map document_in (trees 5))) list_shown
+      let answer = answered 5 (is 1 0 ∷ []) (col 1 2 ∷ []) [] trees refl (Int number ∷ []) rows
+      (reads_as kinds_shown (Int number ∷ []) old new our_schema ours.rests.schema _ kinds_shown_is.0 kinds_shown_is.2 kinds_shown_is.1 rows shown).answer in
+      let all = found_all 5 (is 1 0 ∷ []) (col 1 2 ∷ []) [] trees refl (Int number ∷ []) document_row document_in ours.tables.documents.written of_number
+      (all_of _ (kinds_hit number trees) (map document_in (trees 5))) rows answer in
+      length_permutation _ rows all ∙ length-map (filter of_number (map document_in (trees 5))) only_kind
       ∙ sym (len-entries (state_at (rows_of trees) number).documents ∙ ap length (entries_are trees number ours.tables) ∙ length-map (ordered trees number ours.tables) document_entry
       ∙ sym (length_permutation (ordered trees number ours.tables) (mine trees number ours.tables)
       (IsPermutation-sort_by by_document_key (document_order trees number ours.tables) (mine trees number ours.tables))))

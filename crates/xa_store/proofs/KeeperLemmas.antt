@@ -2,13 +2,17 @@
 use Rattle.std.proofs.Common.{◌≡◌, inl, inr, ℕ, Bool, false, List, Result, Ok, Err, IfOk, IsTrue, sym, subst}
 use Rattle.xa_store.proofs.Common.{Database, Held, state, HasCleanDisk, Ghosts, Trees, clean_if_open, ChangeError, Change, Changes, IfAnswered, Leaves, Kept, IsMade, IsSoundStore, LeavesWorld, Ours, SameNow, world_of}
 use Rattle.xa_records.specs.declared.refusal.ChangeError.TheVariants.{Failed, Refused}
+use Rattle.xa_records.specs.Keeper.{Changing}
 use Rattle.xa_store.specs.Keeper.{Keeper, IsKeeper, IsSound}
-use Rattle.xa_store.specs.KeeperChange.{IsChanging}
-use Rattle.xa_store.specs.KeeperReading.{kept_by}
+use Rattle.xa_store.specs.KeeperReading.{custody_by, kept_by}
 use Rattle.xa_store.specs.Health.{AnswersAs, TellsChange}
 use Rattle.xa_store.specs.Turns.{Turns}
 use Rattle.xa_store.proofs.KeeperReadingLemmas.{sound_store}
 use Rattle.xa_store.proofs.QuietLemmas.{ours_after}
+
+-- the trait's word of a change, where this is to be made of the domain of that name
+abbrev pub IsChanging : {S X : Type 0} → Ghosts S → Keeper S → Keeper S → Result X ChangeError → List ℕ → Change → Type 0
+IsChanging g old new r name change = Changing (custody_by g old) (custody_by g new) r name change
 
 -- what is told is the change's answer
 answered_ok : {X : Type 0} (P : X → Type 0) (before : Bool) (done told : Result X ChangeError) → AnswersAs before done told → IfOk done P → IfOk told P

@@ -1,12 +1,17 @@
 -- From what a query does to a connection to what a reading does to the keeper.
 use Rattle.std.proofs.Common.{◌≡◌, ℕ, Bool, false, Result, Ok, Err, IsTrue, IfOk, OnOk, sym, ap, subst, ◌∙◌}
 use Rattle.xa_store.proofs.Common.{Database, Held, state, State, HasCleanDisk, Ghosts, Trees, clean_if_open, Failure, Reads, Kept, AreOurs, IsSoundStore, Ours, SameNow, world_of}
+use Rattle.xa_records.specs.Keeper.{Reading}
 use Rattle.xa_store.specs.Keeper.{Keeper, IsKeeper}
-use Rattle.xa_store.specs.KeeperReading.{IsReading}
+use Rattle.xa_store.specs.KeeperReading.{custody_by, kept_by}
 use Rattle.xa_store.specs.Quiet.{Quiet}
 use Rattle.xa_store.specs.Health.{TellsReading}
 use Rattle.xa_store.proofs.QuietLemmas.{ours_after}
 use Rattle.xa_store.proofs.ReopenLemmas.{are_ours}
+
+-- the trait's word of a reading, where this is to be read of what is kept
+abbrev pub IsReading : {S X : Type 0} → Ghosts S → Keeper S → Keeper S → Result X Failure → (Kept → X) → Type 0
+IsReading g old new r there = Reading (custody_by g old) (custody_by g new) r (there (kept_by g old))
 
 -- an open store of our tables, of which a crash leaves the last commit
 pub sound_store : (s : State) → IsTrue s.is_open → Ours s → ((db : Trees) → s.may_leave db → db ≡ s.committed.trees) → IsSoundStore s

@@ -1,7 +1,7 @@
 -- The tables are checked one after another.
 use Rattle.std.proofs.Common.{◌≡◌, ℤ, Bool, true, false, ◌&&◌, cond, inl, inr, map, Option, Some, Result, Ok, Err, IsTrue, refl, sym, ap, subst, ◌∙◌, arith}
-use Rattle.xa_store.proofs.Common.{list_all, Database, IsDatabase, State, HasCleanDisk, Trees, IsSound, all_from_test, Kind, Domains, Tokens, Documents, Roots, SchemaVersion, Schema1, Schema2, OpenError, NotThisSchema, Damaged, Store, Memory, are_counted, are_rising, as_read, is_count, is_left_empty, is_sound, is_sound_table, checked, kinds_in, known_next, opened, place_in, read_meta, row_number, schema_of, sources_in, tree_of, RestsIn}
-use Rattle.xa_store.specs.Check.{has_kind, AreSources, Asks, Checked, FindsRest, GivesAs, GivesNext, CheckedBy, TellsSound, Orders, Walked, Walks}
+use Rattle.xa_store.proofs.Common.{list_all, Database, IsDatabase, State, HasCleanDisk, Trees, IsSound, all_from_test, CheckedTable, Domains, Tokens, Documents, Roots, SchemaVersion, Schema1, Schema2, OpenError, NotThisSchema, Damaged, Store, Memory, are_counted, are_rising, as_read, is_count, is_left_empty, is_sound, is_sound_table, checked, tables_in, known_next, opened, place_in, read_meta, row_number, schema_of, sources_in, tree_of, RestsIn}
+use Rattle.xa_store.specs.Check.{has_table, AreSources, Asks, Checked, FindsRest, GivesAs, GivesNext, CheckedBy, TellsSound, Orders, Walked, Walks}
 use Rattle.xa_store.specs.Opening.{IsFailure}
 use Rattle.xa_store.proofs.AreRowsLemmas.{first_sources_are, sources_are}
 use Rattle.xa_store.proofs.AskedLemmas.{as_failed, asks_then, rests_before, same_before}
@@ -58,7 +58,7 @@ module _ (p q : Trees → Bool) (a b : State) where
         (subst (λ (d : Database). TellsSound (q d.trees) r) same.now (second.finds clean (rests_before a b c x first.asks between rests)));
   }
 
-module _ (kind : Kind) (next : ℤ) (a b : State) where
+module _ (kind : CheckedTable) (next : ℤ) (a b : State) where
   pub table_checked : {version : SchemaVersion} (c : State) (x : Unit {0}) (r : Result (Unit {0}) OpenError) → Walked version kind next a b (Ok x) → Asks version b c r
       → (HasCleanDisk c → RestsIn (schema_of version) b → Orders kind b.now.trees r) → CheckedBy version (λ db. is_sound_table db next kind) a c r
   table_checked c x r first second finds = record {
@@ -86,14 +86,14 @@ in_pairs true true true true false = refl
 in_pairs true true true true true = refl
 
 -- each schema has the table of its rows of sources
-pub has_sources : (version : SchemaVersion) → has_kind (sources_in version) version ≡ true
+pub has_sources : (version : SchemaVersion) → has_table (sources_in version) version ≡ true
 has_sources Schema1 = refl
 has_sources Schema2 = refl
 
 module _ (next : ℤ) (old new : State) (r : Result (Unit {0}) OpenError) where
   pub all_tables : {version : SchemaVersion} → CheckedBy version
       (λ db. ((is_sound_table db next Domains && is_sound_table db next Tokens) && (is_sound_table db next Documents && is_sound_table db next Roots)) && is_sound_table db next (sources_in version)) old new r
-      → CheckedBy version (λ db. list_all (is_sound_table db next) (kinds_in version)) old new r
+      → CheckedBy version (λ db. list_all (is_sound_table db next) (tables_in version)) old new r
   all_tables {version} h = record {
     asks = h.asks;
     finds = λ clean rests.
@@ -105,8 +105,8 @@ are_sources : (version : SchemaVersion) (db : Trees) (next : ℤ) → IsSound (s
 are_sources Schema1 = first_sources_are
 are_sources Schema2 = sources_are
 
-sources_sound : (version : SchemaVersion) (db : Trees) (next : ℤ) → list_all (is_sound_table db next) (kinds_in version) ≡ true → is_sound_table db next (sources_in version) ≡ true
-sources_sound version db next h = (all_from_test (is_sound_table db next) (kinds_in version) h).1.1.1.1.0
+sources_sound : (version : SchemaVersion) (db : Trees) (next : ℤ) → list_all (is_sound_table db next) (tables_in version) ≡ true → is_sound_table db next (sources_in version) ≡ true
+sources_sound version db next h = (all_from_test (is_sound_table db next) (tables_in version) h).1.1.1.1.0
 
 module _ {version : SchemaVersion} (a b c : State) (x : Unit {0}) (r : Result (Unit {0}) OpenError) where
   -- the places, and then that no row of a source stands elsewhere
@@ -119,7 +119,7 @@ module _ {version : SchemaVersion} (a b c : State) (x : Unit {0}) (r : Result (U
       (subst (λ (d : Database). TellsSound (is_left_empty version d.trees) r) same.now (second.finds clean (rests_before a b c x first between rests)))
 
   pub places_checked : (next : ℤ) → is_count next ≡ true → Asks version a b (Ok x) → Asks version b c r
-      → (HasCleanDisk b → RestsIn (schema_of version) a → list_all (is_sound_table a.now.trees next) (kinds_in version) ≡ true)
+      → (HasCleanDisk b → RestsIn (schema_of version) a → list_all (is_sound_table a.now.trees next) (tables_in version) ≡ true)
       → FindsRest version b c r → HasCleanDisk c → RestsIn (schema_of version) a → IsDatabase a.now → TellsSound (is_sound version a.now.trees next) r
   places_checked next counts first second tables rest clean rests live =
       let between : HasCleanDisk b = omega (arith, second.survives.clean) in

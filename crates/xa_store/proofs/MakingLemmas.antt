@@ -1,6 +1,6 @@
 -- What the statements make by which the tables are made.
 use Rattle.std.proofs.Common.{◌≡◌, ℕ, pos, true, false, MatchBool, List, [], ◌∷◌, ◌++◌, map, Ok, Err, Result, OnOk, refl, sym, ap, subst, ◌∙◌}
-use Rattle.xa_store.proofs.Common.{AllByRecursion, Database, IsDatabase, understood, Gives, Chosen, Schema, State, Executes, mode_of, Table, Trees, CreateTable, Null, Int, statement_of, runs_as, cast_row, with_rowid, all-append, Kind, Domains, Tokens, Documents, Roots, Attributes, Sources, tree_of, meta_row, first_schema, our_schema, meta, domains, tokens, policies, roots, attributes, sources}
+use Rattle.xa_store.proofs.Common.{AllByRecursion, Database, IsDatabase, understood, Gives, Chosen, Schema, State, Executes, mode_of, Table, Trees, CreateTable, Null, Int, statement_of, runs_as, cast_row, with_rowid, all-append, CheckedTable, Domains, Tokens, Documents, Roots, Attributes, Sources, tree_of, meta_row, first_schema, our_schema, meta, domains, tokens, policies, roots, attributes, sources}
 use Rattle.sqlite.specs.Change.{created, next_tree}
 use Rattle.sqlite.specs.Does.{Tally, Does, MakesSequence, MakesTable, lacks_sequence, sequence_text}
 use Rattle.sqlite_catalog.specs.Change.{KeepsRows}
@@ -65,7 +65,7 @@ module _ (schema : Schema) (sql : List ℕ) (table : Table) (is : IsMaking schem
   grown later is_later bare = record { schema = came.schema_is ∙ is_later; empty = bare_after bare }
 
 -- where the tree of meta was written, no other table has a row yet
-still : (old new : Trees) → ((t : ℕ) → is_other 0 t ≡ true → new t ≡ old t) → AllByRecursion (λ t. old t ≡ []) (0 ∷ 1 ∷ 3 ∷ 5 ∷ 7 ∷ 8 ∷ 10 ∷ []) → (kind : Kind) → new (tree_of kind) ≡ []
+still : (old new : Trees) → ((t : ℕ) → is_other 0 t ≡ true → new t ≡ old t) → AllByRecursion (λ t. old t ≡ []) (0 ∷ 1 ∷ 3 ∷ 5 ∷ 7 ∷ 8 ∷ 10 ∷ []) → (kind : CheckedTable) → new (tree_of kind) ≡ []
 still old new stays empty Domains = stays 1 refl ∙ empty.1.0
 still old new stays empty Tokens = stays 3 refl ∙ empty.1.1.0
 still old new stays empty Documents = stays 5 refl ∙ empty.1.1.1.0

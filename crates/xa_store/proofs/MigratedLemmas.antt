@@ -1,6 +1,6 @@
 -- Tables that were brought into schema 2 are sound, and mean what those of schema 1 meant.
 use Rattle.std.proofs.Common.{◌≡◌, ℕ, ◌+◌, ◌<◌, ℤ, pos, true, ◌&&◌, cond, List, [], ◌∷◌, map, filter, int_cmp, int_eq, int_lt, Ok, Err, refl, sym, ap, subst, ◌∙◌, arith}
-use Rattle.xa_store.proofs.Common.{from_entries, list_all, on, ints, Database, Row, Trees, IsSound, sort_by, filter-map, map-map, map_same, first_of_both, second_of_both, sort_by-map, SourceRow, Damaged, Kind, Domains, Tokens, Documents, Roots, Attributes, Sources, Schema1, Schema2, are_counted, are_rising, are_sound_rows, as_read, is_count, is_empty, is_left_empty, is_sound, is_sound_row, is_sound_table, is_whole_row, checked, kinds_in, known_next, opened, place_in, read_meta, row_number, AttributeRow, DomainRow, attribute_in, document_in, domain_in, meta_row, nat_of, next_in, root_in, token_in, unissued_in, attributes_at, documents_at, domain_entry, first_rows_of, first_world_of, library_of, roles_of, root_at, rows_of, source_of, state_at, tokens_at, world_of}
+use Rattle.xa_store.proofs.Common.{from_entries, list_all, on, ints, Database, Row, Trees, IsSound, sort_by, filter-map, map-map, map_same, first_of_both, second_of_both, sort_by-map, SourceRow, Damaged, CheckedTable, Domains, Tokens, Documents, Roots, Attributes, Sources, Schema1, Schema2, are_counted, are_rising, are_sound_rows, as_read, is_count, is_empty, is_left_empty, is_sound, is_sound_row, is_sound_table, is_whole_row, checked, tables_in, known_next, opened, place_in, read_meta, row_number, AttributeRow, DomainRow, attribute_in, document_in, domain_in, meta_row, nat_of, next_in, root_in, token_in, unissued_in, attributes_at, documents_at, domain_entry, first_rows_of, first_world_of, library_of, roles_of, root_at, rows_of, source_of, state_at, tokens_at, world_of}
 use Rattle.xa_store.specs.Migration.{IsDone, IsSoundFirst, moved_row, moved_rows}
 use Rattle.xa_store.specs.Opening.{IsMigrated}
 use Rattle.xa_store.proofs.MigratingLemmas.{its_meta}
@@ -74,7 +74,7 @@ module _ (first : Trees) (sound : IsSoundFirst first) (d : Database) (done : IsD
   meta = done.meta ∙ ap (λ n. meta_row n ∷ []) (ap next_in (its_meta first sound))
 
   -- tables that no stage touches
-  as_before : (rows was : List Row) (kind : Kind) → rows ≡ was → are_sound_rows kind next (map (as_read kind) was) ≡ true → are_sound_rows kind next (map (as_read kind) rows) ≡ true
+  as_before : (rows was : List Row) (kind : CheckedTable) → rows ≡ was → are_sound_rows kind next (map (as_read kind) was) ≡ true → are_sound_rows kind next (map (as_read kind) rows) ≡ true
   as_before rows was kind at h = ap (λ rows. are_sound_rows kind next (map (as_read kind) rows)) at ∙ h
 
   sources_sound : is_sound_table db next Sources ≡ true
@@ -83,7 +83,7 @@ module _ (first : Trees) (sound : IsSoundFirst first) (d : Database) (done : IsD
       as_before (db 10) (moved_rows 1 (first 8)) Sources done.sources
       (both_true _ _ (rows_whole next 1 (first 8) (first_of_both _ _ were)) (ap are_rising (numbers_read Sources (moved_rows 1 (first 8))) ∙ rows_rise 1 (first 8)))
 
-  all_sound : list_all (is_sound_table db next) (kinds_in Schema2) ≡ true
+  all_sound : list_all (is_sound_table db next) (tables_in Schema2) ≡ true
   all_sound =
       let all = in_kind Schema1 first next was_sound in
       both_true _ _ (as_before (db 1) (first 1) Domains done.others.0 all.0)
@@ -96,8 +96,8 @@ module _ (first : Trees) (sound : IsSoundFirst first) (d : Database) (done : IsD
 
   is_sound_now : is_sound Schema2 db next ≡ true
   is_sound_now =
-      both_true (is_count next && list_all (is_sound_table db next) (kinds_in Schema2)) (are_counted (map place_in (db 10)) && is_left_empty Schema2 db)
-      (both_true (is_count next) (list_all (is_sound_table db next) (kinds_in Schema2)) (next_counts Schema1 first next was_sound) all_sound)
+      both_true (is_count next && list_all (is_sound_table db next) (tables_in Schema2)) (are_counted (map place_in (db 10)) && is_left_empty Schema2 db)
+      (both_true (is_count next) (list_all (is_sound_table db next) (tables_in Schema2)) (next_counts Schema1 first next was_sound) all_sound)
       (both_true (are_counted (map place_in (db 10))) (is_left_empty Schema2 db) counted (ap is_empty done.attributes))
 
   opens : opened Schema2 db ≡ Ok tt

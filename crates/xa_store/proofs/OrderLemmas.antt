@@ -1,6 +1,6 @@
 -- What the query tells that compares the rowids of a table with the same in their order.
 use Rattle.std.proofs.Common.{◌≡◌, inl, inr, ℕ, suc, ℤ, Bool, true, false, not, cond, ◌==◌, if◌then◌else◌, List, [], ◌∷◌, ◌++◌, map, fold, flat_map, length, is_eq, Some, None, unwrap_or, Ok, refl, sym, ap, ap₂, subst, ◌∙◌, append-nil, append_assoc, true≢false, arith, SFits, w64, IsPermutation, Ordering, Less, Equal, Greater}
-use Rattle.xa_store.proofs.Common.{nat_cmp-IsAntisymmetric, slice_cmp-IsAntisymmetric, AllByRecursion, list_all, ordering_reverse, nat_tests, tied_itself, length-map, nil_from_length, All-permutation, IsPermutation-map, IsPermutation-sym, IsPermutation-trans, length_permutation, Collation, Binary, Row, column, overlay, Output, Query, output, output_cmp, State, Shown, Term, Env, lit, col, op1, op2, holds, eval, Trees, Value, Null, Int, Text, reads_as, all_map, all_weaker, ascending-map, map-map, map_same, first_of_both, sorted_unique, output_cmp_total, from_truth, not3, truth, IsSureAnswer, matches_as, Is, last_term, value_cmp-Text, value_cmp-Null, value_cmp_total, Kind, Domains, Tokens, Documents, Roots, Attributes, Sources, SchemaVersion, are_rising, as_read, is_number, is_whole_row, row_number, schema_of, tree_of, RestsIn}
+use Rattle.xa_store.proofs.Common.{nat_cmp-IsAntisymmetric, slice_cmp-IsAntisymmetric, AllByRecursion, list_all, ordering_reverse, nat_tests, tied_itself, length-map, nil_from_length, All-permutation, IsPermutation-map, IsPermutation-sym, IsPermutation-trans, length_permutation, Collation, Binary, Row, column, overlay, Output, Query, output, output_cmp, State, Shown, Term, Env, lit, col, op1, op2, holds, eval, Trees, Value, Null, Int, Text, reads_as, all_map, all_weaker, ascending-map, map-map, map_same, first_of_both, sorted_unique, output_cmp_total, from_truth, not3, truth, IsSureAnswer, matches_as, Is, last_term, value_cmp-Text, value_cmp-Null, value_cmp_total, CheckedTable, Domains, Tokens, Documents, Roots, Attributes, Sources, SchemaVersion, are_rising, as_read, is_number, is_whole_row, row_number, schema_of, tree_of, RestsIn}
 use Rattle.std.specs.Fmt.{signed_decimal}
 use Rattle.std.specs.List.Sorted.{IsSorted}
 use Rattle.std.proofs.lemmas.List.Elements.{recursion_from_All, All-from_recursion}
@@ -12,7 +12,7 @@ use Rattle.sqlite_sql.specs.Text.{joined, text_in}
 use Rattle.sqlite_sql.specs.declared.aggregate.AggregateOp.TheVariants.{Concat}
 use Rattle.sqlite_sql.specs.declared.ops.UnaryOp.TheVariants.{Not}
 use Rattle.sqlite_value.specs.Order.{value_cmp}
-use Rattle.xa_store.specs.Check.{has_kind, order_text_of, HasNumbers, Walks}
+use Rattle.xa_store.specs.Check.{has_table, order_text_of, HasNumbers, Walks}
 use Rattle.xa_store.proofs.NumberTexts.{AreShort, later_text, same_numbers}
 use Rattle.xa_store.proofs.ReadLemmas.{bare, checked_sound, checked_up, head_read, int_back, numbers_read, rising, walked_numbers}
 use Rattle.xa_store.proofs.RisingTexts.{by_rowid, order_is, rising_query, sorted_query, sorted_tree, text_over}
@@ -154,7 +154,7 @@ module _ (t : ℕ) (db : Trees) (rows : List Row) (beside : overlay db (rows ∷
   some_shown : (shown : List Row) → IsSureAnswer (rising_query t) both [] shown → passes kept_text sorted_text ≡ false → shown ≡ []
   some_shown shown h is = nil_from_length shown (counted shown h ∙ ap (λ b. length (cond b (env ∷ []) [])) is)
 
-beside_of : (kind : Kind) (db : Trees) (rows : List Row) → overlay db (rows ∷ []) (tree_of kind) ≡ db (tree_of kind)
+beside_of : (kind : CheckedTable) (db : Trees) (rows : List Row) → overlay db (rows ∷ []) (tree_of kind) ≡ db (tree_of kind)
 beside_of Domains db rows = refl
 beside_of Tokens db rows = refl
 beside_of Documents db rows = refl
@@ -166,7 +166,7 @@ not_false : (b : Bool) → not b ≡ false → b ≡ true
 not_false true h = refl
 not_false false h = absurd (true≢false h)
 
-module _ (kind : Kind) (version : SchemaVersion) (has : has_kind kind version ≡ true) (old new : State) (rests : RestsIn (schema_of version) old) (shown : List Row)
+module _ (kind : CheckedTable) (version : SchemaVersion) (has : has_table kind version ≡ true) (old new : State) (rests : RestsIn (schema_of version) old) (shown : List Row)
     (told : Shown (order_text_of kind) [] old new shown) (next : ℤ) (walked : Walks kind next old.now.trees (Ok tt)) where
   abbrev t : ℕ
   t = tree_of kind

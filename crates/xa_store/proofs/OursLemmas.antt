@@ -1,6 +1,6 @@
 -- Tables that opening finds sound are those of a keeper, and tables as they are made are sound.
 use Rattle.std.proofs.Common.{◌≡◌, ℕ, ℤ, pos, Bool, true, false, ◌&&◌, cond, List, [], ◌∷◌, map, Option, Some, None, Result, Ok, Err, refl, sym, ap, subst, ◌∙◌, true≢false}
-use Rattle.xa_store.proofs.Common.{from_entries, AllByRecursion, list_all, IsDatabase, Row, column, State, Trees, IsSound, all_from_test, all_map, all_weaker, map-map, first_of_both, second_of_both, Datatype, int_of, is_domain_name, IsDocumentOf, nothing_kept, OpenError, Damaged, Kind, Domains, Tokens, Documents, Roots, Sources, SchemaVersion, Schema2, are_counted, as_read, count_from, holds_int, is_assigned, is_count, is_digest, is_empty, is_left_empty, is_sound, is_sound_table, is_whole_row, checked, kinds_in, known_next, opened, place_in, places_of, read_meta, sources_in, tree_of, attribute_in, document_in, domain_in, meta_row, nat_of, next_in, root_in, token_in, AreDocuments, AreNumbered, AreTables, AreWhole, Ours, Rests, place_of, our_schema, domain_entry, rows_of, world_of}
+use Rattle.xa_store.proofs.Common.{from_entries, AllByRecursion, list_all, IsDatabase, Row, column, State, Trees, IsSound, all_from_test, all_map, all_weaker, map-map, first_of_both, second_of_both, Datatype, int_of, is_domain_name, IsDocumentOf, nothing_kept, OpenError, Damaged, CheckedTable, Domains, Tokens, Documents, Roots, Sources, SchemaVersion, Schema2, are_counted, as_read, count_from, holds_int, is_assigned, is_count, is_digest, is_empty, is_left_empty, is_sound, is_sound_table, is_whole_row, checked, tables_in, known_next, opened, place_in, places_of, read_meta, sources_in, tree_of, attribute_in, document_in, domain_in, meta_row, nat_of, next_in, root_in, token_in, AreDocuments, AreNumbered, AreTables, AreWhole, Ours, Rests, place_of, our_schema, domain_entry, rows_of, world_of}
 use Rattle.xa_store.specs.Opening.{AreNewTables}
 use Rattle.xa_store.proofs.AreRowsLemmas.{domains_are, sources_are, tokens_are, whole}
 use Rattle.xa_store.proofs.ColumnLemmas.{root_texts, source_texts}
@@ -31,7 +31,7 @@ module _ (version : SchemaVersion) where
 
   -- each of its tests
   module _ (db : Trees) (next : ℤ) (sound : is_sound version db next ≡ true) where
-    its_two : (is_count next && list_all (is_sound_table db next) (kinds_in version)) ≡ true
+    its_two : (is_count next && list_all (is_sound_table db next) (tables_in version)) ≡ true
     its_two = first_of_both _ _ sound
 
     other_two : (are_counted (map place_in (db (tree_of (sources_in version)))) && is_left_empty version db) ≡ true
@@ -40,8 +40,8 @@ module _ (version : SchemaVersion) where
     pub next_counts : is_count next ≡ true
     next_counts = first_of_both (is_count next) _ its_two
 
-    pub in_kind : AllByRecursion (λ kind. is_sound_table db next kind ≡ true) (kinds_in version)
-    in_kind = all_from_test (is_sound_table db next) (kinds_in version) (second_of_both (is_count next) _ its_two)
+    pub in_kind : AllByRecursion (λ kind. is_sound_table db next kind ≡ true) (tables_in version)
+    in_kind = all_from_test (is_sound_table db next) (tables_in version) (second_of_both (is_count next) _ its_two)
 
     pub places_counted : are_counted (map place_in (db (tree_of (sources_in version)))) ≡ true
     places_counted = first_of_both _ _ other_two
@@ -56,10 +56,10 @@ empty_from (row ∷ rows) h = absurd (true≢false (sym h))
 -- ---- of each table
 
 module _ (db : Trees) (next : ℤ) (live : IsSound our_schema db) (known : known_next Schema2 (map read_meta (db 0)) ≡ Some next) (sound : is_sound Schema2 db next ≡ true) where
-  abbrev test : Kind → Bool
+  abbrev test : CheckedTable → Bool
   test = is_sound_table db next
 
-  all : AllByRecursion (λ kind. test kind ≡ true) (kinds_in Schema2)
+  all : AllByRecursion (λ kind. test kind ≡ true) (tables_in Schema2)
   all = in_kind Schema2 db next sound
 
   meta : db 0 ≡ meta_row next ∷ []
@@ -85,13 +85,13 @@ module _ (db : Trees) (next : ℤ) (live : IsSound our_schema db) (known : known
   number_assigned : (row : Row) (at : ℕ) → holds_int (is_assigned next) (column row at) ≡ true → is_assigned next (int_of (column row at)) ≡ true
   number_assigned row at h = (int_held (is_assigned next) (column row at) h).1
 
-  abbrev IsWhole : Kind → Row → Type 0
+  abbrev IsWhole : CheckedTable → Row → Type 0
   IsWhole kind row = is_whole_row kind next (as_read kind row) ≡ true
 
   document_assigned : (row : Row) → IsWhole Documents row → is_assigned next (document_in row).number ≡ true
   document_assigned row h = number_assigned row 1 (first_of_both _ _ (first_of_both _ _ (second_of_both _ _ h)))
 
-  module _ {X : Type 0} (kind : Kind) (here : test kind ≡ true) (reads : Row → X) (Is : X → Type 0) (of : (row : Row) → IsWhole kind row → Is (reads row)) where
+  module _ {X : Type 0} (kind : CheckedTable) (here : test kind ≡ true) (reads : Row → X) (Is : X → Type 0) (of : (row : Row) → IsWhole kind row → Is (reads row)) where
     each : AllByRecursion Is (map reads (db (tree_of kind)))
     each = all_map Is reads (db (tree_of kind)) (all_weaker (IsWhole kind) (λ row. Is (reads row)) of (db (tree_of kind)) (whole kind next db here))
 

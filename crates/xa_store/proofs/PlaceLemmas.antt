@@ -1,9 +1,9 @@
 -- What the query for the places of the rows of sources tells, and the query of the first table.
 use Rattle.std.proofs.Common.{◌≡◌, ℕ, Bool, true, false, ◌&&◌, List, [], ◌∷◌, map, filter, length, Ordering, is_eq, int_cmp, refl, sym, ap, subst, ◌∙◌, arith, IsPermutation}
 use Rattle.xa_store.proofs.Common.{nil_from_length, length_permutation, IsPermutation-map, IsPlain, understood, Row, Output, State, Shown, col, Trees, Int, reads_as, one_permutation, sort_by, all_of, ascending-map, ascending_weaker, filter_all, map-map, sort_by-map, IsAscending, then_key, last_key, value_cmp-Int, SchemaVersion, Schema1, Schema2, Place, are_counted, is_empty, is_left_empty, known_next, place_in, read_meta, schema_of, sources_in, tree_of, AttributeRow, attribute_in, attribute_row, AreRows, Rests, RestsIn, same_place, our_schema}
-use Rattle.xa_store.specs.Check.{count_on, counts, counts_on, no_place, place_cmp, places_text_of}
+use Rattle.xa_store.specs.Check.{counts, counts_on, no_place, places_text_of}
 use Rattle.xa_store.specs.Texts.{meta_shown}
-use Rattle.xa_store.proofs.CountedLemmas.{walk_counts}
+use Rattle.xa_store.proofs.CountedLemmas.{count_on, place_cmp, walk_counts}
 use Rattle.xa_store.proofs.FoundLemmas.{found_sorted}
 use Rattle.xa_store.proofs.HitLemmas.{eq_then}
 use Rattle.xa_store.proofs.CheckedTexts.{left_is, meta_read_is, places_is}

@@ -1,8 +1,8 @@
 -- The rows of a table in the order of their numbers.
 use Rattle.std.proofs.Common.{◌≡◌, ℤ, Bool, true, false, List, [], ◌∷◌, map, filter, int_lt, Less, Option, Some, None, Result, Ok, Err, refl, sym, ap, ap₂, subst, subst₂, ◌∙◌, true≢false, IsPermutation}
-use Rattle.xa_store.proofs.Common.{AllByRecursion, list_all, All-permutation, IsPermutation-map, IsPermutation-sym, Row, column, overlay, Output, Query, output_cmp, State, Shown, Term, col, eval, Trees, Value, Null, Int, Real, Text, Blob, reads_as, Less-from_lt, all_of, all_weaker, all_both, all_from_test, all_unmap, all_map, test_from_all, filter_all, map-map, map_same, ascending-map, first_of_both, second_of_both, sorted_unique, output_cmp_total, IsAscending, int_of, last_key, value_cmp-Int, Kind, Domains, Tokens, Documents, Roots, Attributes, Sources, SchemaVersion, OpenError, NotThisSchema, Damaged, Store, Memory, are_rising, as_read, is_number, is_sound_table, is_whole_row, read_columns, row_number, schema_of, tree_of, RestsIn}
+use Rattle.xa_store.proofs.Common.{AllByRecursion, list_all, All-permutation, IsPermutation-map, IsPermutation-sym, Row, column, overlay, Output, Query, output_cmp, State, Shown, Term, col, eval, Trees, Value, Null, Int, Real, Text, Blob, reads_as, Less-from_lt, all_of, all_weaker, all_both, all_from_test, all_unmap, all_map, test_from_all, filter_all, map-map, map_same, ascending-map, first_of_both, second_of_both, sorted_unique, output_cmp_total, IsAscending, int_of, last_key, value_cmp-Int, CheckedTable, Domains, Tokens, Documents, Roots, Attributes, Sources, SchemaVersion, OpenError, NotThisSchema, Damaged, Store, Memory, are_rising, as_read, is_number, is_sound_table, is_whole_row, read_columns, row_number, schema_of, tree_of, RestsIn}
 use Rattle.std.proofs.lemmas.List.Elements.{recursion_from_All, All-from_recursion}
-use Rattle.xa_store.specs.Check.{has_kind, text_of, HasNumbers, IsRead, TellsSound, Walks, checks, comes_after, fits}
+use Rattle.xa_store.specs.Check.{has_table, text_of, HasNumbers, IsRead, TellsSound, Walks, checks, comes_after, fits}
 use Rattle.xa_store.proofs.CheckedTexts.{checked_is}
 use Rattle.xa_store.proofs.RiseLemmas.{lt_trans, lt_from, both_true, second_false}
 use Rattle.xa_store.proofs.SqlLemmas.{Answered, answered, show, out, hits}
@@ -15,7 +15,7 @@ int_back (Real x) h = absurd (true≢false (sym h))
 int_back (Text t) h = absurd (true≢false (sym h))
 int_back (Blob b) h = absurd (true≢false (sym h))
 
-pub bare : (kind : Kind) (db : Trees) → overlay db [] (tree_of kind) ≡ db (tree_of kind)
+pub bare : (kind : CheckedTable) (db : Trees) → overlay db [] (tree_of kind) ≡ db (tree_of kind)
 bare Domains db = refl
 bare Tokens db = refl
 bare Documents db = refl
@@ -23,7 +23,7 @@ bare Roots db = refl
 bare Attributes db = refl
 bare Sources db = refl
 
-pub head_read : (kind : Kind) (r : Row) → column (as_read kind r) 0 ≡ column r 0
+pub head_read : (kind : CheckedTable) (r : Row) → column (as_read kind r) 0 ≡ column r 0
 head_read Domains r = refl
 head_read Tokens r = refl
 head_read Documents r = refl
@@ -31,10 +31,10 @@ head_read Roots r = refl
 head_read Attributes r = refl
 head_read Sources r = refl
 
-pub numbers_read : (kind : Kind) (rows : List Row) → map row_number (map (as_read kind) rows) ≡ map row_number rows
+pub numbers_read : (kind : CheckedTable) (rows : List Row) → map row_number (map (as_read kind) rows) ≡ map row_number rows
 numbers_read kind rows = map-map row_number (as_read kind) rows ∙ map_same (λ r. row_number (as_read kind r)) row_number (λ r. ap int_of (head_read kind r)) rows
 
-module _ (kind : Kind) (db : Trees) where
+module _ (kind : CheckedTable) (db : Trees) where
   abbrev shown_columns : List Term
   shown_columns = map (λ at. col 1 at) (read_columns kind)
 
@@ -77,7 +77,7 @@ module _ (kind : Kind) (db : Trees) where
             h.3 ∙ ap (map (λ (o : Output). o.1)) (sorted_unique (output_cmp query) (output_cmp_total query) (map outs (db (tree_of kind))) h.0 strict same h.2) ∙ shown_map (db (tree_of kind));
       }
 
-pub shown_read : (kind : Kind) (version : SchemaVersion) → has_kind kind version ≡ true → (old new : State) → RestsIn (schema_of version) old → (rows : List Row) → Shown (text_of kind) [] old new rows
+pub shown_read : (kind : CheckedTable) (version : SchemaVersion) → has_table kind version ≡ true → (old new : State) → RestsIn (schema_of version) old → (rows : List Row) → Shown (text_of kind) [] old new rows
     → IsRead kind old.now.trees rows
 shown_read kind version has old new rests rows shown =
     let it = checked_is kind version has in
@@ -87,7 +87,7 @@ shown_read kind version has old new rests rows shown =
 
 -- ---- what the checks say
 
-module _ (kind : Kind) (next : ℤ) where
+module _ (kind : CheckedTable) (next : ℤ) where
   pub checks_true : (last : Option ℤ) (rows : List Row) → AllByRecursion (λ r. is_whole_row kind next r ≡ true) rows → are_rising (map row_number rows) ≡ true
       → AllByRecursion (λ r. comes_after last (row_number r) ≡ true) rows → checks kind next last rows ≡ true
   checks_true last [] sound up after = refl

@@ -34,12 +34,12 @@ module _ (rows : Rows) (name : List ℕ) where
     pub state_is : state_of name (kept_of rows) ≡ Some (state_at rows found.number)
     state_is = ap (option_map (λ (domain : Domain). domain.state)) (kept_one rows name is.row is.only) ∙ ap (λ n. Some (state_at rows n)) (sym is.number)
 
-    pub gate_is : (tokens : List Token) → tokens ≡ map token_of (entries (state_at rows found.number).tokens) → (gate : Option Gate) → TellsGate found tokens gate → gate ≡ gate_of name (kept_of rows)
+    pub gate_is : (tokens : List Token) → tokens ≡ map token_of (entries (state_at rows found.number).tokens) → (gate : Gate) → TellsGate found tokens gate → Some gate ≡ gate_of name (kept_of rows)
     gate_is tokens told gate tells =
         let number : nat_of is.row.number ≡ tells.0 = ap nat_of (sym is.number ∙ tells.2) in
         let epoch : nat_of is.row.epoch ≡ tells.1 = ap nat_of (sym is.epoch ∙ tells.3) in
         let same : map token_of (entries (state_at rows is.row.number).tokens) ≡ tokens = ap (λ n. map token_of (entries (state_at rows n).tokens)) (sym is.number) ∙ sym told in
-        tells.4
+        ap Some tells.4
         ∙ sym (ap (option_map gate_of_domain) (kept_one rows name is.row is.only) ∙ (λ i. let gate : Gate = record { number = number i; epoch = epoch i; tokens = same i } in Some gate))
 
     pub text_there : (key : DocumentKey) (text : Option (List ℕ)) → text ≡ text_in key (state_at rows found.number) → text ≡ text_of name key (kept_of rows)

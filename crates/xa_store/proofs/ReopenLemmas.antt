@@ -1,6 +1,6 @@
 -- A keeper's own tables are such as opening finds sound.
 use Rattle.std.proofs.Common.{◌≡◌, ℕ, ℤ, ◌<ℤ◌, Bool, true, false, ◌&&◌, cond, bytes_eq, List, [], ◌∷◌, map, int_eq, int_lt, Option, Ok, Err, refl, sym, ap, subst, ◌∙◌, arith}
-use Rattle.xa_store.proofs.Common.{AllByRecursion, list_all, ints, is_eq-slice_cmp, Row, column, State, Trees, Int, Text, all_both, all_map, all_weaker, ascending-map, map-map, map_same, test_from_all, IsAscending, bytes_eq_refl, DocumentKey, version_text, Parsed, document_of, is_domain_name, IsDocumentOf, Damaged, Kind, Domains, Tokens, Documents, Roots, Sources, Schema2, are_counted, are_rising, as_read, holds_key, holds_text_if_any, holds_value, is_assigned, is_bit, is_count, is_digest, is_empty, is_left_empty, is_pattern, is_sound, is_sound_table, is_version, is_whole_row, checked, kinds_in, known_next, opened, place_in, read_meta, row_number, tree_of, is_utf8, AttributeRow, DocumentRow, DomainRow, RootRow, TokenRow, attribute_in, attribute_row, bit, document_in, document_row, domain_in, domain_row, issuer_columns, kind_number, next_in, role_number, root_in, root_row, token_in, token_row, type_number, value_text, AreDocuments, AreOurs, AreRows, AreTables, AreWhole, Ours, is_if_any, place_of, rows_of}
+use Rattle.xa_store.proofs.Common.{AllByRecursion, list_all, ints, is_eq-slice_cmp, Row, column, State, Trees, Int, Text, all_both, all_map, all_weaker, ascending-map, map-map, map_same, test_from_all, IsAscending, bytes_eq_refl, DocumentKey, version_text, Parsed, document_of, is_domain_name, IsDocumentOf, Damaged, CheckedTable, Domains, Tokens, Documents, Roots, Sources, Schema2, are_counted, are_rising, as_read, holds_key, holds_text_if_any, holds_value, is_assigned, is_bit, is_count, is_digest, is_empty, is_left_empty, is_pattern, is_sound, is_sound_table, is_version, is_whole_row, checked, tables_in, known_next, opened, place_in, read_meta, row_number, tree_of, is_utf8, AttributeRow, DocumentRow, DomainRow, RootRow, TokenRow, attribute_in, attribute_row, bit, document_in, document_row, domain_in, domain_row, issuer_columns, kind_number, next_in, role_number, root_in, root_row, token_in, token_row, type_number, value_text, AreDocuments, AreOurs, AreRows, AreTables, AreWhole, Ours, is_if_any, place_of, rows_of}
 use Rattle.xa_store.proofs.ColumnLemmas.{held_if_any, text_written}
 use Rattle.xa_store.proofs.ColumnNumbers.{of_activity, of_kind, of_role}
 use Rattle.xa_store.proofs.CountedLemmas.{each_counted}
@@ -11,7 +11,7 @@ use Rattle.xa_store.proofs.WholeLemmas.{IsWholeAttribute, IsWholeDocument, IsWho
 
 -- ---- one row as it is written
 
-abbrev Whole : {X : Type 0} → Kind → ℤ → (X → Row) → X → Type 0
+abbrev Whole : {X : Type 0} → CheckedTable → ℤ → (X → Row) → X → Type 0
 Whole kind next write x = is_whole_row kind next (as_read kind (write x)) ≡ true
 
 domain_opens : (next : ℤ) (d : DomainRow) → IsWholeDomain next d → Whole Domains next domain_row d
@@ -63,7 +63,7 @@ rising_from [] up = refl
 rising_from (n ∷ ns) up =
     both_true (list_all (int_lt n) ns) (are_rising ns) (test_from_all (int_lt n) ns (all_weaker (λ m. n <ℤ m) (λ m. int_lt n m ≡ true) (λ m h. lt_test n m h) ns up.0)) (rising_from ns up.1)
 
-module _ (db : Trees) (next : ℤ) (kind : Kind) {X : Type 0} (write : X → Row) (reads : Row → X) (rowid_of : X → ℤ) (same : X → X → Bool) (numbered : (r : Row) → rowid_of (reads r) ≡ row_number r)
+module _ (db : Trees) (next : ℤ) (kind : CheckedTable) {X : Type 0} (write : X → Row) (reads : Row → X) (rowid_of : X → ℤ) (same : X → X → Bool) (numbered : (r : Row) → rowid_of (reads r) ≡ row_number r)
     (are : AreRows write reads rowid_of same (db (tree_of kind))) (whole : AllByRecursion (Whole kind next write) (map reads (db (tree_of kind)))) where
   abbrev rows : List Row
   rows = db (tree_of kind)
@@ -112,16 +112,16 @@ module _ (db : Trees) (tables : AreTables db) (documents : AreDocuments (rows_of
       table_opens db next Sources attribute_row attribute_in (λ (a : AttributeRow). a.rowid) _ (λ r. refl) tables.attributes
       (all_weaker (IsWholeAttribute next) (Whole Sources next attribute_row) (λ a h. attribute_opens next a h) (map attribute_in (db 10)) whole.attributes)
 
-  all_tables : list_all (is_sound_table db next) (kinds_in Schema2) ≡ true
-  all_tables = test_from_all (is_sound_table db next) (kinds_in Schema2) (in_domains, (in_tokens, (in_documents, (in_roots, (in_sources, tt)))))
+  all_tables : list_all (is_sound_table db next) (tables_in Schema2) ≡ true
+  all_tables = test_from_all (is_sound_table db next) (tables_in Schema2) (in_domains, (in_tokens, (in_documents, (in_roots, (in_sources, tt)))))
 
   counted : are_counted (map place_in (db 10)) ≡ true
   counted = ap are_counted (sym (map-map place_of attribute_in (db 10))) ∙ each_counted (map place_of (map attribute_in (db 10))) whole.places
 
   sound : is_sound Schema2 db next ≡ true
   sound =
-      both_true (is_count next && list_all (is_sound_table db next) (kinds_in Schema2)) (are_counted (map place_in (db 10)) && is_left_empty Schema2 db)
-      (both_true (is_count next) (list_all (is_sound_table db next) (kinds_in Schema2)) whole.next all_tables)
+      both_true (is_count next && list_all (is_sound_table db next) (tables_in Schema2)) (are_counted (map place_in (db 10)) && is_left_empty Schema2 db)
+      (both_true (is_count next) (list_all (is_sound_table db next) (tables_in Schema2)) whole.next all_tables)
       (both_true (are_counted (map place_in (db 10))) (is_left_empty Schema2 db) counted (ap is_empty tables.left_empty))
 
   pub tables_open : opened Schema2 db ≡ Ok tt

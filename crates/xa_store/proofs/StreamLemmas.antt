@@ -1,8 +1,8 @@
 -- A table that is read row by row, from one row to the next.
 use Rattle.std.proofs.Common.{◌≡◌, ◌⊎◌, inl, inr, ℕ, ℤ, w64, true, false, List, [], ◌∷◌, ◌++◌, Option, Some, None, Result, Ok, Err, IsTrue, OnOk, refl, sym, ap, subst, ◌∙◌, arith}
-use Rattle.xa_store.proofs.Common.{FitsSigned, Database, GivesOn, HasBegun, IsPlain, Held, state, understood, Row, State, HasCleanDisk, IsUnchanged, IsRolledBack, Survives, FailsToQuery, Fails, Ghosts, Error, given_begin, begins_as, begun_plain, unchanged_then, survives_then, OpenError, NotThisSchema, Damaged, Store, Memory, Kind, SchemaVersion, row_number, schema_of, RestsIn, SameNow}
+use Rattle.xa_store.proofs.Common.{FitsSigned, Database, GivesOn, HasBegun, IsPlain, Held, state, understood, Row, State, HasCleanDisk, IsUnchanged, IsRolledBack, Survives, FailsToQuery, Fails, Ghosts, Error, given_begin, begins_as, begun_plain, unchanged_then, survives_then, OpenError, NotThisSchema, Damaged, Store, Memory, CheckedTable, SchemaVersion, row_number, schema_of, RestsIn, SameNow}
 use Rattle.sqlite.specs.Given.{HasGiven}
-use Rattle.xa_store.specs.Check.{has_kind, text_of, AreHeld, GoesOn, HoldsBack, IsRead, IsUnguarded, Moves, refused_as, TellsNext, Walked, Walks, fits}
+use Rattle.xa_store.specs.Check.{has_table, text_of, AreHeld, GoesOn, HoldsBack, IsRead, IsUnguarded, Moves, refused_as, TellsNext, Walked, Walks, fits}
 use Rattle.xa_store.proofs.AskLemmas.{goes_then, goes_unchanged, held_rolled, held_unchanged, holds_then, rolled_same, shown_goes, shown_held, unchanged_same}
 use Rattle.xa_store.proofs.AskedLemmas.{failed_fits, never_damaged, never_refused, same_then}
 use Rattle.xa_store.proofs.CheckedTexts.{checked_is}
@@ -11,10 +11,10 @@ use Rattle.xa_store.proofs.ReadLemmas.{bare, is_read, shown_read}
 use Rattle.xa_store.proofs.SqlLemmas.{answered}
 use Rattle.xa_store.proofs.WalkLemmas.{Leads, leads_on, leads_to, fails_on}
 
-pub checked_plain : (kind : Kind) (version : SchemaVersion) → has_kind kind version ≡ true → IsPlain (understood (schema_of version) (text_of kind))
+pub checked_plain : (kind : CheckedTable) (version : SchemaVersion) → has_table kind version ≡ true → IsPlain (understood (schema_of version) (text_of kind))
 checked_plain kind version has = (checked_is kind version has).2
 
-module _ {S : Type 0} (g : Ghosts S) (kind : Kind) (next : ℤ) (last : Option ℤ) (old new : Held S) (sql : List ℕ) (given : List Row) where
+module _ {S : Type 0} (g : Ghosts S) (kind : CheckedTable) (next : ℤ) (last : Option ℤ) (old new : Held S) (sql : List ℕ) (given : List Row) where
   pub moved_ok : (o : Option Row) (r : Result (Option ℤ) OpenError) → TellsNext kind next last o r → GivesOn g sql [] old new given o → Moves g kind next last old new sql given r
   moved_ok (Some row) (Ok (Some number)) tells on = (row, on, tells.1, ap Some tells.0)
   moved_ok (Some row) (Ok None) tells on = absurd tells
@@ -54,10 +54,10 @@ abbrev pub Keeps : SchemaVersion → State → State → Type 0
 Keeps version first s = HasCleanDisk s → GoesOn version first s × (IsTrue first.in_transaction → HoldsBack first s)
 
 -- where a walk stands: the rows that were given, of which the last is known
-abbrev pub Stands : {S : Type 0} → Ghosts S → SchemaVersion → Kind → ℤ → State → Held S → Option ℤ → Type 0
+abbrev pub Stands : {S : Type 0} → Ghosts S → SchemaVersion → CheckedTable → ℤ → State → Held S → Option ℤ → Type 0
 Stands g version kind next first h last = HasCleanDisk (state g h) → RestsIn (schema_of version) first → (given : List Row) × HasGiven g (text_of kind) [] h given × IsUnchanged first (state g h) × Leads kind next given last × AreHeld given
 
-module _ {S : Type 0} (g : Ghosts S) (version : SchemaVersion) (kind : Kind) (has : has_kind kind version ≡ true) (next : ℤ) (first : Held S) where
+module _ {S : Type 0} (g : Ghosts S) (version : SchemaVersion) (kind : CheckedTable) (has : has_table kind version ≡ true) (next : ℤ) (first : Held S) where
   abbrev start : State
   start = state g first
 

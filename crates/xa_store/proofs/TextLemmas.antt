@@ -72,6 +72,10 @@ pub role_shown_is : IsQuery text.role_shown (reading (of_table 3 (is 1 0 ∷ is 
 unfolding understood everything
 role_shown_is = (refl, refl, (refl, refl))
 
+pub kinds_shown_is : IsQuery text.kinds_shown (reading (of_table 5 (is 1 0 ∷ []) (col 1 2 ∷ []) ([])) (codes "kind" ∷ []))
+unfolding understood everything
+kinds_shown_is = (refl, refl, (refl, refl))
+
 pub documents_shown_is : IsQuery text.documents_shown (reading (of_table 5 (is 1 0 ∷ []) (col 1 2 ∷ col 1 3 ∷ col 1 4 ∷ col 1 6 ∷ []) (2 ∷ 3 ∷ 4 ∷ [])) (codes "kind" ∷ codes "id" ∷ codes "version" ∷ codes "active" ∷ []))
 unfolding understood everything
 documents_shown_is = (refl, refl, (refl, refl))

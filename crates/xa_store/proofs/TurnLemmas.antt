@@ -3,7 +3,6 @@ use Rattle.std.proofs.Common.{◌≡◌, ◌⊎◌, inl, inr, ℕ, List, Result,
 use Rattle.xa_store.proofs.Common.{Database, Held, state, Ghosts, State, HasCleanDisk, Trees, ChangeError, Failure, Change, IfAnswered, IsMade, AreDocuments, AreNumbered, AreOurs, AreWhole, Ours, SameNow, Rows, rows_of, kept_of, world_of}
 use Rattle.xa_records.specs.declared.refusal.ChangeError.TheVariants.{Failed, Refused}
 use Rattle.xa_store.specs.declared.step.Step.{Step}
-use Rattle.xa_store.specs.Plan.{told_by}
 use Rattle.xa_store.specs.Quiet.{Quiet}
 use Rattle.xa_store.specs.Steps.{AllowsAll}
 use Rattle.xa_store.specs.Execution.{Holds, Made, Runs}
@@ -114,7 +113,11 @@ module _ {S : Type 0} (g : Ghosts S) (change : Change) (name : List ℕ) (old mi
       subst (λ h. Turns change name (state g old) (state g h) result) (sym same)
       (subst (λ (r : Result (Unit {0}) ChangeError). Turns change name (state g old) (state g mid) r) (sym is) (unmade change name (state g old) (state g mid) (state g mid) quiet (List Step) error opens plans))
 
--- what a change tells, where it was made
+-- what is told of a change, if it was made
+abbrev pub told_by : {X : Type 0} → X → Result (Unit {0}) ChangeError → Result X ChangeError
+told_by x (Ok done) = Ok x
+told_by x (Err error) = Err error
+
 pub told : {X : Type 0} (change : Change) (name : List ℕ) (old new : State) (x : X) (r : Result (Unit {0}) ChangeError) → Turns change name old new r → Turns change name old new (told_by x r)
 told change name old new x (Ok done) turns = record { was_open = turns.was_open; clean = turns.clean; does = turns.does; ours = turns.ours; stays = turns.stays; leaves = turns.leaves }
 told change name old new x (Err (Refused e)) turns = record { was_open = turns.was_open; clean = turns.clean; does = turns.does; ours = turns.ours; stays = turns.stays; leaves = turns.leaves }

@@ -1,13 +1,13 @@
 -- Reading a table row by row.
 use Rattle.std.proofs.Common.{◌≡◌, ℤ, true, false, ◌&&◌, List, [], ◌∷◌, ◌++◌, Option, Some, None, sym, ap, ◌∙◌, append-nil, append_assoc}
-use Rattle.xa_store.proofs.Common.{Row, Kind, row_number}
+use Rattle.xa_store.proofs.Common.{Row, CheckedTable, row_number}
 use Rattle.xa_store.specs.Check.{checks, fits}
 
 -- what the rows that were given say of all rows, when these follow
-abbrev pub Leads : Kind → ℤ → List Row → Option ℤ → Type 0
+abbrev pub Leads : CheckedTable → ℤ → List Row → Option ℤ → Type 0
 Leads kind next given last = (tail : List Row) → checks kind next None (given ++ tail) ≡ checks kind next last tail
 
-module _ (kind : Kind) (next : ℤ) (given : List Row) (last : Option ℤ) (leads : Leads kind next given last) where
+module _ (kind : CheckedTable) (next : ℤ) (given : List Row) (last : Option ℤ) (leads : Leads kind next given last) where
   pub leads_on : (row : Row) → fits kind next last row ≡ true → Leads kind next (given ++ row ∷ []) (Some (row_number row))
   leads_on row is tail = ap (checks kind next None) (append_assoc given (row ∷ []) tail) ∙ leads (row ∷ tail) ∙ ap (λ b. b && checks kind next (Some (row_number row)) tail) is
 

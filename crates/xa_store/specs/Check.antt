@@ -5,8 +5,7 @@ use Rattle.std.specs.Prelude.{[], ◌∷◌, ◌++◌, map, int_lt, codes, IsPer
 use Rattle.std.specs.Prelude.{None, option_map, option_and_then, unwrap_or, Result, Ok, Err, OnOk, OnErr, IfOk, IfErr}
 use Rattle.std.specs.Int.{w64}
 use Rattle.std.specs.List.{AllByRecursion}
-use Rattle.std.specs.Ordering.{int_cmp, int_eq, ordering_then}
-use Rattle.std.specs.declared.cmp.Ordering.{Ordering}
+use Rattle.std.specs.Ordering.{int_eq}
 use Rattle.sqlite.specs.Effect.{IsDatabase}
 use Rattle.sqlite.specs.Given.{HasGiven, IsPlain}
 use Rattle.sqlite.specs.Listing.{understood}
@@ -21,8 +20,9 @@ use Rattle.sqlite.specs.declared.error.ErrorCode.TheVariants.{NameTaken, OutOfMe
 use Rattle.xa_store.specs.declared.check.row.Place.{Place}
 use Rattle.xa_store.specs.declared.error.OpenError.{OpenError}
 use Rattle.xa_store.specs.declared.error.OpenError.TheVariants.{NotThisSchema, Damaged, Store, Memory}
-use Rattle.xa_store.specs.declared.schema.kind.Kind.{Kind}
-use Rattle.xa_store.specs.declared.schema.kind.Kind.TheVariants.{Domains, Tokens, Documents, Roots, Attributes, Sources}
+use Rattle.xa_store.specs.declared.schema.checked_table.CheckedTable.{CheckedTable}
+use Rattle.xa_store.specs.declared.schema.checked_table.CheckedTable.TheVariants.{Domains, Tokens, Documents, Roots}
+use Rattle.xa_store.specs.declared.schema.checked_table.CheckedTable.TheVariants.{Attributes, Sources}
 use Rattle.xa_store.specs.declared.schema.version.SchemaVersion.{SchemaVersion}
 use Rattle.xa_store.specs.declared.schema.version.SchemaVersion.TheVariants.{Schema1, Schema2}
 use Rattle.xa_store.specs.Opened.{are_counted, as_read, is_left_empty, place_in, sources_in, tree_of, are_rising}
@@ -33,7 +33,7 @@ use Rattle.xa_store.specs.Rows.{attribute_in, attribute_row}
 use Rattle.xa_store.specs.Sound.{AreRows, Ours, Rests, RestsIn, SameNow, same_place}
 use Rattle.xa_store.specs.Tables.{first_schema}
 
-abbrev pub text_of : Kind → List ℕ
+abbrev pub text_of : CheckedTable → List ℕ
 text_of Domains = codes "SELECT number, name, epoch FROM domains ORDER BY number"
 text_of Tokens = codes "SELECT rowid, number, digest, role FROM tokens ORDER BY rowid"
 text_of Documents = codes "SELECT rowid, number, kind, id, version, body, active FROM policies ORDER BY rowid"
@@ -45,7 +45,7 @@ text_of Sources =
 
 -- it shows a row exactly where the rowids, as the table has them, are other than in their order: then the texts of
 -- both differ. The six texts differ in the name of the table alone.
-abbrev pub order_text_of : Kind → List ℕ
+abbrev pub order_text_of : CheckedTable → List ℕ
 order_text_of Domains =
     codes "WITH s(n) AS (SELECT rowid FROM domains ORDER BY rowid) SELECT 1 WHERE (SELECT group_concat(rowid) FROM domains) IS NOT (SELECT group_concat(n) FROM s)"
 order_text_of Tokens =
@@ -65,9 +65,9 @@ places_text_of Schema1 = codes "SELECT number, place FROM attributes ORDER BY nu
 places_text_of Schema2 = codes "SELECT number, place FROM sources ORDER BY number, place"
 
 -- the schema has the table
-abbrev pub has_kind : Kind → SchemaVersion → Bool
-has_kind Sources Schema1 = false
-has_kind _ _ = true
+abbrev pub has_table : CheckedTable → SchemaVersion → Bool
+has_table Sources Schema1 = false
+has_table _ _ = true
 
 -- ---- what a call that only reads leaves
 
@@ -95,12 +95,6 @@ pub record Asks {X : Type 0} (version : SchemaVersion) (old new : State) (result
   pub same : HasCleanDisk new → RestsIn (schema_of version) old → IsTrue new.is_open → SameNow old new
   pub held : HasCleanDisk new → IsTrue old.in_transaction → IsTrue new.is_open → HoldsBack old new
   pub goes_on : HasCleanDisk new → OnOk result (GoesOn version old new)
-
--- an error that no query of a keeper's tables has
-abbrev pub is_misfit : Error → Bool
-is_misfit (SqlInputError fault) = true
-is_misfit (SqliteFailure NameTaken) = true
-is_misfit _ = false
 
 -- what an error means for opening
 abbrev pub refused_as : Error → OpenError
@@ -135,59 +129,60 @@ pub record CheckedBy (version : SchemaVersion) (sound : Trees → Bool) (old new
 -- ---- the rows of one table, in the order of their numbers
 
 -- each row begins with a number
-abbrev pub HasNumbers : Kind → Trees → Type 0
-HasNumbers kind db = AllByRecursion (λ row. is_number (column row 0) ≡ true) (db (tree_of kind))
+abbrev pub HasNumbers : CheckedTable → Trees → Type 0
+HasNumbers table db = AllByRecursion (λ row. is_number (column row 0) ≡ true) (db (tree_of table))
 
 -- the rows are those of the table, and in its order if that rises
-pub record IsRead (kind : Kind) (db : Trees) (rows : List Row) : Type 0 where
-  pub all : IsPermutation (map (as_read kind) (db (tree_of kind))) rows
-  pub ordered : HasNumbers kind db → are_rising (map row_number (map (as_read kind) (db (tree_of kind)))) ≡ true
-      → rows ≡ map (as_read kind) (db (tree_of kind))
+pub record IsRead (table : CheckedTable) (db : Trees) (rows : List Row) : Type 0 where
+  pub all : IsPermutation (map (as_read table) (db (tree_of table))) rows
+  pub ordered : HasNumbers table db → are_rising (map row_number (map (as_read table) (db (tree_of table)))) ≡ true
+      → rows ≡ map (as_read table) (db (tree_of table))
 
 abbrev pub comes_after : Option ℤ → ℤ → Bool
 comes_after None number = true
 comes_after (Some last) number = int_lt last number
 
-abbrev pub fits : Kind → ℤ → Option ℤ → Row → Bool
-fits kind next last row = is_whole_row kind next row && comes_after last (row_number row)
+abbrev pub fits : CheckedTable → ℤ → Option ℤ → Row → Bool
+fits table next last row = is_whole_row table next row && comes_after last (row_number row)
 
 -- each row is sound, and its number above the last
-abbrev pub checks : Kind → ℤ → Option ℤ → List Row → Bool
-checks kind next last [] = true
-checks kind next last (row ∷ rows) = fits kind next last row && checks kind next (Some (row_number row)) rows
+abbrev pub checks : CheckedTable → ℤ → Option ℤ → List Row → Bool
+checks table next last [] = true
+checks table next last (row ∷ rows) = fits table next last row && checks table next (Some (row_number row)) rows
 
 -- the numbers of rows are such as a column can hold
 abbrev pub AreHeld : List Row → Type 0
 AreHeld = AllByRecursion (λ row. FitsSigned w64 (row_number row))
 
-abbrev pub Walks : Kind → ℤ → Trees → Result (Unit {0}) OpenError → Type 0
-Walks kind next db (Ok x) = (rows : List Row) × IsRead kind db rows × (checks kind next None rows ≡ true) × AreHeld rows
-Walks kind next db (Err Damaged) = (rows : List Row) × IsRead kind db rows × (checks kind next None rows ≡ false)
-Walks kind next db (Err NotThisSchema) = ⊥
-Walks kind next db (Err Store) = Unit {0}
-Walks kind next db (Err Memory) = Unit {0}
+abbrev pub Walks : CheckedTable → ℤ → Trees → Result (Unit {0}) OpenError → Type 0
+Walks table next db (Ok x) =
+    (rows : List Row) × IsRead table db rows × (checks table next None rows ≡ true) × AreHeld rows
+Walks table next db (Err Damaged) = (rows : List Row) × IsRead table db rows × (checks table next None rows ≡ false)
+Walks table next db (Err NotThisSchema) = ⊥
+Walks table next db (Err Store) = Unit {0}
+Walks table next db (Err Memory) = Unit {0}
 
-pub record Walked (version : SchemaVersion) (kind : Kind) (next : ℤ) (old new : State)
+pub record Walked (version : SchemaVersion) (table : CheckedTable) (next : ℤ) (old new : State)
     (result : Result (Unit {0}) OpenError) : Type 0 where
   pub asks : Asks version old new result
-  pub finds : HasCleanDisk new → RestsIn (schema_of version) old → Walks kind next old.now.trees result
+  pub finds : HasCleanDisk new → RestsIn (schema_of version) old → Walks table next old.now.trees result
 
 -- the number of a row that fits, or that it doesn't
-abbrev pub TellsNumber : Kind → ℤ → Option ℤ → Row → Result ℤ OpenError → Type 0
-TellsNumber kind next last row (Ok number) = (number ≡ row_number row) × (fits kind next last row ≡ true)
-TellsNumber kind next last row (Err Damaged) = fits kind next last row ≡ false
-TellsNumber kind next last row (Err NotThisSchema) = ⊥
-TellsNumber kind next last row (Err Store) = Unit {0}
-TellsNumber kind next last row (Err Memory) = Unit {0}
+abbrev pub TellsNumber : CheckedTable → ℤ → Option ℤ → Row → Result ℤ OpenError → Type 0
+TellsNumber table next last row (Ok number) = (number ≡ row_number row) × (fits table next last row ≡ true)
+TellsNumber table next last row (Err Damaged) = fits table next last row ≡ false
+TellsNumber table next last row (Err NotThisSchema) = ⊥
+TellsNumber table next last row (Err Store) = Unit {0}
+TellsNumber table next last row (Err Memory) = Unit {0}
 
 -- of the row at which a query stands, if it isn't at its end
-abbrev pub TellsNext : Kind → ℤ → Option ℤ → Option Row → Result (Option ℤ) OpenError → Type 0
-TellsNext kind next last (Some row) (Ok (Some number)) = TellsNumber kind next last row (Ok number)
-TellsNext kind next last (Some row) (Ok None) = ⊥
-TellsNext kind next last (Some row) (Err e) = TellsNumber kind next last row (Err e)
-TellsNext kind next last None (Ok (Some number)) = ⊥
-TellsNext kind next last None (Ok None) = Unit {0}
-TellsNext kind next last None (Err e) = IsFailure e
+abbrev pub TellsNext : CheckedTable → ℤ → Option ℤ → Option Row → Result (Option ℤ) OpenError → Type 0
+TellsNext table next last (Some row) (Ok (Some number)) = TellsNumber table next last row (Ok number)
+TellsNext table next last (Some row) (Ok None) = ⊥
+TellsNext table next last (Some row) (Err e) = TellsNumber table next last row (Err e)
+TellsNext table next last None (Ok (Some number)) = ⊥
+TellsNext table next last None (Ok None) = Unit {0}
+TellsNext table next last None (Err e) = IsFailure e
 
 module _ {S : Type 0} (g : Ghosts S) where
   -- a crash leaves what it left before
@@ -198,11 +193,11 @@ module _ {S : Type 0} (g : Ghosts S) where
   abbrev pub IsKeptOrUndone : Held S → Held S → Type 0
   IsKeptOrUndone old new = IsUnchanged (state g old) (state g new) ⊎ IsRolledBack (state g old) (state g new)
 
-module _ {S : Type 0} (g : Ghosts S) (kind : Kind) (next : ℤ) (last : Option ℤ) (old new : Held S) where
+module _ {S : Type 0} (g : Ghosts S) (table : CheckedTable) (next : ℤ) (last : Option ℤ) (old new : Held S) where
   -- one more row, which fits or doesn't
   abbrev pub GivesRow : Bool → List ℕ → List Row → Option ℤ → Type 0
   GivesRow is sql given number =
-      (row : Row) × HasGiven g sql [] new (given ++ row ∷ []) × (fits kind next last row ≡ is)
+      (row : Row) × HasGiven g sql [] new (given ++ row ∷ []) × (fits table next last row ≡ is)
       × (number ≡ Some (row_number row))
 
   -- the query goes on by one row: that is a sound one after the last; or it isn't; or all rows were given
@@ -210,7 +205,7 @@ module _ {S : Type 0} (g : Ghosts S) (kind : Kind) (next : ℤ) (last : Option �
   Moves sql given (Ok (Some number)) = GivesRow true sql given (Some number)
   Moves sql given (Ok None) = Shown sql [] (state g old) (state g new) given
   Moves sql given (Err Damaged) =
-      (row : Row) × HasGiven g sql [] new (given ++ row ∷ []) × (fits kind next last row ≡ false)
+      (row : Row) × HasGiven g sql [] new (given ++ row ∷ []) × (fits table next last row ≡ false)
   Moves sql given (Err NotThisSchema) =
       (version : SchemaVersion) → IsPlain (understood (schema_of version) sql)
       → ¬ RestsIn (schema_of version) (state g old)
@@ -220,10 +215,10 @@ module _ {S : Type 0} (g : Ghosts S) (kind : Kind) (next : ℤ) (last : Option �
 -- ---- the order of the table
 
 -- of a table that was walked to its end
-abbrev pub Orders : Kind → Trees → Result (Unit {0}) OpenError → Type 0
-Orders kind db result =
-    (next : ℤ) → Walks kind next db (Ok tt)
-    → TellsSound (are_rising (map row_number (map (as_read kind) (db (tree_of kind))))) result
+abbrev pub Orders : CheckedTable → Trees → Result (Unit {0}) OpenError → Type 0
+Orders table db result =
+    (next : ℤ) → Walks table next db (Ok tt)
+    → TellsSound (are_rising (map row_number (map (as_read table) (db (tree_of table))))) result
 
 -- ---- the places of the rows of sources
 
@@ -232,17 +227,9 @@ abbrev pub counts_on : Place → Place → Bool
 counts_on last place =
     if int_eq place.domain last.domain then int_eq place.place (last.place +ℤ pos 1) else int_eq place.place (pos 0)
 
-abbrev pub count_on : Place → List Place → Bool
-count_on last [] = true
-count_on last (place ∷ places) = counts_on last place && count_on place places
-
 -- a place before the first of any domain
 abbrev pub no_place : Place
 no_place = record { domain = negsuc 0; place = negsuc 0 }
-
--- by the domain, and then by the place
-abbrev pub place_cmp : Place → Place → Ordering
-place_cmp a b = ordering_then (int_cmp a.domain b.domain) (int_cmp a.place b.place)
 
 -- a row shows a domain and a place
 abbrev pub place_told : Row → Option Place

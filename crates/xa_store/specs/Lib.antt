@@ -13,7 +13,6 @@ pub mod Plan
 pub mod Columns
 pub mod KeeperReading
 pub mod Health
-pub mod KeeperChange
 pub mod Opened
 pub mod Opening
 pub mod Check

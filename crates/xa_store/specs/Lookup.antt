@@ -62,10 +62,10 @@ TellsAbsent is_absent (Refused e) = (e ≡ Absent) × is_absent
 TellsAbsent is_absent (Failed failure) = Unit {0}
 
 -- the gate of a domain that was found: its number and its epoch, and these tokens
-abbrev pub TellsGate : DomainFound → List Token → Option Gate → Type 0
+abbrev pub TellsGate : DomainFound → List Token → Gate → Type 0
 TellsGate domain tokens gate =
     (n : ℕ) × (e : ℕ) × (domain.number ≡ pos n) × (domain.epoch ≡ pos e)
-    × (gate ≡ Some (record { number = n; epoch = e; tokens = tokens }))
+    × (gate ≡ record { number = n; epoch = e; tokens = tokens })
 
 -- the number of the next domain, which isn't negative
 pub record IsNext (rows : Rows) (number : ℤ) : Type 0 where

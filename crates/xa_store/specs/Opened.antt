@@ -31,8 +31,9 @@ use Rattle.xa_records.specs.DomainName.{is_domain_name}
 use Rattle.xa_store.specs.declared.check.row.Place.{Place}
 use Rattle.xa_store.specs.declared.error.OpenError.{OpenError}
 use Rattle.xa_store.specs.declared.error.OpenError.TheVariants.{NotThisSchema, Damaged}
-use Rattle.xa_store.specs.declared.schema.kind.Kind.{Kind}
-use Rattle.xa_store.specs.declared.schema.kind.Kind.TheVariants.{Domains, Tokens, Documents, Roots, Attributes, Sources}
+use Rattle.xa_store.specs.declared.schema.checked_table.CheckedTable.{CheckedTable}
+use Rattle.xa_store.specs.declared.schema.checked_table.CheckedTable.TheVariants.{Domains, Tokens, Documents, Roots}
+use Rattle.xa_store.specs.declared.schema.checked_table.CheckedTable.TheVariants.{Attributes, Sources}
 use Rattle.xa_store.specs.declared.schema.version.SchemaVersion.{SchemaVersion}
 use Rattle.xa_store.specs.declared.schema.version.SchemaVersion.TheVariants.{Schema1, Schema2}
 use Rattle.xa_store.specs.Rows.{nat_of, kind_number}
@@ -110,7 +111,7 @@ is_row_of_source next row =
     && holds_text is_utf8 (column row 4) && holds_text is_utf8 (column row 5)
     && holds_int (λ number. holds_text (holds_value number) (column row 7)) (column row 6)
 
-abbrev pub is_sound_row : Kind → ℤ → Row → Bool
+abbrev pub is_sound_row : CheckedTable → ℤ → Row → Bool
 is_sound_row Domains next row =
     holds_int (is_assigned next) (column row 0) && holds_text is_domain_name (column row 1)
     && holds_int is_count (column row 2)
@@ -128,7 +129,7 @@ is_sound_row Attributes next row = is_row_of_source next row
 is_sound_row Sources next row = is_row_of_source next row && holds_text_if_any is_utf8 (column row 8)
 
 -- the columns that are read, of those that are kept: that of an INTEGER PRIMARY KEY is kept as the rowid
-abbrev pub read_columns : Kind → List ℕ
+abbrev pub read_columns : CheckedTable → List ℕ
 read_columns Domains = 0 ∷ 2 ∷ 3 ∷ []
 read_columns Tokens = 0 ∷ 1 ∷ 2 ∷ 3 ∷ []
 read_columns Documents = 0 ∷ 1 ∷ 2 ∷ 3 ∷ 4 ∷ 5 ∷ 6 ∷ []
@@ -136,10 +137,10 @@ read_columns Roots = 0 ∷ 2 ∷ 3 ∷ 4 ∷ 5 ∷ 6 ∷ []
 read_columns Attributes = 0 ∷ 1 ∷ 2 ∷ 3 ∷ 4 ∷ 5 ∷ 6 ∷ 7 ∷ []
 read_columns Sources = 0 ∷ 1 ∷ 2 ∷ 3 ∷ 4 ∷ 5 ∷ 6 ∷ 7 ∷ 8 ∷ []
 
-abbrev pub as_read : Kind → Row → Row
-as_read kind row = map (column row) (read_columns kind)
+abbrev pub as_read : CheckedTable → Row → Row
+as_read table row = map (column row) (read_columns table)
 
-abbrev pub tree_of : Kind → ℕ
+abbrev pub tree_of : CheckedTable → ℕ
 tree_of Domains = 1
 tree_of Tokens = 3
 tree_of Documents = 5
@@ -154,8 +155,8 @@ is_number (Int n) = true
 is_number _ = false
 
 -- the row has a number, and its columns hold what they should
-abbrev pub is_whole_row : Kind → ℤ → Row → Bool
-is_whole_row kind next row = is_number (column row 0) && is_sound_row kind next row
+abbrev pub is_whole_row : CheckedTable → ℤ → Row → Bool
+is_whole_row table next row = is_number (column row 0) && is_sound_row table next row
 
 -- each number is below those after it
 abbrev pub are_rising : List ℤ → Bool
@@ -165,8 +166,8 @@ are_rising (n ∷ ns) = list_all (int_lt n) ns && are_rising ns
 abbrev pub row_number : Row → ℤ
 row_number row = int_of (column row 0)
 
-abbrev pub are_sound_rows : Kind → ℤ → List Row → Bool
-are_sound_rows kind next rows = list_all (is_whole_row kind next) rows && are_rising (map row_number rows)
+abbrev pub are_sound_rows : CheckedTable → ℤ → List Row → Bool
+are_sound_rows table next rows = list_all (is_whole_row table next) rows && are_rising (map row_number rows)
 
 -- ---- places
 
@@ -199,7 +200,7 @@ number_of Schema1 = pos 1
 number_of Schema2 = pos 2
 
 -- the table that has the rows of sources
-abbrev pub sources_in : SchemaVersion → Kind
+abbrev pub sources_in : SchemaVersion → CheckedTable
 sources_in Schema1 = Attributes
 sources_in Schema2 = Sources
 
@@ -232,15 +233,15 @@ known_next version _ = None
 abbrev pub read_meta : Row → Row
 read_meta row = map (column row) (0 ∷ 2 ∷ 3 ∷ [])
 
-abbrev pub is_sound_table : Trees → ℤ → Kind → Bool
-is_sound_table db next kind = are_sound_rows kind next (map (as_read kind) (db (tree_of kind)))
+abbrev pub is_sound_table : Trees → ℤ → CheckedTable → Bool
+is_sound_table db next table = are_sound_rows table next (map (as_read table) (db (tree_of table)))
 
-abbrev pub kinds_in : SchemaVersion → List Kind
-kinds_in version = Domains ∷ Tokens ∷ Documents ∷ Roots ∷ sources_in version ∷ []
+abbrev pub tables_in : SchemaVersion → List CheckedTable
+tables_in version = Domains ∷ Tokens ∷ Documents ∷ Roots ∷ sources_in version ∷ []
 
 abbrev pub is_sound : SchemaVersion → Trees → ℤ → Bool
 is_sound version db next =
-    is_count next && list_all (is_sound_table db next) (kinds_in version)
+    is_count next && list_all (is_sound_table db next) (tables_in version)
     && (are_counted (map place_in (db (tree_of (sources_in version)))) && is_left_empty version db)
 
 abbrev pub checked : SchemaVersion → Trees → Option ℤ → Result (Unit {0}) OpenError

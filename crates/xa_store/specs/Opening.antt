@@ -10,7 +10,7 @@ use Rattle.sqlite_schema.specs.Names.{table_named, index_named, view_named}
 use Rattle.xa_records.specs.Kept.{nothing_kept}
 use Rattle.xa_store.specs.declared.error.OpenError.{OpenError}
 use Rattle.xa_store.specs.declared.error.OpenError.TheVariants.{NotThisSchema, Damaged, Store, Memory}
-use Rattle.xa_store.specs.declared.schema.kind.Kind.{Kind}
+use Rattle.xa_store.specs.declared.schema.checked_table.CheckedTable.{CheckedTable}
 use Rattle.xa_store.specs.declared.schema.version.SchemaVersion.{SchemaVersion}
 use Rattle.xa_store.specs.declared.schema.version.SchemaVersion.TheVariants.{Schema1, Schema2}
 use Rattle.xa_store.specs.Keeper.{Keeper}
@@ -49,7 +49,7 @@ pub record IsBlank (s : State) : Type 0 where
 pub record AreNewTables (db : Trees) : Type 0 where
   pub database : IsOurDatabase db
   pub meta : db 0 ≡ meta_row (pos 1) ∷ []
-  pub empty : (kind : Kind) → db (tree_of kind) ≡ []
+  pub empty : (table : CheckedTable) → db (tree_of table) ≡ []
 
 -- tables of schema 2 that mean what those of schema 1 meant
 pub record IsMigrated (first db : Trees) : Type 0 where
@@ -66,7 +66,7 @@ GivesOrFails (Err Store) given = Unit {0}
 GivesOrFails (Err Memory) given = Unit {0}
 GivesOrFails answer given = given ≡ answer
 
--- it was made of the keeper's tables by nothing that happened, or by want of memory or a failure of the store
+-- it tells of a call that failed: the store did, or there was no memory
 abbrev pub IsFailure : OpenError → Type 0
 IsFailure e = (e ≡ Store) ⊎ (e ≡ Memory)
 
@@ -80,8 +80,8 @@ module _ {S : Type 0} (g : Ghosts S) where
   held_in (Ok k) = k.conn
   held_in (Err e) = e.1
 
-  -- the keeper holds what these tables mean, and no call of it has failed
-  pub record Holds (k : Keeper S) : Type 0 where
+  -- the keeper is one of our tables, told to be open, and no call of it has failed
+  pub record IsFresh (k : Keeper S) : Type 0 where
     pub ours : IsTrue k.ours
     pub is_open : IsTrue k.is_open
     pub faults : k.faults ≡ 0
@@ -90,7 +90,7 @@ module _ {S : Type 0} (g : Ghosts S) where
   abbrev pub Opens : State → Result (Keeper S) (OpenError × Held S) → Type 0
   Opens old (Ok k) =
       HasCleanDisk (state g k.conn)
-      → (opened Schema2 old.now.trees ≡ Ok tt) × SameNow old (state g k.conn) × Holds k
+      → (opened Schema2 old.now.trees ≡ Ok tt) × SameNow old (state g k.conn) × IsFresh k
       × (world_of (state g k.conn).now.trees ≡ world_of old.committed.trees)
   Opens old (Err e) =
       HasCleanDisk (state g e.1)
@@ -101,7 +101,7 @@ module _ {S : Type 0} (g : Ghosts S) where
   abbrev pub Migrates : State → Result (Keeper S) (OpenError × Held S) → Type 0
   Migrates old (Ok k) =
       HasCleanDisk (state g k.conn)
-      → (opened Schema1 old.now.trees ≡ Ok tt) × Holds k × IsMigrated old.committed.trees (state g k.conn).now.trees
+      → (opened Schema1 old.now.trees ≡ Ok tt) × IsFresh k × IsMigrated old.committed.trees (state g k.conn).now.trees
   Migrates old (Err e) =
       HasCleanDisk (state g e.1)
       → GivesOrFails (Err e.0) (opened Schema1 old.now.trees)
@@ -111,7 +111,7 @@ module _ {S : Type 0} (g : Ghosts S) where
   abbrev pub Makes : State → Result (Keeper S) (OpenError × Held S) → Type 0
   Makes old (Ok k) =
       HasCleanDisk (state g k.conn)
-      → AreNewTables (state g k.conn).now.trees × Holds k × (world_of (state g k.conn).now.trees ≡ nothing_kept)
+      → AreNewTables (state g k.conn).now.trees × IsFresh k × (world_of (state g k.conn).now.trees ≡ nothing_kept)
   Makes old (Err e) =
       IsFailure e.0 × (IsTrue (state g e.1).is_open → SameNow old (state g e.1) ⊎ AreNewTables (state g e.1).now.trees)
 

@@ -101,8 +101,3 @@ abbrev pub IsUploadPlanned : DocumentKey → List ℕ → List ℕ → Rows → 
 IsUploadPlanned key text name rows result =
     IsPlanned (within (uploaded key text)) name rows result
     × IfOk result (λ steps. upload_by steps ≡ upload_of key (state_of name (kept_of rows)))
-
--- what is told of a change, if it was made
-abbrev pub told_by : {X : Type 0} → X → Result (Unit {0}) ChangeError → Result X ChangeError
-told_by x (Ok done) = Ok x
-told_by x (Err error) = Err error

@@ -1,4 +1,5 @@
--- The statements. A number that a statement has first is the domain's.
+-- The statements, but those of the check (`Check`). Contracts cite those that make and migrate tables, and
+-- `document_shown`; proofs cite the others. A number that a statement has first is the domain's.
 use Rattle.std.specs.Prelude.{ℕ, List, codes}
 
 -- ---- the tables are made
@@ -66,6 +67,9 @@ tokens_shown = codes "SELECT digest, role FROM tokens WHERE number = ?1 ORDER BY
 
 abbrev pub role_shown : List ℕ
 role_shown = codes "SELECT role FROM tokens WHERE number = ?1 AND digest = ?2"
+
+abbrev pub kinds_shown : List ℕ
+kinds_shown = codes "SELECT kind FROM policies WHERE number = ?1"
 
 abbrev pub documents_shown : List ℕ
 documents_shown = codes "SELECT kind, id, version, active FROM policies WHERE number = ?1 ORDER BY kind, id, version"

@@ -18,6 +18,7 @@ use Rattle.xa_store.specs.Rows.{domain_in, token_in, document_in, root_in, attri
 
 -- ---- the rows of all tables
 
+-- `attributes` are the rows of sources, which stand in the table `sources`, and in schema 1 in the table `attributes`
 pub record Rows : Type 0 where
   pub next : ℤ
   pub domains : List DomainRow

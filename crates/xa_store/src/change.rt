@@ -1,7 +1,8 @@
 //! Changes of domains. Each is planned by queries, which may refuse it, and then one transaction takes
 //! the steps of the plan. `plan_X` finds the domain by its name, `plan_X_in` goes on where the domain was
 //! found, and `plan_X_of` where what changes was found in it, too. `plan_X_new` and `plan_X_again` are for
-//! what isn't there and what is there already.
+//! what isn't there and what is there already. `X_in` makes the change on a connection: it plans, and then
+//! takes the steps.
 ghost use Rattle.std.specs.Prelude.{◌≡◌, ◌++◌, [], ◌∷◌, Result, Err, IfErr, IfOk};
 ghost use Rattle.sqlite.specs.Held.{state};
 ghost use Rattle.xa_records.specs.declared.refusal.Failure.{Failure as Failed};
@@ -25,7 +26,7 @@ use std::alloc::{AllocError, Global};
 use xa_records::ChangeError;
 use xa_value::Items;
 
-/// The epoch that a domain gets.
+/// The revision that a change gives a domain.
 #[derive(Clone, Copy, Debug)]
 pub(crate) struct Revision {
     /// The domain's number.

@@ -8,7 +8,7 @@ pub enum OpenError {
     /// Its tables aren't those of this product, in a schema that this version knows.
     #[error("the tables are of another schema")]
     NotThisSchema,
-    /// The tables hold a text, a row or a digest that isn't one.
+    /// A row of the tables is none that a keeper writes, or the rows stand in another order.
     #[error("a row of the tables is damaged")]
     Damaged,
     /// The store failed.

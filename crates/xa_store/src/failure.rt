@@ -25,7 +25,7 @@ pub(crate) fn failure_of(error: Error) -> Failure
 
 /// For a query of the check: a statement that isn't understood, and a name that is taken, tell tables of
 /// another schema.
-fn refused(error: Error) -> OpenError
+fn error_of_check(error: Error) -> OpenError
     ensures { result ≡ refused_as error }
 {
     match error {
@@ -38,7 +38,7 @@ fn refused(error: Error) -> OpenError
 }
 
 /// For a change of the tables that failed.
-fn failed(failure: Failure) -> OpenError
+fn error_of_failure(failure: Failure) -> OpenError
     ensures { IsFailure result }
 {
     match failure {
@@ -47,15 +47,15 @@ fn failed(failure: Failure) -> OpenError
     }
 }
 
-/// For a change of the tables that failed, by the error of its statement.
-pub(crate) fn failed_by(error: Error) -> OpenError
+/// For a statement that is no query, or for a commit.
+pub(crate) fn error_of_statement(error: Error) -> OpenError
     ensures { IsFailure result }
 {
-    failed(failure_of(error))
+    error_of_failure(failure_of(error))
 }
 
-/// Tables that were just made are sound, so whatever is said of them tells a failure.
-pub(crate) fn failed_after(error: OpenError) -> OpenError
+/// For the check of tables that were just made: these are sound, so whatever is said of them tells a failure.
+pub(crate) fn error_after_making(error: OpenError) -> OpenError
     ensures { IsFailure result }
 {
     match error {
@@ -76,14 +76,15 @@ impl From<Failure> for OpenError {
     ghost from_gives = { λ _ e. IsFailure e };
 
     fn from(failure: Failure) -> OpenError {
-        failed(failure)
+        error_of_failure(failure)
     }
 }
 
+/// For the queries of the check alone, which use `?`. Whatever is no query uses `error_of_statement`.
 impl From<Error> for OpenError {
     ghost from_gives = { λ error e. e ≡ refused_as error };
 
     fn from(error: Error) -> OpenError {
-        refused(error)
+        error_of_check(error)
     }
 }

@@ -1,9 +1,6 @@
 //! The keeper: a connection, and what is known of its store.
-ghost use Rattle.std.specs.Prelude.{◌≡◌, true, Ok, IsTrue};
+ghost use Rattle.std.specs.Prelude.{◌≡◌, true, IsTrue};
 ghost use Rattle.sqlite.specs.Held.{state};
-ghost use Rattle.xa_store.specs.Keeper.{IsSound};
-ghost use Rattle.xa_store.specs.Opened.{opened};
-ghost use Rattle.xa_store.specs.declared.schema.version.SchemaVersion.TheVariants.{Schema2};
 ghost use Rattle.xa_store.specs.Sound.{Ours};
 
 pub(crate) mod health;
@@ -17,9 +14,12 @@ use std::marker::Model;
 /// A keeper of domains over the tables of a database. Each change is one transaction.
 #[derive(Drop)]
 pub struct SqlRecords<S: Alter> {
-    pub(crate) conn: Connection<S>,
-    pub(crate) ours: bool,
-    pub(crate) health: Health,
+    /// The connection.
+    conn: Connection<S>,
+    /// Whether its store had a keeper's tables and no others when it was opened.
+    ours: bool,
+    /// What is known of its store.
+    health: Health,
 }
 
 impl<S: Alter> Model for SqlRecords<S> {
@@ -60,11 +60,6 @@ impl<S: Alter> SqlRecords<S> {
     {
         self.ours
     }
-
-    /// Law: the tables of a sound keeper open again.
-    pub fn opens_again(&self)
-        ensures { IsSound S.Store self.now → opened Schema2 (state S.Store self.now.conn).now.trees ≡ Ok tt }
-    {}
 
     /// The connection that it was made over.
     pub fn into_connection(self) -> Connection<S>

@@ -16,7 +16,7 @@ ghost use Rattle.xa_store.specs.Tables.{first_schema};
 use crate::check::rollback::check_apart;
 use crate::check::tables::check;
 use crate::error::OpenError;
-use crate::failure::failed_after;
+use crate::failure::error_after_making;
 use crate::keeper::SqlRecords;
 use crate::schema::creation::make;
 use crate::schema::migration::migrate;
@@ -25,7 +25,7 @@ use crate::schema::version::SchemaVersion;
 use sqlite::{Alter, Connection};
 use std::alloc::Global;
 
-/// Checks the tables of that schema.
+/// Checks the tables, which are those of that schema and no others: so it gives true.
 fn check_ours<S: Alter>(
     alloc: Global,
     conn: &mut Connection<S>,
@@ -58,7 +58,7 @@ fn check_as<S: Alter>(
 }
 
 /// Makes the tables beside what is there, and then checks them as any others. Where these aren't sound,
-/// the store has failed.
+/// the store has failed. It says whether they are a keeper's tables and no others.
 fn make_and_check<S: Alter>(alloc: Global, conn: &mut Connection<S>) -> Result<bool, OpenError>
     requires { IsTrue (has_room (state S.Store conn.old).now.schema) }
     ensures { Loads (state S.Store conn.old) (state S.Store conn.new) result }
@@ -66,11 +66,12 @@ fn make_and_check<S: Alter>(alloc: Global, conn: &mut Connection<S>) -> Result<b
     make(conn)?;
     match check_as(alloc, conn, SchemaVersion::Schema2) {
         Ok(ours) => Ok(ours),
-        Err(error) => Err(failed_after(error)),
+        Err(error) => Err(error_after_making(error)),
     }
 }
 
-/// Checks tables of schema 1, and then brings them into schema 2.
+/// Checks tables of schema 1, and then brings them into schema 2. It says whether they were those of schema
+/// 1 and no others.
 fn check_and_migrate<S: Alter>(alloc: Global, conn: &mut Connection<S>) -> Result<bool, OpenError>
     requires taken { has_room (state S.Store conn.old).now.schema ≡ false }
     requires first { schema_version_in (state S.Store conn.old).now.schema ≡ Schema1 }
@@ -81,7 +82,8 @@ fn check_and_migrate<S: Alter>(alloc: Global, conn: &mut Connection<S>) -> Resul
     Ok(ours)
 }
 
-/// Checks the tables that are there, and brings those of schema 1 into schema 2.
+/// Checks the tables that are there, and brings those of schema 1 into schema 2. It says whether they are
+/// a keeper's tables and no others.
 fn load_kept<S: Alter>(alloc: Global, conn: &mut Connection<S>) -> Result<bool, OpenError>
     requires { has_room (state S.Store conn.old).now.schema ≡ false }
     ensures { Loads (state S.Store conn.old) (state S.Store conn.new) result }
@@ -110,10 +112,10 @@ fn load<S: Alter>(alloc: Global, conn: &mut Connection<S>) -> Result<bool, OpenE
 
 impl<S: Alter> SqlRecords<S> {
     /// Opens the store of the connection as a keeper. Where none of a keeper's tables has its name
-    /// taken they are made, in one transaction; else each row is read and checked, a body at a time.
-    /// Then tables of schema 1 are brought into schema 2, in one transaction. A connection that is
-    /// refused is handed back; its tables are as they were, unless the store failed. Where a
-    /// transaction is under way nothing is asked, and the answer is `Store`.
+    /// taken they are made, in one transaction; else each row is read and checked, a body at a time,
+    /// and then all places of source rows at once. Then tables of schema 1 are brought into schema 2, in
+    /// one transaction. A connection that is refused is handed back; its tables are as they were, unless
+    /// the store failed. Where a transaction is under way nothing is asked, and the answer is `Store`.
     pub fn open(
         alloc: Global,
         mut conn: Connection<S>,

@@ -1,5 +1,7 @@
-//! Plain queries of a keeper's tables, which change nothing. Each file asks for one thing, and reads the
-//! rows that are shown.
+//! Plain queries of a keeper's tables, which change nothing. `reading` has the readings of a domain by its
+//! name: its `domain` is found, and by its number its `token`s, its `document`s, its `root` and its `source`
+//! are asked for. `name`, `number` and `count` ask what else a reading or a plan needs. What a `row` tells is
+//! read `cell` by `cell`, at the places that `columns` has.
 ghost use Rattle.std.specs.Prelude.{IfErr, IfOk, IsErrOf};
 ghost use Rattle.sqlite.specs.Given.{IsPlain};
 ghost use Rattle.sqlite.specs.Held.{state};
@@ -12,7 +14,7 @@ ghost use Rattle.xa_records.specs.declared.refusal.Failure.TheVariants.{Memory};
 ghost use Rattle.xa_store.specs.Quiet.{FailsToQueryOver, OnlyReadsOver, ShownOver};
 ghost use Rattle.xa_store.specs.Tables.{our_schema};
 
-pub(crate) mod column;
+pub(crate) mod cell;
 pub(crate) mod columns;
 pub(crate) mod count;
 pub(crate) mod document;
@@ -31,8 +33,9 @@ use sqlite::types::ValueRef;
 use sqlite::{Alter, Connection, Error, Row};
 use xa_records::Failure;
 
-/// All rows that a plain query of these tables shows. It changes nothing.
-fn ask<S: Alter>(
+/// All rows that a plain query of these tables shows. It changes nothing. Apart from `query_rows` for the
+/// proof alone.
+fn rows_shown<S: Alter>(
     conn: &mut Connection<S>,
     sql: &str,
     given: &[ValueRef<'_>],
@@ -61,7 +64,7 @@ pub(crate) fn query_rows<S: Alter>(
     ensures shows { HasCleanDisk (state S.Store conn.new) → IfOk result (λ rows.
         ShownOver S.Store sql.now (bound given.now) conn.old conn.new rows.items) }
 {
-    match ask(conn, sql, given) {
+    match rows_shown(conn, sql, given) {
         Ok(rows) => Ok(rows),
         Err(error) => Err(failure_of(error)),
     }

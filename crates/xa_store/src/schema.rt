@@ -1,9 +1,9 @@
 //! The tables of a keeper: their two schemas, the shape of each table, and how they are made and
 //! migrated.
 
+pub(crate) mod checked_table;
 pub(crate) mod columns;
 pub(crate) mod creation;
-pub(crate) mod kind;
 pub(crate) mod migration;
 pub(crate) mod shape;
 pub(crate) mod version;

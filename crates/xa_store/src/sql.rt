@@ -21,11 +21,16 @@ pub(crate) const TOKENS: &str = "SELECT digest, role FROM tokens WHERE number = 
 pub(crate) const DOCUMENT: &str =
     "SELECT body, active FROM policies WHERE number = ?1 AND kind = ?2 AND id = ?3 AND version = ?4";
 
-/// The keys of a domain's documents, and which of these are active.
+/// A row for each of a domain's documents, to count them. The primary key's index has the column that is
+/// shown, so no text is read.
+pub(crate) const DOCUMENT_KINDS: &str = "SELECT kind FROM policies WHERE number = ?1";
+
+/// The keys of a domain's documents, and which of these are active. That index doesn't have the latter, so
+/// each row is read whole, with its text.
 pub(crate) const DOCUMENTS: &str =
     "SELECT kind, id, version, active FROM policies WHERE number = ?1 ORDER BY kind, id, version";
 
-/// The keys and the texts of a domain's active documents.
+/// The keys and the texts of a domain's active documents. The rows of the others are read whole as well.
 pub(crate) const ACTIVE_DOCUMENTS: &str =
     "SELECT kind, id, version, body FROM policies WHERE number = ?1 AND active = 1 ORDER BY kind, id, version";
 

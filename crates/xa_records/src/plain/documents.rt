@@ -3,8 +3,8 @@ ghost use Rattle.std.specs.Prelude.{◌≡◌, ℕ, List, false, map, nat_lt, fi
 ghost use Rattle.std.specs.Prelude.{IfOk, OnOk, OnErr, Some, None, option_map};
 ghost use Rattle.std.specs.FinMap.{contains_key, empty, entries, get, insert, len, remove};
 ghost use Rattle.xa_records.specs.DomainState.{StoredDocument};
-ghost use Rattle.xa_records.specs.Plain.{active_among, with_activity};
-ghost use Rattle.xa_records.specs.Readings.{listed_of};
+ghost use Rattle.xa_records.specs.Plain.{with_activity};
+ghost use Rattle.xa_records.specs.Readings.{active_among, listed_of};
 
 use crate::active_text::ActiveText;
 use crate::limits::MAX_DOCUMENTS;

@@ -13,7 +13,7 @@ use crate::gate::Gate;
 use crate::kept_view::KeptView;
 use crate::listed::Listed;
 use crate::plain::domain::PlainDomain;
-use crate::plain::raising::{may_be_reached, next_after};
+use crate::plain::raising::{is_at_most_greatest, next_after};
 use crate::refusal::{ChangeError, Failure, Refusal};
 use crate::upload::Upload;
 use std::alloc::{AllocError, Global};
@@ -60,6 +60,7 @@ impl Domains {
     }
 
     /// One domain, in which nothing has been put yet; the next that is made gets the number after its own.
+    /// `Store`, where the next number or the epoch would be above 2^63 - 1.
     pub(crate) fn of_one(
         alloc: Global,
         name: Text,
@@ -70,7 +71,7 @@ impl Domains {
         ensures held { OnOk result ((number + 1 < 2 ^ 63) × (epoch < 2 ^ 63)) }
         ensures store { IsErrOf result Store → IsGreatest number ⊎ (2 ^ 63 ≤ epoch) }
     {
-        if !may_be_reached(epoch) {
+        if !is_at_most_greatest(epoch) {
             return Err(Failure::Store);
         }
         let next = next_after(number)?;
@@ -111,7 +112,7 @@ impl Domains {
         let Some(domain) = self.by_name.get(name) else {
             return Ok(None);
         };
-        Ok(domain.document(alloc, key)?)
+        domain.document(alloc, key)
     }
 
     /// The domain's documents, if it is there.

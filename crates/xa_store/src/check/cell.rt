@@ -14,6 +14,9 @@ use std::str;
 use xa_policy::{Pattern, Version};
 use xa_records::is_domain_name;
 
+/// How many bytes a SHA-256 digest has (FIPS 180-4): that is what is kept of a token.
+const DIGEST_BYTES: usize = 32;
+
 /// Whether it is an epoch or a number, of which none is negative.
 pub(crate) fn is_count(number: i64) -> bool
     ensures { result ≡ is_count number }
@@ -28,7 +31,7 @@ fn is_assigned(next: i64, number: i64) -> bool
     is_count(number) && number < next
 }
 
-/// Whether it stands for a role, for a kind of documents or for a truth.
+/// Whether it stands for a role, for a kind of documents or for whether a document is active.
 fn is_bit(number: i64) -> bool
     ensures { result ≡ is_bit number }
 {
@@ -36,7 +39,7 @@ fn is_bit(number: i64) -> bool
 }
 
 /// Whether the bytes are UTF-8.
-pub(crate) fn is_text(bytes: &[u8]) -> bool
+fn is_text(bytes: &[u8]) -> bool
     ensures { result ≡ is_utf8 bytes.now }
 {
     str::from_utf8(bytes).is_ok()
@@ -128,7 +131,7 @@ pub(crate) fn holds_bytes(row: &Row, at: usize, wanted: &[u8]) -> bool
 pub(crate) fn holds_digest(row: &Row, at: usize) -> bool
     ensures { result ≡ holds_blob is_digest (column row.now at) }
 {
-    matches!(row.get_ref(at), Ok(ValueRef::Blob(bytes)) if bytes.len() == 32)
+    matches!(row.get_ref(at), Ok(ValueRef::Blob(bytes)) if bytes.len() == DIGEST_BYTES)
 }
 
 /// Whether the column holds a pattern of versions, or nothing.

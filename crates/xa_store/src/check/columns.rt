@@ -13,7 +13,7 @@ pub(crate) mod meta {
     pub(crate) const NEXT: usize = 2;
 }
 
-/// The columns of a domain, as `Kind::Domains` shows them.
+/// The columns of a domain, as `CheckedTable::Domains` shows them.
 pub(crate) mod domain {
     pub(crate) const NUMBER: usize = 0;
 
@@ -22,7 +22,7 @@ pub(crate) mod domain {
     pub(crate) const EPOCH: usize = 2;
 }
 
-/// The columns of a token, as `Kind::Tokens` shows them.
+/// The columns of a token, as `CheckedTable::Tokens` shows them.
 pub(crate) mod token {
     pub(crate) const NUMBER: usize = 1;
 
@@ -31,7 +31,7 @@ pub(crate) mod token {
     pub(crate) const ROLE: usize = 3;
 }
 
-/// The columns of a document, as `Kind::Documents` shows them.
+/// The columns of a document, as `CheckedTable::Documents` shows them.
 pub(crate) mod document {
     pub(crate) const NUMBER: usize = 1;
 
@@ -46,7 +46,7 @@ pub(crate) mod document {
     pub(crate) const ACTIVE: usize = 6;
 }
 
-/// The columns of a root, as `Kind::Roots` shows them.
+/// The columns of a root, as `CheckedTable::Roots` shows them.
 pub(crate) mod root {
     pub(crate) const NUMBER: usize = 0;
 
@@ -61,8 +61,8 @@ pub(crate) mod root {
     pub(crate) const LATEST: usize = 5;
 }
 
-/// The columns of a row of a source, as `Kind::Attributes` and `Kind::Sources` show them; the former has
-/// no issuer.
+/// The columns of a row of a source, as `CheckedTable::Attributes` and `CheckedTable::Sources` show them;
+/// the former has no issuer.
 pub(crate) mod source {
     pub(crate) const NUMBER: usize = 1;
 

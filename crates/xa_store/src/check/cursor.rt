@@ -5,11 +5,11 @@ ghost use Rattle.sqlite.specs.Held.{state};
 ghost use Rattle.sqlite.specs.Order.{Row as SqlRow};
 ghost use Rattle.sqlite.specs.State.{HasCleanDisk, IsUnchanged};
 ghost use Rattle.xa_store.specs.Check.{IsKeptOrUndone, Moves, SurvivesOver, TellsNext, TellsNumber, Walked};
-ghost use Rattle.xa_store.specs.Check.{comes_after, has_kind};
+ghost use Rattle.xa_store.specs.Check.{comes_after, has_table};
 
 use crate::check::row::{is_sound_row, row_number};
 use crate::error::OpenError;
-use crate::schema::kind::Kind;
+use crate::schema::checked_table::CheckedTable;
 use crate::schema::version::Checking;
 use sqlite::{Alter, Connection, Row, Rows};
 use std::alloc::Global;
@@ -27,17 +27,17 @@ fn comes_after(last: Option<i64>, number: i64) -> bool
 /// The number of the row, if it is a sound one that comes after the last.
 fn sound_number(
     alloc: Global,
-    kind: Kind,
+    table: CheckedTable,
     next: i64,
     last: Option<i64>,
     row: &Row,
 ) -> Result<i64, OpenError>
-    ensures { TellsNumber kind next last row.now result }
+    ensures { TellsNumber table next last row.now result }
 {
     let Some(number) = row_number(row) else {
         return Err(OpenError::Damaged);
     };
-    if is_sound_row(alloc, kind, next, row)? && comes_after(last, number) {
+    if is_sound_row(alloc, table, next, row)? && comes_after(last, number) {
         Ok(number)
     } else {
         Err(OpenError::Damaged)
@@ -47,23 +47,23 @@ fn sound_number(
 /// The number of the row at which the query stands, or none past the last.
 fn number_here<S: Alter>(
     alloc: Global,
-    kind: Kind,
+    table: CheckedTable,
     next: i64,
     last: Option<i64>,
     rows: &Rows<'_, S>,
 ) -> Result<Option<i64>, OpenError>
-    ensures { TellsNext kind next last (row_if rows.now.has_row rows.now.conn.now) result }
+    ensures { TellsNext table next last (row_if rows.now.has_row rows.now.conn.now) result }
 {
     match rows.get() {
-        Some(row) => Ok(Some(sound_number(alloc, kind, next, last, row)?)),
+        Some(row) => Ok(Some(sound_number(alloc, table, next, last, row)?)),
         None => Ok(None),
     }
 }
 
 /// The number of the next row, if there is one.
-fn next_number<S: Alter>(
+fn next_row_number<S: Alter>(
     alloc: Global,
-    kind: Kind,
+    table: CheckedTable,
     next: i64,
     last: Option<i64>,
     rows: &mut Rows<'_, S>,
@@ -76,28 +76,28 @@ fn next_number<S: Alter>(
         → IsKeptOrUndone S.Store rows.old.conn.now rows.new.conn.now }
     ensures moves { HasCleanDisk (state S.Store rows.new.conn.now)
         → (sql : List ℕ) → (given : List SqlRow) → HasGiven S.Store sql [] rows.old.conn.now given
-        → Moves S.Store kind next last rows.old.conn.now rows.new.conn.now sql given result }
+        → Moves S.Store table next last rows.old.conn.now rows.new.conn.now sql given result }
 {
     rows.advance()?;
-    number_here(alloc, kind, next, last, rows)
+    number_here(alloc, table, next, last, rows)
 }
 
 /// Checks all rows of the table, in the order of their numbers.
 pub(crate) fn walk<S: Alter>(
     alloc: Global,
     conn: &mut Connection<S>,
-    kind: Kind,
+    table: CheckedTable,
     checking: Checking,
 ) -> Result<(), OpenError>
-    requires { IsTrue (has_kind kind checking.version) }
-    ensures { Walked checking.version kind checking.next
+    requires { IsTrue (has_table table checking.version) }
+    ensures { Walked checking.version table checking.next
         (state S.Store conn.old) (state S.Store conn.new) result }
 {
     let mut last = None;
-    let mut rows = conn.query(kind.rows_query(), &[])?;
+    let mut rows = conn.query(table.rows_query(), &[])?;
     // bounded, so that it ends whatever the store shows; by its label the proof names the loop
     'rows: for _ in 0..u64::MAX {
-        match next_number(alloc, kind, checking.next, last, &mut rows)? {
+        match next_row_number(alloc, table, checking.next, last, &mut rows)? {
             Some(number) => last = Some(number),
             None => return Ok(()),
         }

@@ -7,7 +7,7 @@ ghost use Rattle.xa_store.specs.Opened.{schema_of};
 
 use crate::check::tables::check;
 use crate::error::OpenError;
-use crate::failure::failed_by;
+use crate::failure::error_of_statement;
 use crate::schema::version::SchemaVersion;
 use crate::sql;
 use sqlite::{Alter, Connection};
@@ -19,7 +19,7 @@ fn begin<S: Alter>(conn: &mut Connection<S>) -> Result<(), OpenError>
 {
     match conn.execute(sql::BEGIN, &[]) {
         Ok(_) => Ok(()),
-        Err(error) => Err(failed_by(error)),
+        Err(error) => Err(error_of_statement(error)),
     }
 }
 
@@ -32,11 +32,11 @@ fn end<S: Alter>(conn: &mut Connection<S>) -> Result<(), OpenError>
     }
     match conn.execute(sql::ROLLBACK, &[]) {
         Ok(_) => Ok(()),
-        Err(error) => Err(failed_by(error)),
+        Err(error) => Err(error_of_statement(error)),
     }
 }
 
-/// Checks the tables as those of that schema. They aren't these alone.
+/// Checks the tables as those of that schema. They aren't these alone: so it gives false.
 pub(crate) fn check_apart<S: Alter>(
     alloc: Global,
     conn: &mut Connection<S>,

@@ -1,4 +1,4 @@
-//! Which rows are those of a keeper, kind by kind.
+//! Which rows are those of a keeper, table by table.
 ghost use Rattle.std.specs.Prelude.{◌≡◌, IfOk};
 ghost use Rattle.sqlite.specs.Order.{column};
 ghost use Rattle.xa_notation.specs.Document.{document_of};
@@ -7,16 +7,17 @@ ghost use Rattle.xa_store.specs.Opened.{holds_blob, holds_int, holds_key, holds_
 ghost use Rattle.xa_store.specs.Opened.{holds_value, int_in, is_printed, is_sound_row};
 ghost use Rattle.xa_store.specs.Opened.{is_value, known_next, next_of, type_numbered};
 ghost use Rattle.xa_store.specs.Check.{counts_on, place_told};
-ghost use Rattle.xa_store.specs.declared.schema.kind.Kind.TheVariants.{Attributes, Documents, Domains};
-ghost use Rattle.xa_store.specs.declared.schema.kind.Kind.TheVariants.{Roots, Sources, Tokens};
+ghost use Rattle.xa_store.specs.declared.schema.checked_table.CheckedTable.TheVariants.{Attributes, Sources};
+ghost use Rattle.xa_store.specs.declared.schema.checked_table.CheckedTable.TheVariants.{Documents, Domains};
+ghost use Rattle.xa_store.specs.declared.schema.checked_table.CheckedTable.TheVariants.{Roots, Tokens};
 
 use crate::check::cell::{
     holds_assigned, holds_bit, holds_bytes, holds_count, holds_digest, holds_name, holds_number,
     holds_pattern_if_any, holds_text, holds_text_if_any, holds_version_if_any,
 };
 use crate::check::columns::{ROWID, document, domain, meta, root, source, source_place, token};
-use crate::query::column::type_numbered;
-use crate::schema::kind::Kind;
+use crate::query::cell::type_numbered;
+use crate::schema::checked_table::CheckedTable;
 use crate::schema::version::SchemaVersion;
 use sqlite::Row;
 use sqlite::types::ValueRef;
@@ -125,7 +126,7 @@ fn is_printed(alloc: Global, data_type: DataType, text: &str) -> Result<bool, Al
 }
 
 /// Whether the text is the printed one of a value of the type of that number.
-fn is_typed(alloc: Global, number: i64, text: &str) -> Result<bool, AllocError>
+fn is_value(alloc: Global, number: i64, text: &str) -> Result<bool, AllocError>
     ensures { IfOk result (λ b. b ≡ is_value text.now (type_numbered number)) }
 {
     match type_numbered(number) {
@@ -136,21 +137,21 @@ fn is_typed(alloc: Global, number: i64, text: &str) -> Result<bool, AllocError>
 
 /// Whether the bytes are the printed text of a value of the type of that number.
 #[tactic(auto, using(crate::proofs::OpenedLemmas::is_text, crate::proofs::OpenedLemmas::is_no_text))]
-fn is_value(alloc: Global, number: i64, bytes: &[u8]) -> Result<bool, AllocError>
+fn is_value_text(alloc: Global, number: i64, bytes: &[u8]) -> Result<bool, AllocError>
     ensures { IfOk result (λ b. b ≡ holds_value number bytes.now) }
 {
     match str::from_utf8(bytes) {
-        Ok(text) => is_typed(alloc, number, text),
+        Ok(text) => is_value(alloc, number, text),
         Err(_) => Ok(false),
     }
 }
 
 /// Whether a column holds the printed text of a value of the type of that number.
-fn holds_value(alloc: Global, row: &Row, number: i64) -> Result<bool, AllocError>
+fn holds_value_text(alloc: Global, row: &Row, number: i64) -> Result<bool, AllocError>
     ensures { IfOk result (λ b. b ≡ holds_text (holds_value number) (column row.now 7)) }
 {
     match row.get_ref(source::VALUE) {
-        Ok(ValueRef::Text(bytes)) => is_value(alloc, number, bytes),
+        Ok(ValueRef::Text(bytes)) => is_value_text(alloc, number, bytes),
         _ => Ok(false),
     }
 }
@@ -161,7 +162,7 @@ fn holds_typed_value(alloc: Global, row: &Row) -> Result<bool, AllocError>
         b ≡ holds_int (λ number. holds_text (holds_value number) (column row.now 7)) (column row.now 6)) }
 {
     match row.get_ref(source::VALUE_TYPE) {
-        Ok(ValueRef::Int(number)) => holds_value(alloc, row, number),
+        Ok(ValueRef::Int(number)) => holds_value_text(alloc, row, number),
         _ => Ok(false),
     }
 }
@@ -191,19 +192,19 @@ fn is_source(alloc: Global, next: i64, row: &Row) -> Result<bool, AllocError>
 /// Whether the row is one of that table, where `next` is the number of the next domain.
 pub(crate) fn is_sound_row(
     alloc: Global,
-    kind: Kind,
+    table: CheckedTable,
     next: i64,
     row: &Row,
 ) -> Result<bool, AllocError>
-    ensures { IfOk result (λ b. b ≡ is_sound_row kind next row.now) }
+    ensures { IfOk result (λ b. b ≡ is_sound_row table next row.now) }
 {
-    match kind {
-        Kind::Domains => Ok(is_domain(next, row)),
-        Kind::Tokens => Ok(is_token(next, row)),
-        Kind::Documents => is_document(alloc, next, row),
-        Kind::Roots => Ok(is_root(next, row)),
-        Kind::Attributes => is_attribute(alloc, next, row),
-        Kind::Sources => is_source(alloc, next, row),
+    match table {
+        CheckedTable::Domains => Ok(is_domain(next, row)),
+        CheckedTable::Tokens => Ok(is_token(next, row)),
+        CheckedTable::Documents => is_document(alloc, next, row),
+        CheckedTable::Roots => Ok(is_root(next, row)),
+        CheckedTable::Attributes => is_attribute(alloc, next, row),
+        CheckedTable::Sources => is_source(alloc, next, row),
     }
 }
 

@@ -4,10 +4,11 @@ ghost use Rattle.std.specs.List.{list_all};
 ghost use Rattle.sqlite.specs.Effect.{IsDatabase};
 ghost use Rattle.sqlite.specs.Held.{state};
 ghost use Rattle.xa_store.specs.Check.{AreSources, AsksOver, Checked, CheckedBy, FindsIn, FindsRest};
-ghost use Rattle.xa_store.specs.Check.{GivesNext, Orders, TellsSound, counts, has_kind, no_place};
-ghost use Rattle.xa_store.specs.Opened.{are_counted, is_left_empty, is_sound, is_sound_table, kinds_in};
-ghost use Rattle.xa_store.specs.Opened.{known_next, place_in, read_meta, sources_in, tree_of};
-ghost use Rattle.xa_store.specs.declared.schema.kind.Kind.TheVariants.{Documents, Domains, Roots, Tokens};
+ghost use Rattle.xa_store.specs.Check.{GivesNext, Orders, TellsSound, counts, has_table, no_place};
+ghost use Rattle.xa_store.specs.Opened.{are_counted, is_left_empty, is_sound, is_sound_table};
+ghost use Rattle.xa_store.specs.Opened.{known_next, place_in, read_meta, sources_in, tables_in, tree_of};
+ghost use Rattle.xa_store.specs.declared.schema.checked_table.CheckedTable.TheVariants.{Documents, Domains};
+ghost use Rattle.xa_store.specs.declared.schema.checked_table.CheckedTable.TheVariants.{Roots, Tokens};
 ghost use Rattle.xa_store.specs.declared.schema.version.SchemaVersion.{SchemaVersion as Version};
 ghost use Rattle.xa_store.specs.declared.schema.version.SchemaVersion.TheVariants.{Schema2};
 
@@ -16,7 +17,7 @@ use crate::check::cursor::walk;
 use crate::check::query::rows_of;
 use crate::check::row::{Place, follows, known_next, place_of};
 use crate::error::OpenError;
-use crate::schema::kind::Kind;
+use crate::schema::checked_table::CheckedTable;
 use crate::schema::version::{Checking, SchemaVersion};
 use crate::sql;
 use sqlite::{Alter, Connection, Row};
@@ -34,14 +35,14 @@ fn sound_or_damaged(sound: bool) -> Result<(), OpenError>
 }
 
 /// Checks whether the table has its rows in the order of their numbers, of tables of a schema that has it.
-fn check_order<S: Alter>(conn: &mut Connection<S>, kind: Kind) -> Result<(), OpenError>
-    ensures asks { (version : Version) → IsTrue (has_kind kind version)
+fn check_order<S: Alter>(conn: &mut Connection<S>, table: CheckedTable) -> Result<(), OpenError>
+    ensures asks { (version : Version) → IsTrue (has_table table version)
         → AsksOver S.Store version conn.old conn.new result }
-    ensures finds { (version : Version) → IsTrue (has_kind kind version)
+    ensures finds { (version : Version) → IsTrue (has_table table version)
         → FindsIn S.Store version conn.old conn.new
-        (Orders kind (state S.Store conn.old).now.trees result) }
+        (Orders table (state S.Store conn.old).now.trees result) }
 {
-    let rows = rows_of(conn, kind.order_query())?;
+    let rows = rows_of(conn, table.order_query())?;
     sound_or_damaged(rows.is_empty())
 }
 
@@ -50,27 +51,27 @@ fn check_order<S: Alter>(conn: &mut Connection<S>, kind: Kind) -> Result<(), Ope
 fn check_table<S: Alter>(
     alloc: Global,
     conn: &mut Connection<S>,
-    kind: Kind,
+    table: CheckedTable,
     checking: Checking,
 ) -> Result<(), OpenError>
-    requires { IsTrue (has_kind kind checking.version) }
-    ensures { CheckedBy checking.version (λ db. is_sound_table db checking.next kind)
+    requires { IsTrue (has_table table checking.version) }
+    ensures { CheckedBy checking.version (λ db. is_sound_table db checking.next table)
         (state S.Store conn.old) (state S.Store conn.new) result }
 {
-    walk(alloc, conn, kind, checking)?;
-    check_order(conn, kind)
+    walk(alloc, conn, table, checking)?;
+    check_order(conn, table)
 }
 
 /// Checks two tables, one after the other. For the proof, which puts two checks together at a time.
 fn check_both<S: Alter>(
     alloc: Global,
     conn: &mut Connection<S>,
-    first: Kind,
-    second: Kind,
+    first: CheckedTable,
+    second: CheckedTable,
     checking: Checking,
 ) -> Result<(), OpenError>
-    requires first { IsTrue (has_kind first checking.version) }
-    requires second { IsTrue (has_kind second checking.version) }
+    requires first { IsTrue (has_table first checking.version) }
+    requires second { IsTrue (has_table second checking.version) }
     ensures { CheckedBy checking.version
         (λ db. is_sound_table db checking.next first && is_sound_table db checking.next second)
         (state S.Store conn.old) (state S.Store conn.new) result }
@@ -91,8 +92,20 @@ fn check_common<S: Alter>(
         && (is_sound_table db checking.next Documents && is_sound_table db checking.next Roots))
         (state S.Store conn.old) (state S.Store conn.new) result }
 {
-    check_both(alloc, conn, Kind::Domains, Kind::Tokens, checking)?;
-    check_both(alloc, conn, Kind::Documents, Kind::Roots, checking)
+    check_both(
+        alloc,
+        conn,
+        CheckedTable::Domains,
+        CheckedTable::Tokens,
+        checking,
+    )?;
+    check_both(
+        alloc,
+        conn,
+        CheckedTable::Documents,
+        CheckedTable::Roots,
+        checking,
+    )
 }
 
 /// Checks all tables that have rows, but the first.
@@ -103,7 +116,7 @@ fn check_tables<S: Alter>(
     checking: Checking,
 ) -> Result<(), OpenError>
     ensures { CheckedBy checking.version
-        (λ db. list_all (is_sound_table db checking.next) (kinds_in checking.version))
+        (λ db. list_all (is_sound_table db checking.next) (tables_in checking.version))
         (state S.Store conn.old) (state S.Store conn.new) result }
 {
     check_common(alloc, conn, checking)?;
@@ -128,7 +141,7 @@ fn are_places(rows: &[Row]) -> bool
     true
 }
 
-/// Checks the places of the rows of sources.
+/// Checks the places of the rows of sources. Those of all domains are in memory at once.
 fn check_places<S: Alter>(conn: &mut Connection<S>, version: SchemaVersion) -> Result<(), OpenError>
     ensures asks { AsksOver S.Store version conn.old conn.new result }
     ensures finds { FindsIn S.Store version conn.old conn.new

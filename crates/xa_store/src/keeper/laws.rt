@@ -1,9 +1,11 @@
-//! Laws of a keeper that was opened: it is sound while its store is open, and after a stop it opens
-//! again.
-ghost use Rattle.std.specs.Prelude.{IsTrue};
+//! Laws of a keeper that was opened: it is sound while its store is open, its tables open again, and so does
+//! what a stop has left of them. A law does nothing when it runs.
+ghost use Rattle.std.specs.Prelude.{◌≡◌, Ok, IsTrue};
 ghost use Rattle.sqlite.specs.Held.{state};
 ghost use Rattle.xa_store.specs.Keeper.{IsSound};
+ghost use Rattle.xa_store.specs.Opened.{opened};
 ghost use Rattle.xa_store.specs.Reopening.{Reopens};
+ghost use Rattle.xa_store.specs.declared.schema.version.SchemaVersion.TheVariants.{Schema2};
 
 use crate::keeper::SqlRecords;
 use crate::schema::shape::is_ours;
@@ -11,12 +13,18 @@ use sqlite::{Alter, Connection};
 
 impl<S: Alter> SqlRecords<S> {
     /// Law: while its store is open, a keeper whose store had a keeper's tables and no others is sound.
-    pub fn is_sound_while_open(&self)
+    pub fn stays_sound_while_open(&self)
         ensures { IsTrue self.now.ours → IsTrue (state S.Store self.now.conn).is_open
             → IsSound S.Store self.now }
     {
+        // for the proof: what the invariant says of the fields
         let _ours = self.ours;
     }
+
+    /// Law: the tables of a sound keeper open again.
+    pub fn opens_again(&self)
+        ensures { IsSound S.Store self.now → opened Schema2 (state S.Store self.now.conn).now.trees ≡ Ok tt }
+    {}
 
     /// Law: a connection that was just opened over what a stop of this keeper has left rests on a
     /// keeper's tables, which `open` finds sound, and they mean one of the maps that the stop may leave,
@@ -25,6 +33,7 @@ impl<S: Alter> SqlRecords<S> {
     pub fn reopens<T: Alter>(&self, conn: &Connection<T>)
         ensures { Reopens (state S.Store self.now.conn) (state T.Store conn.now) }
     {
+        // for the proof: an open store holds a database, and its schema is ours or isn't
         let _is_ours = is_ours(conn.schema());
     }
 }

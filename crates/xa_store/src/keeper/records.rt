@@ -11,7 +11,7 @@ use crate::change::token::{drop_token_in, put_token_in};
 use crate::keeper::SqlRecords;
 use crate::keeper::health::{after_change, after_reading};
 use crate::query::name::names_in;
-use crate::query::reading::{gate_in, listing_in, text_in, view_in};
+use crate::query::reading::{gate_by_name, listing_by_name, text_by_name, view_by_name};
 use sqlite::Alter;
 use std::alloc::Global;
 use xa_decide::SourceRow;
@@ -39,12 +39,12 @@ impl<S: Alter> Records for SqlRecords<S> {
     }
 
     fn gate(&mut self, alloc: Global, name: &Text) -> Result<Option<Gate>, Failure> {
-        let read = gate_in(alloc, &mut self.conn, name);
+        let read = gate_by_name(alloc, &mut self.conn, name);
         after_reading(&mut self.conn, &mut self.health, read)
     }
 
     fn view(&mut self, alloc: Global, name: &Text) -> Result<Option<KeptView>, Failure> {
-        let read = view_in(alloc, &mut self.conn, name);
+        let read = view_by_name(alloc, &mut self.conn, name);
         after_reading(&mut self.conn, &mut self.health, read)
     }
 
@@ -54,12 +54,12 @@ impl<S: Alter> Records for SqlRecords<S> {
         name: &Text,
         key: &DocumentKey,
     ) -> Result<Option<Items<u8>>, Failure> {
-        let read = text_in(alloc, &mut self.conn, name, key);
+        let read = text_by_name(alloc, &mut self.conn, name, key);
         after_reading(&mut self.conn, &mut self.health, read)
     }
 
     fn list(&mut self, alloc: Global, name: &Text) -> Result<Option<Items<Listed>>, Failure> {
-        let read = listing_in(alloc, &mut self.conn, name);
+        let read = listing_by_name(alloc, &mut self.conn, name);
         after_reading(&mut self.conn, &mut self.health, read)
     }
 

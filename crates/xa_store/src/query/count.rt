@@ -22,8 +22,8 @@ pub(crate) fn token_count<S: Alter>(conn: &mut Connection<S>, number: i64) -> Re
 }
 
 /// How many documents the domain of that number has: 1,024 at most. In time in proportion to that,
-/// whatever their texts.
-#[tactic(auto, using(crate::proofs::DocumentLemmas::documents_plain))]
+/// whatever their texts, which aren't read.
+#[tactic(auto, using(crate::proofs::DocumentLemmas::kinds_plain))]
 pub(crate) fn document_count<S: Alter>(
     conn: &mut Connection<S>,
     number: i64,
@@ -32,6 +32,6 @@ pub(crate) fn document_count<S: Alter>(
     ensures reads { ReadsRows S.Store conn.old conn.new result
         (λ rows n. n ≡ len (state_at rows number).documents) }
 {
-    let rows = query_rows(conn, sql::DOCUMENTS, &[ValueRef::Int(number)])?;
+    let rows = query_rows(conn, sql::DOCUMENT_KINDS, &[ValueRef::Int(number)])?;
     Ok(rows.as_slice().len())
 }

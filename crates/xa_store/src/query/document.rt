@@ -53,7 +53,8 @@ impl Keyed for ActiveText {
     }
 }
 
-/// The items in the order of their keys. SQL compares the texts of versions, and keys the numbers.
+/// The items in the order of their keys: n of them take some n log n comparisons at most. SQL compares the
+/// texts of versions, and keys the numbers.
 fn in_order<T: Keyed>(items: Items<T>) -> Vec<T>
     ensures same { IsPermutation items result.items }
     ensures sorted { IsSorted (on T.Keyed.key_of compare_keys) result.items }
@@ -108,7 +109,7 @@ pub(crate) fn document_of<S: Alter>(
 }
 
 /// All documents of the domain of that number, in the order of their keys; there are 1,024 at most. In
-/// time in proportion to their number, whatever their texts.
+/// time in proportion to their texts, since each row is read whole.
 #[tactic(auto, using(crate::proofs::DocumentLemmas::documents_plain))]
 pub(crate) fn documents_of<S: Alter>(
     alloc: Global,
@@ -125,8 +126,8 @@ pub(crate) fn documents_of<S: Alter>(
 }
 
 /// The texts of the active documents of the domain of that number, in the order of their keys. A view
-/// gives them all, so one query reads them all: the texts and the longest of them once more. In time in
-/// proportion to the texts.
+/// gives them all, so one query reads them all; the connection has them once more, in a buffer that it
+/// keeps. In time in proportion to all texts of the domain, active or not, since each row is read whole.
 #[tactic(auto, using(crate::proofs::DocumentLemmas::active_plain))]
 pub(crate) fn active_texts_of<S: Alter>(
     alloc: Global,

@@ -3,7 +3,7 @@ ghost use Rattle.std.specs.Prelude.{IfOk};
 ghost use Rattle.xa_store.specs.Lookup.{FindsDomain, TellDomain};
 ghost use Rattle.xa_store.specs.Quiet.{OnlyReadsOver, ReadsRows};
 
-use crate::query::column::number_in;
+use crate::query::cell::number_in;
 use crate::query::columns::domain_found;
 use crate::query::query_rows;
 use crate::sql;

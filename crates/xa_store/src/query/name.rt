@@ -5,7 +5,7 @@ ghost use Rattle.xa_store.specs.Quiet.{OnlyReadsOver, ReadsRows};
 ghost use Rattle.xa_store.specs.Columns.{name_told};
 ghost use Rattle.xa_store.specs.World.{kept_of};
 
-use crate::query::column::text_in;
+use crate::query::cell::text_in;
 use crate::query::query_rows;
 use crate::query::row::{FromRow, read_all};
 use crate::sql;

@@ -25,20 +25,20 @@ fn natural(number: i64) -> Result<u64, Failure>
 }
 
 /// The gate of the domain that was found, by its tokens.
-fn gate_by(domain: DomainFound, tokens: Items<Token>) -> Result<Option<Gate>, Failure>
+fn gate_by(domain: DomainFound, tokens: Items<Token>) -> Result<Gate, Failure>
     ensures { IfOk result (TellsGate domain tokens) }
 {
     let number = natural(domain.number)?;
     let epoch = natural(domain.epoch)?;
-    Ok(Some(Gate {
+    Ok(Gate {
         number,
         epoch,
         tokens,
-    }))
+    })
 }
 
 /// What lets messages into the domain: two queries, and time in proportion to its tokens.
-pub(crate) fn gate_in<S: Alter>(
+pub(crate) fn gate_by_name<S: Alter>(
     alloc: Global,
     conn: &mut Connection<S>,
     name: &Text,
@@ -52,11 +52,12 @@ pub(crate) fn gate_in<S: Alter>(
         return Ok(None);
     };
     let tokens = tokens_of(alloc, conn, domain.number)?;
-    gate_by(domain, tokens)
+    let gate = gate_by(domain, tokens)?;
+    Ok(Some(gate))
 }
 
 /// The text of the document of that key: two point queries, and time in proportion to the text.
-pub(crate) fn text_in<S: Alter>(
+pub(crate) fn text_by_name<S: Alter>(
     alloc: Global,
     conn: &mut Connection<S>,
     name: &Text,
@@ -90,8 +91,9 @@ fn text_at<S: Alter>(
     }
 }
 
-/// The domain's documents, in the order of their keys: two queries, and time in proportion to their number.
-pub(crate) fn listing_in<S: Alter>(
+/// The domain's documents, in the order of their keys: two queries, and time in proportion to their texts,
+/// since the query for them reads each row whole.
+pub(crate) fn listing_by_name<S: Alter>(
     alloc: Global,
     conn: &mut Connection<S>,
     name: &Text,
@@ -108,8 +110,9 @@ pub(crate) fn listing_in<S: Alter>(
     Ok(Some(listed))
 }
 
-/// What decides in the domain: four queries, and time in proportion to its active texts and its source.
-pub(crate) fn view_in<S: Alter>(
+/// What decides in the domain: four queries, and time in proportion to all its texts, active or not, and to
+/// its source.
+pub(crate) fn view_by_name<S: Alter>(
     alloc: Global,
     conn: &mut Connection<S>,
     name: &Text,

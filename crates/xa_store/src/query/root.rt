@@ -4,7 +4,7 @@ ghost use Rattle.xa_store.specs.Quiet.{OnlyReadsOver, ReadsRows};
 ghost use Rattle.xa_store.specs.Columns.{root_told};
 ghost use Rattle.xa_store.specs.World.{state_at};
 
-use crate::query::column::{kind_in, pattern_if_any, text_in, version_if_any};
+use crate::query::cell::{kind_in, pattern_if_any, text_in, version_if_any};
 use crate::query::columns::root_row;
 use crate::query::query_rows;
 use crate::query::row::{FromRow, read_one};

@@ -7,7 +7,7 @@ ghost use Rattle.xa_store.specs.Rows.{value_in};
 ghost use Rattle.xa_store.specs.Columns.{source_told};
 ghost use Rattle.xa_store.specs.World.{state_at};
 
-use crate::query::column::{text_if_any, text_in, type_in};
+use crate::query::cell::{text_if_any, text_in, type_in};
 use crate::query::columns::source_row;
 use crate::query::query_rows;
 use crate::query::row::{FromRow, read_all};

@@ -9,7 +9,7 @@ ghost use Rattle.xa_store.specs.Quiet.{OnlyReadsOver, ReadsRows};
 ghost use Rattle.xa_store.specs.Columns.{role_told, token_told};
 ghost use Rattle.xa_store.specs.World.{state_at};
 
-use crate::query::column::{bytes_in, role_in};
+use crate::query::cell::{bytes_in, role_in};
 use crate::query::columns::token_row;
 use crate::query::query_rows;
 use crate::query::row::{FromRow, read_all, read_one};

@@ -2,7 +2,7 @@
 ghost use Rattle.std.specs.Prelude.{◌≡◌, ◌↔◌, ◌∷◌, [], true, IsTrue, codes};
 ghost use Rattle.sqlite.specs.Collation.TheVariants.{Binary};
 ghost use Rattle.sqlite.specs.declared.types.Value.TheVariants.{Null};
-ghost use Rattle.xa_store.specs.Tables.{attributes, domains, meta, needed, policies};
+ghost use Rattle.xa_store.specs.Tables.{attributes, domains, meta, needed, own_key, policies};
 ghost use Rattle.xa_store.specs.Tables.{roots, sources, text_if_any, tokens};
 
 use sqlite_schema::schema::{Column, Kind};
@@ -35,15 +35,36 @@ fn is_column(column: &Column, name: &str, kind: Kind, not_null: bool) -> bool
         && column.collation == Collation::Binary
 }
 
+/// Whether the column has this name, takes values of this kind alone, and never NULL.
+fn is_needed(column: &Column, name: &str, kind: Kind) -> bool
+    ensures { IsTrue result ↔ (column.now ≡ needed name.now kind) }
+{
+    is_column(column, name, kind, true)
+}
+
+/// Whether the column has this name, and takes texts alone, or NULL.
+fn is_text_if_any(column: &Column, name: &str) -> bool
+    ensures { IsTrue result ↔ (column.now ≡ text_if_any name.now) }
+{
+    is_column(column, name, Kind::Text, false)
+}
+
+/// Whether the column has this name, and is declared as an INTEGER PRIMARY KEY is.
+fn is_own_key(column: &Column, name: &str) -> bool
+    ensures { IsTrue result ↔ (column.now ≡ own_key name.now) }
+{
+    is_column(column, name, Kind::Integer, false)
+}
+
 /// Whether they are the columns of the table `meta`.
 pub(crate) fn are_meta_columns(columns: &[Column]) -> bool
     ensures { IsTrue result ↔ (columns.now ≡ meta.columns) }
 {
     match columns {
         [id, schema, next] => {
-            is_column(id, "id", Kind::Integer, false)
-                && is_column(schema, "schema_no", Kind::Integer, true)
-                && is_column(next, "next_number", Kind::Integer, true)
+            is_own_key(id, "id")
+                && is_needed(schema, "schema_no", Kind::Integer)
+                && is_needed(next, "next_number", Kind::Integer)
         }
         _ => false,
     }
@@ -55,9 +76,9 @@ pub(crate) fn are_domain_columns(columns: &[Column]) -> bool
 {
     match columns {
         [number, name, epoch] => {
-            is_column(number, "number", Kind::Integer, false)
-                && is_column(name, "name", Kind::Text, true)
-                && is_column(epoch, "epoch", Kind::Integer, true)
+            is_own_key(number, "number")
+                && is_needed(name, "name", Kind::Text)
+                && is_needed(epoch, "epoch", Kind::Integer)
         }
         _ => false,
     }
@@ -69,9 +90,9 @@ pub(crate) fn are_token_columns(columns: &[Column]) -> bool
 {
     match columns {
         [number, digest, role] => {
-            is_column(number, "number", Kind::Integer, true)
-                && is_column(digest, "digest", Kind::Blob, true)
-                && is_column(role, "role", Kind::Integer, true)
+            is_needed(number, "number", Kind::Integer)
+                && is_needed(digest, "digest", Kind::Blob)
+                && is_needed(role, "role", Kind::Integer)
         }
         _ => false,
     }
@@ -84,10 +105,10 @@ fn are_key_columns(number: &Column, kind: &Column, id: &Column, version: &Column
         × (kind.now ≡ needed (codes "kind") Kind.Integer) × (id.now ≡ needed (codes "id") Kind.Text)
         × (version.now ≡ needed (codes "version") Kind.Text)) }
 {
-    is_column(number, "number", Kind::Integer, true)
-        && is_column(kind, "kind", Kind::Integer, true)
-        && is_column(id, "id", Kind::Text, true)
-        && is_column(version, "version", Kind::Text, true)
+    is_needed(number, "number", Kind::Integer)
+        && is_needed(kind, "kind", Kind::Integer)
+        && is_needed(id, "id", Kind::Text)
+        && is_needed(version, "version", Kind::Text)
 }
 
 /// Whether they are the columns of a document's text and of whether it is active.
@@ -96,7 +117,7 @@ fn are_body_columns(body: &Column, active: &Column) -> bool
         ↔ ((body.now ≡ needed (codes "body") Kind.Blob)
         × (active.now ≡ needed (codes "active") Kind.Integer)) }
 {
-    is_column(body, "body", Kind::Blob, true) && is_column(active, "active", Kind::Integer, true)
+    is_needed(body, "body", Kind::Blob) && is_needed(active, "active", Kind::Integer)
 }
 
 /// Whether they are the columns of the table `policies`.
@@ -117,12 +138,12 @@ pub(crate) fn are_root_columns(columns: &[Column]) -> bool
 {
     match columns {
         [number, kind, id, pattern, earliest, latest] => {
-            is_column(number, "number", Kind::Integer, false)
-                && is_column(kind, "kind", Kind::Integer, true)
-                && is_column(id, "id", Kind::Text, true)
-                && is_column(pattern, "pattern", Kind::Text, false)
-                && is_column(earliest, "earliest", Kind::Text, false)
-                && is_column(latest, "latest", Kind::Text, false)
+            is_own_key(number, "number")
+                && is_needed(kind, "kind", Kind::Integer)
+                && is_needed(id, "id", Kind::Text)
+                && is_text_if_any(pattern, "pattern")
+                && is_text_if_any(earliest, "earliest")
+                && is_text_if_any(latest, "latest")
         }
         _ => false,
     }
@@ -135,9 +156,9 @@ fn are_name_columns(category: &Column, entity: &Column, attribute: &Column) -> b
         × (entity.now ≡ needed (codes "entity") Kind.Text)
         × (attribute.now ≡ needed (codes "attribute") Kind.Text)) }
 {
-    is_column(category, "category", Kind::Text, true)
-        && is_column(entity, "entity", Kind::Text, true)
-        && is_column(attribute, "attribute", Kind::Text, true)
+    is_needed(category, "category", Kind::Text)
+        && is_needed(entity, "entity", Kind::Text)
+        && is_needed(attribute, "attribute", Kind::Text)
 }
 
 /// Whether they are the columns of a value.
@@ -146,8 +167,7 @@ fn are_value_columns(value_type: &Column, value: &Column) -> bool
         ↔ ((value_type.now ≡ needed (codes "value_type") Kind.Integer)
         × (value.now ≡ needed (codes "value") Kind.Text)) }
 {
-    is_column(value_type, "value_type", Kind::Integer, true)
-        && is_column(value, "value", Kind::Text, true)
+    is_needed(value_type, "value_type", Kind::Integer) && is_needed(value, "value", Kind::Text)
 }
 
 /// Whether they are the columns of a value and of its issuer.
@@ -156,9 +176,7 @@ fn are_issued_value_columns(value_type: &Column, value: &Column, issuer: &Column
         ↔ ((value_type.now ≡ needed (codes "value_type") Kind.Integer)
         × (value.now ≡ needed (codes "value") Kind.Text) × (issuer.now ≡ text_if_any (codes "issuer"))) }
 {
-    is_column(value_type, "value_type", Kind::Integer, true)
-        && is_column(value, "value", Kind::Text, true)
-        && is_column(issuer, "issuer", Kind::Text, false)
+    are_value_columns(value_type, value) && is_text_if_any(issuer, "issuer")
 }
 
 /// Whether they are the columns of a row's domain and place.
@@ -167,8 +185,7 @@ fn are_place_columns(number: &Column, place: &Column) -> bool
         ↔ ((number.now ≡ needed (codes "number") Kind.Integer)
         × (place.now ≡ needed (codes "place") Kind.Integer)) }
 {
-    is_column(number, "number", Kind::Integer, true)
-        && is_column(place, "place", Kind::Integer, true)
+    is_needed(number, "number", Kind::Integer) && is_needed(place, "place", Kind::Integer)
 }
 
 /// Whether they are the columns of the table `attributes`.

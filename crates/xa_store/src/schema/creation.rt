@@ -8,7 +8,7 @@ ghost use Rattle.xa_store.specs.Execution.{StaysInside};
 ghost use Rattle.xa_store.specs.declared.schema.creation.Part.TheVariants as parts;
 
 use crate::error::OpenError;
-use crate::failure::failed_by;
+use crate::failure::error_of_statement;
 use crate::sql;
 use crate::step::execution::execute_in;
 use sqlite::{Alter, Connection, Transaction};
@@ -54,7 +54,7 @@ impl Part {
 }
 
 /// Makes that part.
-fn take<S: Alter>(tx: &mut Transaction<'_, S>, part: Part) -> Result<(), Failure>
+fn make_part<S: Alter>(tx: &mut Transaction<'_, S>, part: Part) -> Result<(), Failure>
     ensures same_reference { tx.new.conn.ghost_name ≡ tx.old.conn.ghost_name }
     ensures stays { StaysInside (state S.Store tx.old.conn.now) (state S.Store tx.new.conn.now) result }
     ensures makes { HasCleanDisk (state S.Store tx.new.conn.now)
@@ -65,8 +65,8 @@ fn take<S: Alter>(tx: &mut Transaction<'_, S>, part: Part) -> Result<(), Failure
     execute_in(tx, part.statement(), &[])
 }
 
-/// The tables of domains and of what each has by its own number.
-fn take_front<S: Alter>(tx: &mut Transaction<'_, S>) -> Result<(), Failure>
+/// Makes the first four tables. All parts are made in two halves for the proof alone.
+fn make_first_parts<S: Alter>(tx: &mut Transaction<'_, S>) -> Result<(), Failure>
     ensures same_reference { tx.new.conn.ghost_name ≡ tx.old.conn.ghost_name }
     ensures stays { StaysInside (state S.Store tx.old.conn.now) (state S.Store tx.new.conn.now) result }
     ensures makes { HasCleanDisk (state S.Store tx.new.conn.now)
@@ -74,14 +74,14 @@ fn take_front<S: Alter>(tx: &mut Transaction<'_, S>) -> Result<(), Failure>
         → IsBefore parts.Meta (state S.Store tx.old.conn.now).now
         → OnOk result (IsBefore parts.Roots (state S.Store tx.new.conn.now).now) }
 {
-    take(tx, Part::Meta)?;
-    take(tx, Part::Domains)?;
-    take(tx, Part::Tokens)?;
-    take(tx, Part::Policies)
+    make_part(tx, Part::Meta)?;
+    make_part(tx, Part::Domains)?;
+    make_part(tx, Part::Tokens)?;
+    make_part(tx, Part::Policies)
 }
 
-/// The other tables, and the first row.
-fn take_back<S: Alter>(tx: &mut Transaction<'_, S>) -> Result<(), Failure>
+/// Makes the other tables, and the first row.
+fn make_other_parts<S: Alter>(tx: &mut Transaction<'_, S>) -> Result<(), Failure>
     ensures same_reference { tx.new.conn.ghost_name ≡ tx.old.conn.ghost_name }
     ensures stays { StaysInside (state S.Store tx.old.conn.now) (state S.Store tx.new.conn.now) result }
     ensures makes { HasCleanDisk (state S.Store tx.new.conn.now)
@@ -89,14 +89,14 @@ fn take_back<S: Alter>(tx: &mut Transaction<'_, S>) -> Result<(), Failure>
         → IsBefore parts.Roots (state S.Store tx.old.conn.now).now
         → OnOk result (AreMade (state S.Store tx.new.conn.now).now) }
 {
-    take(tx, Part::Roots)?;
-    take(tx, Part::Attributes)?;
-    take(tx, Part::Sources)?;
-    take(tx, Part::FirstRow)
+    make_part(tx, Part::Roots)?;
+    make_part(tx, Part::Attributes)?;
+    make_part(tx, Part::Sources)?;
+    make_part(tx, Part::FirstRow)
 }
 
-/// All parts, one after another.
-fn take_all<S: Alter>(tx: &mut Transaction<'_, S>) -> Result<(), Failure>
+/// Makes all parts, one after another.
+fn make_parts<S: Alter>(tx: &mut Transaction<'_, S>) -> Result<(), Failure>
     ensures same_reference { tx.new.conn.ghost_name ≡ tx.old.conn.ghost_name }
     ensures stays { StaysInside (state S.Store tx.old.conn.now) (state S.Store tx.new.conn.now) result }
     ensures makes { HasCleanDisk (state S.Store tx.new.conn.now)
@@ -104,8 +104,8 @@ fn take_all<S: Alter>(tx: &mut Transaction<'_, S>) -> Result<(), Failure>
         → IsBefore parts.Meta (state S.Store tx.old.conn.now).now
         → OnOk result (AreMade (state S.Store tx.new.conn.now).now) }
 {
-    take_front(tx)?;
-    take_back(tx)
+    make_first_parts(tx)?;
+    make_other_parts(tx)
 }
 
 /// Makes the tables, all or none.
@@ -116,9 +116,9 @@ pub(crate) fn make<S: Alter>(conn: &mut Connection<S>) -> Result<(), OpenError>
         return Err(OpenError::Store);
     }
     let mut tx = conn.transaction();
-    take_all(&mut tx)?;
+    make_parts(&mut tx)?;
     match tx.commit() {
         Ok(()) => Ok(()),
-        Err(error) => Err(failed_by(error)),
+        Err(error) => Err(error_of_statement(error)),
     }
 }

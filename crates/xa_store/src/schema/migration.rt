@@ -9,7 +9,7 @@ ghost use Rattle.xa_store.specs.Execution.{StaysInside};
 ghost use Rattle.xa_store.specs.declared.schema.migration.Stage.TheVariants as stages;
 
 use crate::error::OpenError;
-use crate::failure::failed_by;
+use crate::failure::error_of_statement;
 use crate::schema::creation::Part;
 use crate::sql;
 use crate::step::execution::execute_in;
@@ -82,6 +82,6 @@ pub(crate) fn migrate<S: Alter>(conn: &mut Connection<S>) -> Result<(), OpenErro
     take_all(&mut tx)?;
     match tx.commit() {
         Ok(()) => Ok(()),
-        Err(error) => Err(failed_by(error)),
+        Err(error) => Err(error_of_statement(error)),
     }
 }

@@ -1,5 +1,6 @@
-//! The tables and indexes that a keeper's store has, with no others beside them. Some groups of tables or
-//! indexes have a function of their own for the prover alone: `are_meta_domains_and_tokens`,
+//! The tables and indexes that a keeper's store has, with no others beside them. The trees of tables and of
+//! their automatic indexes are numbered from 0 as they are made: a table's index comes after it. Some groups
+//! of tables or indexes have a function of their own for the prover alone: `are_meta_domains_and_tokens`,
 //! `are_policies_roots_and_attributes`, `are_name_and_digest_indexes` and `are_key_and_place_indexes`.
 ghost use Rattle.std.specs.Prelude.{◌≡◌, ◌↔◌, false, [], ◌∷◌, None, Some, IsTrue, codes};
 ghost use Rattle.xa_store.specs.Opened.{schema_of};

@@ -3,7 +3,7 @@ ghost use Rattle.std.specs.Prelude.{◌≡◌};
 ghost use Rattle.xa_store.specs.Check.{places_text_of};
 ghost use Rattle.xa_store.specs.Opened.{number_of, sources_in};
 
-use crate::schema::kind::Kind;
+use crate::schema::checked_table::CheckedTable;
 use crate::sql;
 
 /// A schema of a keeper's tables.
@@ -27,12 +27,12 @@ impl SchemaVersion {
     }
 
     /// The table that has the rows of sources.
-    pub(crate) fn sources(self) -> Kind
+    pub(crate) fn sources(self) -> CheckedTable
         ensures { result ≡ sources_in self }
     {
         match self {
-            SchemaVersion::Schema1 => Kind::Attributes,
-            SchemaVersion::Schema2 => Kind::Sources,
+            SchemaVersion::Schema1 => CheckedTable::Attributes,
+            SchemaVersion::Schema2 => CheckedTable::Sources,
         }
     }
 

@@ -14,4 +14,4 @@ returns-in-Ok g c =
 
 pub returns-in-Err : goal.returns-in-Err
 returns-in-Err g c =
-    made_failed (state g.S.Store c.args.conn.now) (state g.S.Store c.make.new.conn) c.requires (state g.S.Store c.check_as.new.conn) c.in_ok-make.field-0 c.in_ok-make.ensures c.failed_after.result c.in-Err.error c.failed_after.ensures c.in-Err.ensures
+    made_failed (state g.S.Store c.args.conn.now) (state g.S.Store c.make.new.conn) c.requires (state g.S.Store c.check_as.new.conn) c.in_ok-make.field-0 c.in_ok-make.ensures c.error_after_making.result c.in-Err.error c.error_after_making.ensures c.in-Err.ensures

@@ -5,7 +5,7 @@ use Rattle.xa_store.proofs.query.query_rows.Goals as goal
 
 pub returns-in-Ok-clause-only_reads : goal.returns-in-Ok-clause-only_reads
 returns-in-Ok-clause-only_reads g c = record {
-  quiet = c.ask.ensures.only_reads.quiet;
+  quiet = c.rows_shown.ensures.only_reads.quiet;
   opens = λ clean.
-      (shown_open c.args.sql.now (bound c.args.given.now) (state g.S.Store c.args.conn.now) (state g.S.Store c.ask.new.conn) c.in-Ok.rows.items (c.in-Ok.ensures.shows clean)).1;
+      (shown_open c.args.sql.now (bound c.args.given.now) (state g.S.Store c.args.conn.now) (state g.S.Store c.rows_shown.new.conn) c.in-Ok.rows.items (c.in-Ok.ensures.shows clean)).1;
 }

@@ -1,16 +1,16 @@
 use Rattle.std.proofs.Common.{◌≡◌, true, ◌∙◌, ℕ, ℤ, inl, inr, List, [], Option, Result, Ok, Err, refl, sym, subst, subst₂, rules, w64}
-use Rattle.xa_store.proofs.Common.{to_z-of_z, FitsSigned, HasGiven, Held, state, Row, State, HasCleanDisk, FailsToQuery, Survives, CommitsShowing, Ghosts, Trees, Error, OpenError, Kind, SchemaVersion}
-use Rattle.xa_store.specs.Check.{has_kind, refused_as, text_of, Moves, Walked, Walks}
+use Rattle.xa_store.proofs.Common.{to_z-of_z, FitsSigned, HasGiven, Held, state, Row, State, HasCleanDisk, FailsToQuery, Survives, CommitsShowing, Ghosts, Trees, Error, OpenError, CheckedTable, SchemaVersion}
+use Rattle.xa_store.specs.Check.{has_table, refused_as, text_of, Moves, Walked, Walks}
 use Rattle.xa_store.specs.Opening.{IsFailure}
 use Rattle.xa_store.proofs.AskedLemmas.{a_failure, failed_fits, not_asked, survives_asked}
 use Rattle.xa_store.proofs.StreamLemmas.{checked_plain, keeps_begun, keeps_on, stands_begun, survived_on, walk_ended, walk_goes_on, walk_stopped}
 use Rattle.xa_store.proofs.check.cursor.walk.Goals as goal
 
-walks_failed : (kind : Kind) (next : ℤ) (db : Trees) (e : OpenError) → IsFailure e → Walks kind next db (Err e)
+walks_failed : (kind : CheckedTable) (next : ℤ) (db : Trees) (e : OpenError) → IsFailure e → Walks kind next db (Err e)
 walks_failed kind next db e (inl is) = subst (λ o. Walks kind next db (Err o)) (sym is) tt
 walks_failed kind next db e (inr is) = subst (λ o. Walks kind next db (Err o)) (sym is) tt
 
-not_walked : (version : SchemaVersion) (kind : Kind) → has_kind kind version ≡ true → (next : ℤ) (old new : State) (e : Error) → Survives old new (CommitsShowing (text_of kind) [] old)
+not_walked : (version : SchemaVersion) (kind : CheckedTable) → has_table kind version ≡ true → (next : ℤ) (old new : State) (e : Error) → Survives old new (CommitsShowing (text_of kind) [] old)
     → (HasCleanDisk new → FailsToQuery (text_of kind) [] old new e) → Walked version kind next old new (Err (refused_as e))
 not_walked version kind has next old new e survives failed = record {
   asks = not_asked (text_of kind) [] old new version (checked_plain kind version has) survives e (refused_as e) failed;
@@ -18,7 +18,7 @@ not_walked version kind has next old new e survives failed = record {
 }
 
 -- what is known of a row that is asked for
-abbrev Moved : {S : Type 0} → Ghosts S → Kind → ℤ → Option ℤ → Held S → Held S → Result (Option ℤ) OpenError → Type 0
+abbrev Moved : {S : Type 0} → Ghosts S → CheckedTable → ℤ → Option ℤ → Held S → Held S → Result (Option ℤ) OpenError → Type 0
 Moved g kind next last old new r = HasCleanDisk (state g new) → (sql : List ℕ) → (given : List Row) → HasGiven g sql [] old given → Moves g kind next last old new sql given r
 
 pub returns-in_err-rows : goal.returns-in_err-rows
@@ -28,49 +28,49 @@ returns-in_err-rows g c =
     let new = state g.S.Store c.query.follows.lender-at-none in
     let refused = rw (c.rows_query.ensures, c.in_err-rows.was) at c.query.follows.holds-at-none in
     let is : c.from_residual.result ≡ Err (refused_as e) = search rules in
-    rw is (not_walked c.args.checking.version c.args.kind c.requires c.args.checking.next old new e refused.survives refused.err)
+    rw is (not_walked c.args.checking.version c.args.table c.requires c.args.checking.next old new e refused.survives refused.err)
 
 pub rows-init : goal.rows-init
 rows-init g c =
     let made = c.in_ok-rows.ensures in (
       refl,
-      survives_asked (text_of c.args.kind) [] (state g.S.Store c.args.conn.now) _ c.args.checking.version (checked_plain c.args.kind c.args.checking.version c.requires) (rw c.rows_query.ensures at made.survives),
-      keeps_begun g.S.Store c.args.checking.version c.args.kind c.requires c.args.checking.next c.args.conn.now c.in_ok-rows.rows.conn.now (rw c.rows_query.ensures at made.begun),
-      stands_begun g.S.Store c.args.checking.version c.args.kind c.requires _ c.args.conn.now c.in_ok-rows.rows.conn.now (rw c.rows_query.ensures at made.begun),
+      survives_asked (text_of c.args.table) [] (state g.S.Store c.args.conn.now) _ c.args.checking.version (checked_plain c.args.table c.args.checking.version c.requires) (rw c.rows_query.ensures at made.survives),
+      keeps_begun g.S.Store c.args.checking.version c.args.table c.requires c.args.checking.next c.args.conn.now c.in_ok-rows.rows.conn.now (rw c.rows_query.ensures at made.begun),
+      stands_begun g.S.Store c.args.checking.version c.args.table c.requires _ c.args.conn.now c.in_ok-rows.rows.conn.now (rw c.rows_query.ensures at made.begun),
     )
 
 pub returns-in_err-number : goal.returns-in_err-number
 returns-in_err-number g c =
     let held = to_z-of_z w64 c.args.checking.next (search rules) in
     let told = c.in_err-number.ensures in
-    let last = c.next_number.new.rows.conn.now in
+    let last = c.next_row_number.new.rows.conn.now in
     let same : last ≡ c.conn-in_err-number-1.given.0 = search rules in
     let is : c.from_residual-in_err-number.result ≡ Err c.in_err-number.field-0.0 = search rules in
-    rw is (subst (λ h. Walked c.args.checking.version c.args.kind c.args.checking.next (state g.S.Store c.args.conn.now) (state g.S.Store h) (Err c.in_err-number.field-0.0)) same
-    (walk_stopped g.S.Store c.args.checking.version c.args.kind c.requires c.args.checking.next c.args.conn.now c.rows.rows.conn.now last c.rows.last c.rows.invariant.1 c.rows.invariant.2 c.rows.invariant.3 told.kept told.survives c.in_err-number.field-0.0
-    (subst (λ n. Moved g.S.Store c.args.kind n c.rows.last c.rows.rows.conn.now last (Err c.in_err-number.field-0.0)) held told.moves)))
+    rw is (subst (λ h. Walked c.args.checking.version c.args.table c.args.checking.next (state g.S.Store c.args.conn.now) (state g.S.Store h) (Err c.in_err-number.field-0.0)) same
+    (walk_stopped g.S.Store c.args.checking.version c.args.table c.requires c.args.checking.next c.args.conn.now c.rows.rows.conn.now last c.rows.last c.rows.invariant.1 c.rows.invariant.2 c.rows.invariant.3 told.kept told.survives c.in_err-number.field-0.0
+    (subst (λ n. Moved g.S.Store c.args.table n c.rows.last c.rows.rows.conn.now last (Err c.in_err-number.field-0.0)) held told.moves)))
 
 pub returns-in-None : goal.returns-in-None
 returns-in-None g c =
     let held = to_z-of_z w64 c.args.checking.next (search rules) in
     let told = c.in_ok-number.ensures in
-    let last = c.next_number.new.rows.conn.now in
+    let last = c.next_row_number.new.rows.conn.now in
     let same : last ≡ c.conn-in-None-1.given.0 = search rules in
-    subst (λ h. Walked c.args.checking.version c.args.kind c.args.checking.next (state g.S.Store c.args.conn.now) (state g.S.Store h) (Ok tt)) same
-    (walk_ended g.S.Store c.args.checking.version c.args.kind c.requires c.args.checking.next c.args.conn.now c.rows.rows.conn.now last c.rows.last c.rows.invariant.1 c.rows.invariant.2 c.rows.invariant.3 told.kept told.survives
-    (subst₂ (λ n o. Moved g.S.Store c.args.kind n c.rows.last c.rows.rows.conn.now last (Ok o)) held c.in-None.is told.moves) told.same)
+    subst (λ h. Walked c.args.checking.version c.args.table c.args.checking.next (state g.S.Store c.args.conn.now) (state g.S.Store h) (Ok tt)) same
+    (walk_ended g.S.Store c.args.checking.version c.args.table c.requires c.args.checking.next c.args.conn.now c.rows.rows.conn.now last c.rows.last c.rows.invariant.1 c.rows.invariant.2 c.rows.invariant.3 told.kept told.survives
+    (subst₂ (λ n o. Moved g.S.Store c.args.table n c.rows.last c.rows.rows.conn.now last (Ok o)) held c.in-None.is told.moves) told.same)
 
 pub rows-preserved : goal.rows-preserved
 rows-preserved g c =
     let held = to_z-of_z w64 c.args.checking.next (search rules) in
     let told = c.in_ok-number.ensures in
-    let last = c.next_number.new.rows.conn.now in
+    let last = c.next_row_number.new.rows.conn.now in
     let fits : FitsSigned w64 c.in-Some.number = search rules in
-    let moved = subst₂ (λ n o. Moved g.S.Store c.args.kind n c.rows.last c.rows.rows.conn.now last (Ok o)) held c.in-Some.is told.moves in
-    let on = walk_goes_on g.S.Store c.args.checking.version c.args.kind c.requires c.args.checking.next c.args.conn.now c.rows.rows.conn.now last c.rows.last c.rows.invariant.1 c.rows.invariant.2 c.rows.invariant.3 told.kept told.survives c.in-Some.number fits moved told.same in
+    let moved = subst₂ (λ n o. Moved g.S.Store c.args.table n c.rows.last c.rows.rows.conn.now last (Ok o)) held c.in-Some.is told.moves in
+    let on = walk_goes_on g.S.Store c.args.checking.version c.args.table c.requires c.args.checking.next c.args.conn.now c.rows.rows.conn.now last c.rows.last c.rows.invariant.1 c.rows.invariant.2 c.rows.invariant.3 told.kept told.survives c.in-Some.number fits moved told.same in
     rw (to_z-of_z w64 c.in-Some.number fits) (
       told.same_reference ∙ c.rows.invariant.0,
-      survived_on g.S.Store c.args.checking.version c.args.kind c.requires c.args.checking.next c.args.conn.now c.rows.rows.conn.now last c.rows.last c.rows.invariant.1 c.rows.invariant.2 c.rows.invariant.3 told.kept told.survives,
-      keeps_on g.S.Store c.args.checking.version c.args.kind c.requires c.args.checking.next c.args.conn.now c.rows.rows.conn.now last c.rows.last c.rows.invariant.1 c.rows.invariant.2 c.rows.invariant.3 told.kept told.survives told.same,
+      survived_on g.S.Store c.args.checking.version c.args.table c.requires c.args.checking.next c.args.conn.now c.rows.rows.conn.now last c.rows.last c.rows.invariant.1 c.rows.invariant.2 c.rows.invariant.3 told.kept told.survives,
+      keeps_on g.S.Store c.args.checking.version c.args.table c.requires c.args.checking.next c.args.conn.now c.rows.rows.conn.now last c.rows.last c.rows.invariant.1 c.rows.invariant.2 c.rows.invariant.3 told.kept told.survives told.same,
       on,
     )

@@ -16,4 +16,4 @@ returns-in-Ok g c =
 pub returns-in-Err : goal.returns-in-Err
 returns-in-Err g c =
     let inside : IsTrue (state g.S.Store c.args.conn.now).in_transaction = search rules in
-    not_ended (state g.S.Store c.args.conn.now) (state g.S.Store c.execute.new.self) inside c.execute.ensures.survives c.failed_by.result c.failed_by.ensures
+    not_ended (state g.S.Store c.args.conn.now) (state g.S.Store c.execute.new.self) inside c.execute.ensures.survives c.error_of_statement.result c.error_of_statement.ensures

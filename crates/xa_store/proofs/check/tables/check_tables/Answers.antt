@@ -1,11 +1,11 @@
 use Rattle.std.proofs.Common.{◌≡◌, ◌&&◌, true, sym, subst}
 use Rattle.xa_store.proofs.Common.{state, is_sound_table, sources_in, Domains, Tokens, Documents, Roots}
-use Rattle.xa_store.specs.Check.{has_kind, CheckedBy}
+use Rattle.xa_store.specs.Check.{has_table, CheckedBy}
 use Rattle.xa_store.proofs.LoadLemmas.{all_tables, has_sources, checked_then}
 use Rattle.xa_store.proofs.check.tables.check_tables.Goals as goal
 
 pub check_table-requires : goal.check_table-requires
-check_table-requires g c = subst (λ kind. has_kind kind c.args.checking.version ≡ true) (sym c.sources.ensures) (has_sources c.args.checking.version)
+check_table-requires g c = subst (λ kind. has_table kind c.args.checking.version ≡ true) (sym c.sources.ensures) (has_sources c.args.checking.version)
 
 pub returns : goal.returns
 returns g c =

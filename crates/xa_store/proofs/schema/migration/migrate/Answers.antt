@@ -18,6 +18,6 @@ returns-in-Err g c =
     let begun = c.transaction-tx.ensures.begun in
     let last = c.commit.new.self.0 in
     let same : last ≡ c.conn-2-1.given.0 = search rules in
-    subst (λ h. Migrated {X = Unit {0}} (state g.S.Store c.args.conn.now) (state g.S.Store h) (Err c.failed_by.result)) same
+    subst (λ h. Migrated {X = Unit {0}} (state g.S.Store c.args.conn.now) (state g.S.Store h) (Err c.error_of_statement.result)) same
     (unmigrated g.S.Store c.args.conn.now c.take_all.new.tx.conn.now last (rw begun at c.in_ok-take_all.ensures.stays.survives) (rw begun at c.in_ok-take_all.ensures.stays.kept) c.commit.ensures.survives (rw begun at c.in_ok-take_all.ensures.moves)
-    c.failed_by.result c.in-Err.error c.failed_by.ensures (λ clean. (rw begun at c.in_ok-take_all.ensures.stays.inside) clean refl) c.commit.ensures.ended c.in-Err.ensures.err)
+    c.error_of_statement.result c.in-Err.error c.error_of_statement.ensures (λ clean. (rw begun at c.in_ok-take_all.ensures.stays.inside) clean refl) c.commit.ensures.ended c.in-Err.ensures.err)

@@ -1,6 +1,6 @@
 use Rattle.std.proofs.Common.{◌≡◌, [], ◌++◌, sym, ap, ◌∙◌, rules}
 use Rattle.std.specs.FinMap.{entries}
-use Rattle.xa_records.specs.Plain.{active_among}
+use Rattle.xa_records.specs.Readings.{active_among}
 use Rattle.xa_records.proofs.OrderLemmas.{keys_exact, keys_total}
 use Rattle.xa_records.proofs.TreeLemmas as map_lemmas
 use Rattle.xa_records.proofs.plain.documents.Documents.active_texts.Goals as goal

@@ -1,6 +1,6 @@
 use Rattle.std.proofs.Common.{◌≡◌, ◌++◌}
 use Rattle.std.specs.FinMap.{entries}
-use Rattle.xa_records.specs.Plain.{active_among}
+use Rattle.xa_records.specs.Readings.{active_among}
 use Rattle.xa_records.proofs.plain.documents.Documents.active_texts.Given as goal
 
 abbrev pub invariant-loop-key : goal.invariant-loop-key

@@ -2,7 +2,7 @@ use Rattle.std.proofs.Common.{⊎_elim, sym, subst, arith}
 use Rattle.xa_store.proofs.Common.{IsPlain, understood, state, never_commits, clean_if_open}
 use Rattle.sqlite.specs.Values.{bound}
 use Rattle.xa_store.proofs.AskLemmas.{asked_open, asked_same, asked_stays}
-use Rattle.xa_store.proofs.query.ask.Goals as goal
+use Rattle.xa_store.proofs.query.rows_shown.Goals as goal
 
 pub returns-clause-only_reads : goal.returns-clause-only_reads
 returns-clause-only_reads g c =

@@ -2,7 +2,7 @@ use Rattle.std.proofs.Common.{IsTrue, subst}
 use Rattle.xa_store.proofs.Common.{state}
 use Rattle.xa_store.specs.Keeper.{IsSound}
 use Rattle.xa_store.proofs.ReopeningLemmas.{sound_while_open}
-use Rattle.xa_store.proofs.keeper.SqlRecords.is_sound_while_open.Goals as goal
+use Rattle.xa_store.proofs.keeper.SqlRecords.stays_sound_while_open.Goals as goal
 
 pub returns : goal.returns
 returns g c =

@@ -1,29 +1,31 @@
-use Rattle.std.proofs.Common.{◌≡◌, None, Some, rules, to_z, of_z, w64, ap, subst, ◌∙◌}
-use Rattle.xa_store.proofs.Common.{state, view_of_state, rows_of, state_at}
+use Rattle.std.proofs.Common.{◌≡◌, None, Some, rules, w64, ap, subst}
+use Rattle.xa_store.proofs.Common.{to_z-of_z, state, text_in, rows_of, state_at}
 use Rattle.xa_store.specs.Lookup.{FindsDomain}
 use Rattle.xa_store.proofs.QuietLemmas.{ours_between, rows_between}
-use Rattle.xa_store.proofs.ReadingLemmas.{view_absent, view_there}
-use Rattle.xa_store.proofs.query.reading.view_in.Goals as goal
+use Rattle.xa_store.proofs.FoundLemmas.{becomes}
+use Rattle.xa_store.proofs.ReadingLemmas.{text_absent, text_there}
+use Rattle.xa_store.proofs.query.reading.text_by_name.Goals as goal
 
 pub returns-in_default-clause-reads : goal.returns-in_default-clause-reads
 returns-in_default-clause-reads g c clean ours =
     let none : c.in_ok-found.found ≡ None = search rules in
     let rows = rows_of (state g.S.Store c.args.conn.now).now.trees in
-    view_absent rows c.args.name.now (subst (FindsDomain c.args.name.now rows) none (c.in_ok-found.ensures.finds clean ours))
+    text_absent rows c.args.name.now c.args.key.now (subst (FindsDomain c.args.name.now rows) none (c.in_ok-found.ensures.finds clean ours))
 
 pub returns-clause-reads : goal.returns-clause-reads
 returns-clause-reads g c clean ours =
     let old = state g.S.Store c.args.conn.now in
     let middle = state g.S.Store c.domain_named.new.conn in
-    let new = state g.S.Store c.view_at.new.conn in
+    let new = state g.S.Store c.text_at.new.conn in
     let name = c.args.name.now in
     let domain = c.in-Some.domain in
-    let n = (let same_n : to_z w64 (of_z w64 domain.number) ≡ domain.number = search rules in same_n) in
+    let n = to_z-of_z w64 domain.number (search rules) in
     let first = c.in_ok-found.ensures.only_reads.quiet in
     let opens = c.in_ok-found.ensures.only_reads.opens in
-    let second = c.in_ok-view.ensures.only_reads.quiet in
+    let second = c.text_at.ensures.only_reads.quiet in
     let there : c.in_ok-found.found ≡ Some domain = search rules in
     let is = subst (FindsDomain name (rows_of old.now.trees)) there (c.in_ok-found.ensures.finds (second.clean clean) ours) in
     let between = ours_between old middle new first opens second clean ours in
     let same = rows_between old middle new first opens second clean ours in
-    view_there (rows_of old.now.trees) name domain is c.in_ok-view.view ((rw n at (c.in_ok-view.ensures.reads clean between)) ∙ ap (λ w. view_of_state (state_at w domain.number)) same)
+    let key = c.args.key.now in
+    becomes c.text_at.result _ _ (text_there (rows_of old.now.trees) name domain is key _ (ap (λ w. text_in key (state_at w domain.number)) same)) (rw n at (c.text_at.ensures.reads clean between))

@@ -1,12 +1,12 @@
-//! The kinds of rows that are checked when a store is opened: a table each.
+//! The tables whose rows are checked one by one when a store is opened, each by two queries.
 ghost use Rattle.std.specs.Prelude.{◌≡◌};
 ghost use Rattle.xa_store.specs.Check.{order_text_of, text_of};
 
 use crate::sql;
 
-/// A table whose rows are checked one by one.
+/// A table whose rows are checked one by one: each but the first.
 #[derive(Clone, Copy, Debug)]
-pub(crate) enum Kind {
+pub(crate) enum CheckedTable {
     /// The domains, by their numbers.
     Domains,
     /// The digests of their tokens.
@@ -21,19 +21,19 @@ pub(crate) enum Kind {
     Sources,
 }
 
-impl Kind {
+impl CheckedTable {
     /// The query of all rows of the table, in the order of their rowids. A bare column of a row's own
     /// key is its rowid.
     pub(crate) fn rows_query(self) -> &'static str
         ensures { result.now ≡ text_of self }
     {
         match self {
-            Kind::Domains => sql::DOMAIN_ROWS,
-            Kind::Tokens => sql::TOKEN_ROWS,
-            Kind::Documents => sql::DOCUMENT_ROWS,
-            Kind::Roots => sql::ROOT_ROWS,
-            Kind::Attributes => sql::ATTRIBUTE_ROWS,
-            Kind::Sources => sql::SOURCE_ROWS,
+            CheckedTable::Domains => sql::DOMAIN_ROWS,
+            CheckedTable::Tokens => sql::TOKEN_ROWS,
+            CheckedTable::Documents => sql::DOCUMENT_ROWS,
+            CheckedTable::Roots => sql::ROOT_ROWS,
+            CheckedTable::Attributes => sql::ATTRIBUTE_ROWS,
+            CheckedTable::Sources => sql::SOURCE_ROWS,
         }
     }
 
@@ -45,12 +45,12 @@ impl Kind {
         ensures { result.now ≡ order_text_of self }
     {
         match self {
-            Kind::Domains => sql::DOMAIN_ORDER,
-            Kind::Tokens => sql::TOKEN_ORDER,
-            Kind::Documents => sql::DOCUMENT_ORDER,
-            Kind::Roots => sql::ROOT_ORDER,
-            Kind::Attributes => sql::ATTRIBUTE_ORDER,
-            Kind::Sources => sql::SOURCE_ORDER,
+            CheckedTable::Domains => sql::DOMAIN_ORDER,
+            CheckedTable::Tokens => sql::TOKEN_ORDER,
+            CheckedTable::Documents => sql::DOCUMENT_ORDER,
+            CheckedTable::Roots => sql::ROOT_ORDER,
+            CheckedTable::Attributes => sql::ATTRIBUTE_ORDER,
+            CheckedTable::Sources => sql::SOURCE_ORDER,
         }
     }
 }

@@ -3,7 +3,7 @@ use Rattle.xa_store.proofs.Common.{to_z-of_z, state, listing_of_state, rows_of, 
 use Rattle.xa_store.specs.Lookup.{FindsDomain}
 use Rattle.xa_store.proofs.QuietLemmas.{ours_between, rows_between}
 use Rattle.xa_store.proofs.ReadingLemmas.{listing_absent, listing_there}
-use Rattle.xa_store.proofs.query.reading.listing_in.Goals as goal
+use Rattle.xa_store.proofs.query.reading.listing_by_name.Goals as goal
 
 pub returns-in_default-clause-reads : goal.returns-in_default-clause-reads
 returns-in_default-clause-reads g c clean ours =

@@ -1,4 +1,5 @@
-//! Columns as values: numbers, texts, flags, roles, kinds, data types, versions and patterns.
+//! What one column of a row holds, as a value: a number, a text, bytes, a flag, a role, a kind of documents,
+//! a data type, a version or a pattern.
 ghost use Rattle.std.specs.Prelude.{◌≡◌, option_and_then, IfOk};
 ghost use Rattle.sqlite.specs.Order.{column};
 ghost use Rattle.sqlite.specs.declared.types.Value.TheVariants.{Int};

@@ -2,7 +2,7 @@ use Rattle.std.proofs.Common.{rules, w64}
 use Rattle.xa_store.proofs.Common.{to_z-of_z}
 use Rattle.xa_records.specs.declared.refusal.Failure.TheVariants.{Store}
 use Rattle.xa_store.proofs.ColumnNumbers.{type_read}
-use Rattle.xa_store.proofs.query.column.type_in.Goals as goal
+use Rattle.xa_store.proofs.query.cell.type_in.Goals as goal
 
 pub returns : goal.returns
 returns c =

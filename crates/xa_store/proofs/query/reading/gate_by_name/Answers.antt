@@ -1,10 +1,9 @@
 use Rattle.std.proofs.Common.{◌≡◌, None, Some, map, rules, w64, ap, subst, ◌∙◌}
-use Rattle.xa_store.proofs.Common.{to_z-of_z, state, entries, gate_of, token_of, rows_of, state_at, world_of}
-use Rattle.xa_store.specs.Lookup.{FindsDomain, TellsGate}
+use Rattle.xa_store.proofs.Common.{to_z-of_z, state, entries, token_of, rows_of, state_at}
+use Rattle.xa_store.specs.Lookup.{FindsDomain}
 use Rattle.xa_store.proofs.QuietLemmas.{ours_between, rows_between}
-use Rattle.xa_store.proofs.FoundLemmas.{finds_in}
 use Rattle.xa_store.proofs.ReadingLemmas.{gate_absent, gate_is}
-use Rattle.xa_store.proofs.query.reading.gate_in.Goals as goal
+use Rattle.xa_store.proofs.query.reading.gate_by_name.Goals as goal
 
 pub returns-in_default-clause-reads : goal.returns-in_default-clause-reads
 returns-in_default-clause-reads g c clean ours =
@@ -29,4 +28,4 @@ returns-clause-reads g c clean ours =
     let same = rows_between old middle new first opens second clean ours in
     let tokens = c.in_ok-tokens.tokens in
     let told = (rw n at (c.in_ok-tokens.ensures.reads clean between)) ∙ ap (λ w. map token_of (entries (state_at w domain.number).tokens)) same in
-    finds_in (TellsGate domain tokens) (λ gate. gate ≡ gate_of name (world_of old.now.trees)) (gate_is (rows_of old.now.trees) name domain is tokens told) c.gate_by.result c.gate_by.ensures
+    gate_is (rows_of old.now.trees) name domain is tokens told c.in_ok-gate.gate c.in_ok-gate.ensures

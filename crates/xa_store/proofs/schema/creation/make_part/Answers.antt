@@ -1,6 +1,6 @@
 use Rattle.xa_store.proofs.Common.{state}
 use Rattle.xa_store.proofs.MakingLemmas.{on_ok, taken}
-use Rattle.xa_store.proofs.schema.creation.take.Goals as goal
+use Rattle.xa_store.proofs.schema.creation.make_part.Goals as goal
 
 pub returns-clause-makes : goal.returns-clause-makes
 returns-clause-makes g c clean inside before =
