@@ -8,7 +8,8 @@ use Rattle.xa_http.specs.declared.fault.SessionFault.{SessionFault}
 use Rattle.xa_http.specs.declared.fault.SessionFault.TheVariants.{BadHead, BodyTooLarge, HeadTooLarge, TransferCoding}
 use Rattle.xa_http.specs.declared.message.Field.{Field}
 use Rattle.xa_http.specs.declared.message.Message.{Message}
-use Rattle.xa_http.specs.Length.{agreed_length, body_length, values_of}
+use Rattle.xa_http.specs.Fields.{values_of}
+use Rattle.xa_http.specs.Length.{agreed_length, body_length}
 use Rattle.xa_http.specs.Messages.{BeginsWithMessage, IsFirst, IsUnfinished, fields_of}
 use Rattle.xa_http.specs.Stream.{Stream}
 

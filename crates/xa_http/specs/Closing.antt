@@ -4,8 +4,8 @@ use Rattle.std.specs.List.{list_any}
 use Rattle.std.specs.Str.{str_eq_ignore_ascii_case}
 use Rattle.httparse.specs.Grammar.{trim_ows}
 use Rattle.xa_http.specs.declared.message.Field.{Field}
+use Rattle.xa_http.specs.Fields.{values_of}
 use Rattle.xa_http.specs.Parts.{parts_of}
-use Rattle.xa_http.specs.Length.{values_of}
 
 -- the members of a list that is written with commas, each without the white space around it (RFC 9110, section 5.6.1)
 abbrev pub members_of : List ℕ → List (List ℕ)

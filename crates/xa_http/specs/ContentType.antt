@@ -4,7 +4,7 @@ use Rattle.std.specs.Prelude.{ℕ, Bool, true, false, ◌||◌, List, [], ◌∷
 use Rattle.std.specs.Str.{str_eq_ignore_ascii_case}
 use Rattle.httparse.specs.Grammar.{trim_ows}
 use Rattle.xa_http.specs.declared.message.Field.{Field}
-use Rattle.xa_http.specs.Length.{values_of}
+use Rattle.xa_http.specs.Fields.{values_of}
 use Rattle.xa_http.specs.Parts.{before}
 
 -- the media type of a Content-Type without its parameters, the first of which follows a semicolon

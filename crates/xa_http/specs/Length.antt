@@ -1,21 +1,13 @@
 -- How many bytes of body a head announces, or why the message is not taken (RFC 9112, section 6).
-use Rattle.std.specs.Prelude.{ℕ, Bool, ◌&&◌, List, [], ◌∷◌, length, map, nat_lt}
+use Rattle.std.specs.Prelude.{ℕ, Bool, ◌&&◌, List, [], ◌∷◌, length, nat_lt}
 use Rattle.std.specs.Prelude.{nat_le, ◌==◌, if◌then◌else◌, Result, Ok, Err, codes}
-use Rattle.std.specs.List.{filter, list_all, list_any}
-use Rattle.std.specs.Str.{str_eq_ignore_ascii_case}
+use Rattle.std.specs.List.{list_all, list_any}
 use Rattle.std.specs.Str.Parse.{digits_value}
 use Rattle.xa_value.specs.Digits.{is_number}
 use Rattle.xa_http.specs.declared.message.Field.{Field}
 use Rattle.xa_http.specs.declared.fault.SessionFault.{SessionFault}
 use Rattle.xa_http.specs.declared.fault.SessionFault.TheVariants.{BadHead, BodyTooLarge, HeadTooLarge, TransferCoding}
-
--- the field has that name; names compare without letter case
-abbrev pub is_named : List ℕ → Field → Bool
-is_named name f = str_eq_ignore_ascii_case f.name name
-
--- the values of the fields of that name
-abbrev pub values_of : List ℕ → List Field → List (List ℕ)
-values_of name fields = map (λ f. f.value) (filter (is_named name) fields)
+use Rattle.xa_http.specs.Fields.{is_named, values_of}
 
 -- a body of that many bytes is taken, up to 524,288 bytes
 abbrev pub within_limit : ℕ → Result ℕ SessionFault

@@ -1,5 +1,6 @@
 pub mod Stream
 pub mod Fault
+pub mod Fields
 pub mod Length
 pub mod Parts
 pub mod Closing

@@ -20,8 +20,8 @@ use Rattle.xa_http.specs.ContentType.{allows_json}
 use Rattle.xa_http.specs.Parts.{before, from_first, parts_of}
 use Rattle.xa_http.specs.Table.{command_at, domain_part, reads_body, table}
 
--- the path of a target without its query: of an absolute one (RFC 9112, section 3.2.2) it begins at the slash after
--- the authority
+-- the path of a target without its query: of an absolute one (RFC 9112, section 3.2.2), with `http` in small letters
+-- alone, it begins at the slash after the authority
 unfoldable pub path_of_plain : List ℕ → Option (List ℕ)
 path_of_plain target =
     if bytes_eq (take 7 target) (codes "http://") then from_first 47 (drop 7 target) else Some target
@@ -85,7 +85,7 @@ named_by (to.Decide domain) = Some domain
 named_by (to.Domain domain command) = Some domain
 named_by (to.Document domain parts command) = Some domain
 
--- the body, if it is read, has a media type that is
+-- the body isn't read, or has a media type that is read
 abbrev pub takes_body : Message → Command → Bool
 takes_body message command = not (reads_body command) || allows_json message.fields
 

@@ -103,6 +103,7 @@ abbrev pub with_read : Result Scan InsertError → Place → RowsOf (RouteOf Pla
 with_read (Ok scan) place rows = placed (scan.pattern, route_from scan place) rows
 with_read (Err _) place rows = rows
 
+-- the routes of a router, and one more for each of these patterns that reads as one
 abbrev pub with_patterns : List (List ℕ × Place) → RowsOf (RouteOf Place) → RowsOf (RouteOf Place)
 with_patterns [] rows = rows
 with_patterns ((pattern, place) ∷ more) rows = with_patterns more (with_read (parse_route pattern) place rows)

@@ -40,54 +40,6 @@ pub(crate) enum Beginning {
     Fault(SessionFault),
 }
 
-/// What stands at the front of the bytes. Only bytes with more field lines than a head may have
-/// want the large room: they may still begin no head at all.
-#[tactic(auto, using(crate::proofs::FrontLemmas::too_many))]
-pub(crate) fn read_front(alloc: Global, held: &[u8]) -> Result<Beginning, AllocError>
-    ensures { IfOk result (IsFront held.now) }
-{
-    let mut room = [EMPTY_HEADER_SPAN; MAX_FIELDS];
-    if let Some(front) = front_in(alloc, held, &mut room)? {
-        return Ok(front);
-    }
-    let mut room = large_room(alloc)?;
-    match front_in(alloc, held, &mut room)? {
-        Some(front) => Ok(front),
-        None => unreachable!(),
-    }
-}
-
-/// What stands at the front of the bytes, unless they have more field lines than the room.
-#[tactic(auto, unfolding(crate::specs::Messages::IsFaulty))]
-fn front_in(
-    alloc: Global,
-    held: &[u8],
-    room: &mut [HeaderSpan],
-) -> Result<Option<Beginning>, AllocError>
-    ensures { IfOk result (λ front.
-        MatchOption front (RequestExceeds (length room.old) (window held.now)) (IsFront held.now)) }
-{
-    let window = window(held);
-    match parse_request(window, room) {
-        Ok(Status::Complete(spans)) => {
-            let message = read_head(alloc, window, &spans, room)?;
-            Ok(Some(whole_head(held, message, spans.len)))
-        }
-        Ok(Status::Partial) => Ok(Some(open_head(held))),
-        Err(Error::TooManyHeaders) => Ok(None),
-        Err(_) => Ok(Some(Beginning::Fault(SessionFault::BadHead))),
-    }
-}
-
-/// Room for the offsets of as many field lines as a head's bytes can have.
-fn large_room(alloc: Global) -> Result<Vec<HeaderSpan>, AllocError>
-    ensures { IfOk result (λ room. 8192 ≤ length room.items) }
-{
-    let mut room = Vec::new(alloc);
-    room.resize(HEADER_ROOM, EMPTY_HEADER_SPAN)?;
-    Ok(room)
-}
-
 /// The bytes in which a head is looked for.
 #[tactic(auto, using(std::proofs::lemmas::List::take_min), unfolding(crate::specs::Messages::window))]
 fn window(held: &[u8]) -> &[u8]
@@ -100,7 +52,7 @@ fn window(held: &[u8]) -> &[u8]
 
 /// The front of bytes in which no head is whole.
 #[tactic(auto, unfolding(crate::specs::Messages::IsUnfinished, crate::specs::Messages::IsFaulty))]
-fn open_head(held: &[u8]) -> Beginning
+fn front_of_open_head(held: &[u8]) -> Beginning
     requires none { HasNoRequest (window held.now) }
     requires open { MayBecomeRequest (window held.now) }
     ensures { IsFront held.now result }
@@ -125,6 +77,54 @@ fn whole_head(held: &[u8], message: Message, len: usize) -> Beginning
             body_len,
         }),
         Err(fault) => Beginning::Fault(fault),
+    }
+}
+
+/// What stands at the front of the bytes, unless they have more field lines than the room.
+#[tactic(auto, unfolding(crate::specs::Messages::IsFaulty))]
+fn front_in(
+    alloc: Global,
+    held: &[u8],
+    room: &mut [HeaderSpan],
+) -> Result<Option<Beginning>, AllocError>
+    ensures { IfOk result (λ front.
+        MatchOption front (RequestExceeds (length room.old) (window held.now)) (IsFront held.now)) }
+{
+    let window = window(held);
+    match parse_request(window, room) {
+        Ok(Status::Complete(spans)) => {
+            let message = read_head(alloc, window, &spans, room)?;
+            Ok(Some(whole_head(held, message, spans.len)))
+        }
+        Ok(Status::Partial) => Ok(Some(front_of_open_head(held))),
+        Err(Error::TooManyHeaders) => Ok(None),
+        Err(_) => Ok(Some(Beginning::Fault(SessionFault::BadHead))),
+    }
+}
+
+/// Room for the offsets of as many field lines as a head's bytes can have.
+fn large_room(alloc: Global) -> Result<Vec<HeaderSpan>, AllocError>
+    ensures { IfOk result (λ room. 8192 ≤ length room.items) }
+{
+    let mut room = Vec::new(alloc);
+    room.resize(HEADER_ROOM, EMPTY_HEADER_SPAN)?;
+    Ok(room)
+}
+
+/// What stands at the front of the bytes. Only bytes with more field lines than a head may have
+/// want the large room: they may still begin no head at all.
+#[tactic(auto, using(crate::proofs::FrontLemmas::too_many))]
+pub(crate) fn read_front(alloc: Global, held: &[u8]) -> Result<Beginning, AllocError>
+    ensures { IfOk result (IsFront held.now) }
+{
+    let mut room = [EMPTY_HEADER_SPAN; MAX_FIELDS];
+    if let Some(front) = front_in(alloc, held, &mut room)? {
+        return Ok(front);
+    }
+    let mut room = large_room(alloc)?;
+    match front_in(alloc, held, &mut room)? {
+        Some(front) => Ok(front),
+        None => unreachable!(),
     }
 }
 

@@ -45,7 +45,7 @@ pub enum DocumentCommand {
 
 /// What is asked for, and of what.
 #[derive(Clone, Copy, Debug, PartialEq, Eq)]
-pub enum Command {
+pub(crate) enum Command {
     /// The names of all domains.
     Domains,
     /// What the operator asks for of one domain.

@@ -2,10 +2,10 @@
 ghost use Rattle.std.specs.Prelude.{◌≡◌};
 ghost use Rattle.xa_http.specs.ContentType.{allows_json, is_json, is_media, media_type};
 
-use crate::closing::trim_ows;
-use crate::length::first_value;
+use crate::fields::first_value;
 use crate::message::Field;
 use crate::parts::before;
+use crate::white_space::trim_ows;
 
 /// The media type of a Content-Type without its parameters.
 fn media_type(value: &[u8]) -> &[u8]

@@ -9,28 +9,6 @@ use httparse::spans::{HeaderSpan, RequestSpans, Span};
 use std::alloc::{AllocError, Global};
 use xa_value::Items;
 
-/// The head that the spans cover, as a message without a body.
-pub(crate) fn read_head(
-    alloc: Global,
-    window: &[u8],
-    spans: &RequestSpans,
-    headers: &[HeaderSpan],
-) -> Result<Message, AllocError>
-    requires within { IsRequestWithin window.now headers.now spans.now }
-    requires found { IsRequestOf window.now headers.now spans.now }
-    ensures { IfOk result (λ head. IsHeadOf window.now head spans.now.len) }
-{
-    let fields = read_fields(alloc, window, &headers[..spans.headers])?;
-    let close = closes(spans.version, fields.as_slice());
-    Ok(Message {
-        method: read_bytes(alloc, window, spans.method)?,
-        target: read_bytes(alloc, window, spans.path)?,
-        fields,
-        body: Items::new(alloc),
-        close,
-    })
-}
-
 /// The bytes that the span covers.
 fn read_bytes(alloc: Global, bytes: &[u8], span: Span) -> Result<Items<u8>, AllocError>
     requires { IsWithin (length bytes.now) span }
@@ -64,4 +42,26 @@ fn read_fields(
         fields.push(read_field(alloc, bytes, *header)?)?;
     }
     Ok(Items::from_vec(fields))
+}
+
+/// The head that the spans cover, as a message without a body.
+pub(crate) fn read_head(
+    alloc: Global,
+    window: &[u8],
+    spans: &RequestSpans,
+    headers: &[HeaderSpan],
+) -> Result<Message, AllocError>
+    requires within { IsRequestWithin window.now headers.now spans.now }
+    requires found { IsRequestOf window.now headers.now spans.now }
+    ensures { IfOk result (λ head. IsHeadOf window.now head spans.now.len) }
+{
+    let fields = read_fields(alloc, window, &headers[..spans.headers])?;
+    let close = closes(spans.version, fields.as_slice());
+    Ok(Message {
+        method: read_bytes(alloc, window, spans.method)?,
+        target: read_bytes(alloc, window, spans.path)?,
+        fields,
+        body: Items::new(alloc),
+        close,
+    })
 }

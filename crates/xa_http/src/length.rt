@@ -1,42 +1,57 @@
 //! The length of a body, which the fields of its head announce (RFC 9112, section 6).
-ghost use Rattle.std.specs.Prelude.{◌≡◌, ◌==◌, ◌∷◌, [], drop, IsTrue, MatchOption};
-ghost use Rattle.std.specs.List.{list_all, list_any, prefix_len};
+ghost use Rattle.std.specs.Prelude.{◌≡◌, ◌==◌, drop, IsTrue};
+ghost use Rattle.std.specs.List.{list_all, prefix_len};
 ghost use Rattle.std.specs.Str.Parse.{digits_value};
 ghost use Rattle.xa_value.specs.Digits.{is_number};
-ghost use Rattle.xa_http.specs.Length.{is_named, values_of, writes_same};
-ghost use Rattle.xa_http.specs.Length.{within_limit, agreed_length, body_length};
+ghost use Rattle.xa_http.specs.Fields.{values_of};
+ghost use Rattle.xa_http.specs.Length.{agreed_length, body_length, within_limit, writes_same};
 
 use crate::fault::SessionFault;
+use crate::fields::{first_value, has_field, is_named};
 use crate::limits::{MAX_BODY_BYTES, MAX_FIELDS};
 use crate::message::Field;
 use xa_value::{is_number, number_up_to};
 
-/// The length of the body after a head of those fields.
-#[tactic(auto, unfolding(crate::specs::Length::body_length))]
-pub(crate) fn body_length(fields: &[Field]) -> Result<usize, SessionFault>
-    ensures { result ≡ body_length fields.now }
+/// The digits from the first that is no zero.
+fn without_zeros(digits: &[u8]) -> &[u8]
+    ensures { result.now ≡ drop (prefix_len (λ c. c == 48) digits.now) digits.now }
 {
-    if fields.len() > MAX_FIELDS {
-        return Err(SessionFault::HeadTooLarge);
+    for (i, digit) in digits.iter().enumerate() {
+        if *digit != b'0' {
+            return &digits[i..];
+        }
     }
-    if has_field(fields, "Transfer-Encoding") {
-        return Err(SessionFault::TransferCoding);
-    }
-    agreed_length(fields, "Content-Length")
+    &[]
 }
 
-/// Whether the field has that name.
-pub(crate) fn is_named(field: &Field, name: &str) -> bool
-    ensures { result ≡ is_named name.now field.now }
+/// Whether the text is digits alone, and writes the number that the digits do.
+#[tactic(auto, using(crate::proofs::NumberLemmas::same_number))]
+fn writes_same(text: &[u8], digits: &[u8]) -> bool
+    requires { IsTrue (is_number digits.now) }
+    ensures { result ≡ writes_same digits.now text.now }
 {
-    field.name.as_slice().eq_ignore_ascii_case(name.as_bytes())
+    is_number(text) && without_zeros(text) == without_zeros(digits)
 }
 
-/// Whether a field has that name.
-fn has_field(fields: &[Field], name: &str) -> bool
-    ensures { result ≡ list_any (is_named name.now) fields.now }
+/// Whether each field of that name writes the number that the digits do.
+fn all_write_same(fields: &[Field], name: &str, digits: &[u8]) -> bool
+    requires { IsTrue (is_number digits.now) }
+    ensures { result ≡ list_all (writes_same digits.now) (values_of name.now fields.now) }
 {
-    fields.iter().any(|field| is_named(field, name))
+    for field in fields {
+        if is_named(field, name) && !writes_same(field.value.as_slice(), digits) {
+            return false;
+        }
+    }
+    true
+}
+
+/// The number that the digits write, if a body may be so long.
+fn within_limit(digits: &[u8]) -> Result<usize, SessionFault>
+    requires { IsTrue (is_number digits.now) }
+    ensures { result ≡ within_limit (digits_value 10 digits.now) }
+{
+    number_up_to(MAX_BODY_BYTES, digits).ok_or(SessionFault::BodyTooLarge)
 }
 
 /// The length on which the fields of that name agree.
@@ -54,57 +69,16 @@ fn agreed_length(fields: &[Field], name: &str) -> Result<usize, SessionFault>
     }
 }
 
-/// The value of the first field of that name, and the fields after it.
-pub(crate) fn first_value<'a>(fields: &'a [Field], name: &str) -> Option<(&'a [u8], &'a [Field])>
-    ensures { MatchOption result (values_of name.now fields.now ≡ [])
-        (λ found. values_of name.now fields.now ≡ found.0.now ∷ values_of name.now found.1.now) }
+/// The length of the body after a head of those fields.
+#[tactic(auto, unfolding(crate::specs::Length::body_length))]
+pub(crate) fn body_length(fields: &[Field]) -> Result<usize, SessionFault>
+    ensures { result ≡ body_length fields.now }
 {
-    for (i, field) in fields.iter().enumerate() {
-        if is_named(field, name) {
-            return Some((field.value.as_slice(), &fields[i + 1..]));
-        }
+    if fields.len() > MAX_FIELDS {
+        return Err(SessionFault::HeadTooLarge);
     }
-    None
-}
-
-/// Whether each field of that name writes the number that the digits do.
-fn all_write_same(fields: &[Field], name: &str, digits: &[u8]) -> bool
-    requires { IsTrue (is_number digits.now) }
-    ensures { result ≡ list_all (writes_same digits.now) (values_of name.now fields.now) }
-{
-    for field in fields {
-        if is_named(field, name) && !writes_same(field.value.as_slice(), digits) {
-            return false;
-        }
+    if has_field(fields, "Transfer-Encoding") {
+        return Err(SessionFault::TransferCoding);
     }
-    true
-}
-
-/// Whether the text is digits alone, and writes the number that the digits do.
-#[tactic(auto, using(crate::proofs::NumberLemmas::same_number))]
-fn writes_same(text: &[u8], digits: &[u8]) -> bool
-    requires { IsTrue (is_number digits.now) }
-    ensures { result ≡ writes_same digits.now text.now }
-{
-    is_number(text) && without_zeros(text) == without_zeros(digits)
-}
-
-/// The digits from the first that is no zero.
-fn without_zeros(digits: &[u8]) -> &[u8]
-    ensures { result.now ≡ drop (prefix_len (λ c. c == 48) digits.now) digits.now }
-{
-    for (i, digit) in digits.iter().enumerate() {
-        if *digit != b'0' {
-            return &digits[i..];
-        }
-    }
-    &[]
-}
-
-/// The number that the digits write, if a body may be so long.
-fn within_limit(digits: &[u8]) -> Result<usize, SessionFault>
-    requires { IsTrue (is_number digits.now) }
-    ensures { result ≡ within_limit (digits_value 10 digits.now) }
-{
-    number_up_to(MAX_BODY_BYTES, digits).ok_or(SessionFault::BodyTooLarge)
+    agreed_length(fields, "Content-Length")
 }

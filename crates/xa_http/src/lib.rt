@@ -1,13 +1,13 @@
 //! HTTP/1.x as this server speaks it: the messages of a stream, what a message's path asks for, and
 //! the bytes of a reply.
 //!
-//! `session` cuts messages from a stream. `beginning` reads the head at its front, which `head` copies and
-//! of which `length` and `closing` read the fields; `open_head` follows one that isn't whole yet. A stream
+//! `session` cuts messages from a stream. `beginning` reads the head at its front, which `head` copies;
+//! `length` and `closing` look into its `fields`. `open_head` follows one that isn't whole yet. A stream
 //! that can't go on has a `fault`. `laws` says that pieces make no difference.
 //!
 //! `routes` gives the `route` of a message: `parts` parts its path, `table` finds the place there and what
 //! the `method` asks for, which is a `command`, and `content_type` judges the body's media type. `replies`
-//! writes the bytes of a reply.
+//! writes the bytes of a reply. `white_space` around values is left out by `closing` and `content_type`.
 #![tactic(auto)]
 
 mod beginning;
@@ -15,6 +15,7 @@ mod closing;
 mod command;
 mod content_type;
 mod fault;
+mod fields;
 mod head;
 mod laws;
 mod length;
@@ -28,6 +29,7 @@ mod route;
 mod routes;
 mod session;
 mod table;
+mod white_space;
 
 pub use command::{DocumentCommand, DomainCommand, OperatorCommand};
 pub use fault::SessionFault;

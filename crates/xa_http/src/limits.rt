@@ -7,6 +7,7 @@ pub const MAX_HEAD_BYTES: usize = 16_384;
 /// A head has at most this many field lines: the offsets of so many are read without memory.
 pub const MAX_FIELDS: usize = 64;
 
-/// A body has at most this many bytes: a message that announces more is refused by its head, and
-/// isn't waited for.
+/// A body has at most this many bytes: it bounds what a message costs, and there is room for the 4,096
+/// rows of a domain's source, at 128 bytes each. A message that announces more is refused by its head,
+/// and isn't waited for.
 pub const MAX_BODY_BYTES: usize = 524_288;

@@ -4,7 +4,7 @@ ghost use Rattle.xa_http.specs.Table.{name_of};
 
 /// A method that is served at some path (RFC 9110, section 9.3).
 #[derive(Clone, Copy, Debug, PartialEq, Eq)]
-pub enum Method {
+pub(crate) enum Method {
     /// Takes away what is there.
     Delete,
     /// Reads what is there.

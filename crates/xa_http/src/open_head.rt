@@ -124,24 +124,6 @@ fn part_after(part: HeadPart, held: &[u8], at: usize) -> Option<HeadPart>
     }
 }
 
-/// The head after its request line, where the rest of that has come whole.
-#[tactic(auto, using(crate::proofs::OpenHeadLemmas::target_within, crate::proofs::OpenHeadLemmas::line_first))]
-fn after_target(held: &[u8], start: usize, at: usize) -> Option<OpenHead>
-    requires within { at ≤ length held.now }
-    requires open { EndsIn (Target start) (take at held.now) }
-    ensures open { IfSome result (IsOpenHead held.now) }
-    ensures further { IfSome result (λ next. at < next.len) }
-{
-    let len = version_len(&held[at..])?;
-    if !is_target(&held[start..at]) {
-        return None;
-    }
-    Some(OpenHead {
-        len: at + len,
-        part: HeadPart::Line,
-    })
-}
-
 /// Whether the bytes of a target are one, now that it has ended.
 fn is_target(bytes: &[u8]) -> bool
     ensures { IsTrue result → (0 < length bytes.now) × IsUtf8 bytes.now }
@@ -167,4 +149,22 @@ fn version_len(bytes: &[u8]) -> Option<usize>
         return Some(10);
     }
     None
+}
+
+/// The head after its request line, where the rest of that has come whole.
+#[tactic(auto, using(crate::proofs::OpenHeadLemmas::target_within, crate::proofs::OpenHeadLemmas::line_first))]
+fn after_target(held: &[u8], start: usize, at: usize) -> Option<OpenHead>
+    requires within { at ≤ length held.now }
+    requires open { EndsIn (Target start) (take at held.now) }
+    ensures open { IfSome result (IsOpenHead held.now) }
+    ensures further { IfSome result (λ next. at < next.len) }
+{
+    let len = version_len(&held[at..])?;
+    if !is_target(&held[start..at]) {
+        return None;
+    }
+    Some(OpenHead {
+        len: at + len,
+        part: HeadPart::Line,
+    })
 }

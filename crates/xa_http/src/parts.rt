@@ -20,25 +20,25 @@ pub(crate) fn split_once(text: &[u8], by: u8) -> Option<(&[u8], &[u8])>
     None
 }
 
-/// The bytes before the first of that value, or all of them.
-pub(crate) fn before(bytes: &[u8], byte: u8) -> &[u8]
-    ensures { result.now ≡ before byte bytes.now }
+/// The text before the first byte of that value, or all of it.
+pub(crate) fn before(text: &[u8], by: u8) -> &[u8]
+    ensures { result.now ≡ before by text.now }
 {
-    for (i, other) in bytes.iter().enumerate() {
-        if *other == byte {
-            return &bytes[..i];
+    for (i, byte) in text.iter().enumerate() {
+        if *byte == by {
+            return &text[..i];
         }
     }
-    bytes
+    text
 }
 
-/// The bytes from the first of that value on.
-pub(crate) fn from_first(bytes: &[u8], byte: u8) -> Option<&[u8]>
-    ensures { option_map (λ rest. rest.now) result ≡ from_first byte bytes.now }
+/// The text from the first byte of that value on.
+pub(crate) fn from_first(text: &[u8], by: u8) -> Option<&[u8]>
+    ensures { option_map (λ rest. rest.now) result ≡ from_first by text.now }
 {
-    for (i, other) in bytes.iter().enumerate() {
-        if *other == byte {
-            return Some(&bytes[i..]);
+    for (i, byte) in text.iter().enumerate() {
+        if *byte == by {
+            return Some(&text[i..]);
         }
     }
     None

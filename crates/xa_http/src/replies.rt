@@ -42,6 +42,60 @@ impl Media {
     }
 }
 
+/// The reason phrase of the status, empty where it has none.
+#[tactic(auto, unfolding(crate::specs::Reply::phrase))]
+fn phrase(status: StatusCode) -> &'static str
+    ensures { result.now ≡ phrase status }
+{
+    status.canonical_reason().unwrap_or("")
+}
+
+/// Adds the status line (RFC 9112, section 4), with its line end.
+#[tactic(auto, unfolding(crate::specs::Reply::status_line))]
+fn push_status_line(bytes: &mut Vec<u8>, status: StatusCode) -> Result<(), AllocError>
+    ensures { OnOk result (bytes.new.items ≡ bytes.old.items ++ status_line status) }
+{
+    bytes.extend_from_slice(b"HTTP/1.1 ")?;
+    bytes.extend_from_slice(status.as_str().as_bytes())?;
+    bytes.extend_from_slice(b" ")?;
+    bytes.extend_from_slice(phrase(status).as_bytes())?;
+    bytes.extend_from_slice(b"\r\n")
+}
+
+/// Adds a field line (RFC 9112, section 5), with its line end.
+#[tactic(auto, unfolding(crate::specs::Reply::field_line))]
+fn push_field_line(bytes: &mut Vec<u8>, name: &str, value: &str) -> Result<(), AllocError>
+    ensures { OnOk result (bytes.new.items ≡ bytes.old.items ++ field_line name.now value.now) }
+{
+    bytes.extend_from_slice(name.as_bytes())?;
+    bytes.extend_from_slice(b": ")?;
+    bytes.extend_from_slice(value.as_bytes())?;
+    bytes.extend_from_slice(b"\r\n")
+}
+
+/// Adds the field line of `Allow`, with the methods that are served at the place.
+#[tactic(auto, unfolding(crate::specs::Reply::field_line))]
+fn push_allow(bytes: &mut Vec<u8>, place: Place) -> Result<(), AllocError>
+    ensures { OnOk result
+        (bytes.new.items ≡ bytes.old.items ++ field_line (codes "Allow") (methods_text place)) }
+{
+    bytes.extend_from_slice(b"Allow: ")?;
+    place.push_methods(bytes)?;
+    bytes.extend_from_slice(b"\r\n")
+}
+
+/// Adds the field line of the extra field, and nothing where there is none.
+#[tactic(auto, unfolding(crate::specs::Reply::extra_lines))]
+fn push_extra_lines(bytes: &mut Vec<u8>, extra: Extra) -> Result<(), AllocError>
+    ensures { OnOk result (bytes.new.items ≡ bytes.old.items ++ extra_lines extra) }
+{
+    match extra {
+        Extra::Nothing => Ok(()),
+        Extra::Challenge => push_field_line(bytes, "WWW-Authenticate", "Bearer"),
+        Extra::Allow(place) => push_allow(bytes, place),
+    }
+}
+
 /// The bytes of a reply (RFC 9112, section 4): its status line, the fields Content-Type and
 /// Content-Length and the extra one, and the body.
 #[tactic(auto, unfolding(crate::specs::Reply::http_bytes))]
@@ -63,58 +117,4 @@ pub fn reply(
     bytes.extend_from_slice(b"\r\n")?;
     bytes.extend_from_slice(body)?;
     Ok(bytes)
-}
-
-/// Adds the status line (RFC 9112, section 4), with its line end.
-#[tactic(auto, unfolding(crate::specs::Reply::status_line))]
-fn push_status_line(bytes: &mut Vec<u8>, status: StatusCode) -> Result<(), AllocError>
-    ensures { OnOk result (bytes.new.items ≡ bytes.old.items ++ status_line status) }
-{
-    bytes.extend_from_slice(b"HTTP/1.1 ")?;
-    bytes.extend_from_slice(status.as_str().as_bytes())?;
-    bytes.extend_from_slice(b" ")?;
-    bytes.extend_from_slice(phrase(status).as_bytes())?;
-    bytes.extend_from_slice(b"\r\n")
-}
-
-/// The reason phrase of the status, empty where it has none.
-#[tactic(auto, unfolding(crate::specs::Reply::phrase))]
-fn phrase(status: StatusCode) -> &'static str
-    ensures { result.now ≡ phrase status }
-{
-    status.canonical_reason().unwrap_or("")
-}
-
-/// Adds a field line (RFC 9112, section 5), with its line end.
-#[tactic(auto, unfolding(crate::specs::Reply::field_line))]
-fn push_field_line(bytes: &mut Vec<u8>, name: &str, value: &str) -> Result<(), AllocError>
-    ensures { OnOk result (bytes.new.items ≡ bytes.old.items ++ field_line name.now value.now) }
-{
-    bytes.extend_from_slice(name.as_bytes())?;
-    bytes.extend_from_slice(b": ")?;
-    bytes.extend_from_slice(value.as_bytes())?;
-    bytes.extend_from_slice(b"\r\n")
-}
-
-/// Adds the field line of the extra field, and nothing where there is none.
-#[tactic(auto, unfolding(crate::specs::Reply::extra_lines))]
-fn push_extra_lines(bytes: &mut Vec<u8>, extra: Extra) -> Result<(), AllocError>
-    ensures { OnOk result (bytes.new.items ≡ bytes.old.items ++ extra_lines extra) }
-{
-    match extra {
-        Extra::Nothing => Ok(()),
-        Extra::Challenge => push_field_line(bytes, "WWW-Authenticate", "Bearer"),
-        Extra::Allow(place) => push_allow(bytes, place),
-    }
-}
-
-/// Adds the field line of `Allow`, with the methods that are served at the place.
-#[tactic(auto, unfolding(crate::specs::Reply::field_line))]
-fn push_allow(bytes: &mut Vec<u8>, place: Place) -> Result<(), AllocError>
-    ensures { OnOk result
-        (bytes.new.items ≡ bytes.old.items ++ field_line (codes "Allow") (methods_text place)) }
-{
-    bytes.extend_from_slice(b"Allow: ")?;
-    place.push_methods(bytes)?;
-    bytes.extend_from_slice(b"\r\n")
 }

@@ -106,6 +106,56 @@ impl Routes {
     }
 }
 
+/// The path that the target, which has no query, names.
+#[tactic(auto, unfolding(crate::specs::Routes::path_of_plain))]
+fn path_of_plain(target: &[u8]) -> Option<&[u8]>
+    ensures { option_map (λ path. path.now) result ≡ path_of_plain target.now }
+{
+    match target.strip_prefix(b"http://") {
+        Some(rest) => from_first(rest, b'/'),
+        None => Some(target),
+    }
+}
+
+/// The path that the target names.
+#[tactic(auto, using(xa_value::proofs::TextLemmas::is_text, xa_value::proofs::TextLemmas::is_no_text), unfolding(crate::specs::Routes::path_of))]
+fn path_of(target: &[u8]) -> Option<&[u8]>
+    ensures { option_map (λ path. path.now) result ≡ path_of target.now }
+{
+    let Ok(_) = str::from_utf8(target) else {
+        return None;
+    };
+    path_of_plain(before(target, b'?'))
+}
+
+/// Whether the body isn't read, or has a media type that is read.
+fn takes_body(message: &Message, command: Command) -> bool
+    ensures { result ≡ takes_body message.now command }
+{
+    !command.reads_body() || allows_json(message.fields.as_slice())
+}
+
+/// A part of the path, percent-decoded.
+#[tactic(auto, unfolding(crate::specs::Routes::decoded_part))]
+fn decoded_part(alloc: Global, path: &[u8], part: usize) -> Result<Items<u8>, AllocError>
+    ensures { IfOk result (λ bytes. bytes ≡ decoded_part path.now part) }
+{
+    let mut bytes = Vec::new(alloc);
+    percent_decode(part_at(path, part)).append_to(&mut bytes)?;
+    Ok(Items::from_vec(bytes))
+}
+
+/// The parts of the path that name a document.
+fn document_parts(alloc: Global, path: &[u8]) -> Result<DocumentParts, AllocError>
+    ensures { IfOk result (λ parts. parts ≡ document_parts path.now) }
+{
+    Ok(DocumentParts {
+        kind: decoded_part(alloc, path, KIND_PART)?,
+        id: decoded_part(alloc, path, ID_PART)?,
+        version: decoded_part(alloc, path, VERSION_PART)?,
+    })
+}
+
 /// What is asked for, with the parts of the path.
 fn route_to(alloc: Global, path: &[u8], command: Command) -> Result<Route, AllocError>
     ensures { IfOk result (λ route. route ≡ route_to path.now command) }
@@ -129,54 +179,4 @@ fn route_to(alloc: Global, path: &[u8], command: Command) -> Result<Route, Alloc
             command,
         },
     })
-}
-
-/// The parts of the path that name a document.
-fn document_parts(alloc: Global, path: &[u8]) -> Result<DocumentParts, AllocError>
-    ensures { IfOk result (λ parts. parts ≡ document_parts path.now) }
-{
-    Ok(DocumentParts {
-        kind: decoded_part(alloc, path, KIND_PART)?,
-        id: decoded_part(alloc, path, ID_PART)?,
-        version: decoded_part(alloc, path, VERSION_PART)?,
-    })
-}
-
-/// Whether the body, if it is read, has a media type that is.
-fn takes_body(message: &Message, command: Command) -> bool
-    ensures { result ≡ takes_body message.now command }
-{
-    !command.reads_body() || allows_json(message.fields.as_slice())
-}
-
-/// A part of the path, percent-decoded.
-#[tactic(auto, unfolding(crate::specs::Routes::decoded_part))]
-fn decoded_part(alloc: Global, path: &[u8], part: usize) -> Result<Items<u8>, AllocError>
-    ensures { IfOk result (λ bytes. bytes ≡ decoded_part path.now part) }
-{
-    let mut bytes = Vec::new(alloc);
-    percent_decode(part_at(path, part)).append_to(&mut bytes)?;
-    Ok(Items::from_vec(bytes))
-}
-
-/// The path that the target names.
-#[tactic(auto, using(xa_value::proofs::TextLemmas::is_text, xa_value::proofs::TextLemmas::is_no_text), unfolding(crate::specs::Routes::path_of))]
-fn path_of(target: &[u8]) -> Option<&[u8]>
-    ensures { option_map (λ path. path.now) result ≡ path_of target.now }
-{
-    let Ok(_) = str::from_utf8(target) else {
-        return None;
-    };
-    path_of_plain(before(target, b'?'))
-}
-
-/// The path that the target, which has no query, names.
-#[tactic(auto, unfolding(crate::specs::Routes::path_of_plain))]
-fn path_of_plain(target: &[u8]) -> Option<&[u8]>
-    ensures { option_map (λ path. path.now) result ≡ path_of_plain target.now }
-{
-    match target.strip_prefix(b"http://") {
-        Some(rest) => from_first(rest, b'/'),
-        None => Some(target),
-    }
 }

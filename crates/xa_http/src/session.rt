@@ -182,8 +182,8 @@ impl Session {
         }
     }
 
-    /// Whether the head at the start goes on to be open, as the new bytes alone tell. A head that
-    /// comes in one piece is read at once, and no byte of it is followed before.
+    /// Follows the head at the start, if that was begun, and says whether it is surely not whole yet. A
+    /// head that comes in one piece is read at once, and no byte of it is followed before.
     fn is_surely_open(&mut self) -> bool
         ensures unfinished { IsTrue result → IsUnfinished self.old.held }
         ensures same { self.new ≡ self.old }

@@ -1,7 +1,7 @@
 use Rattle.std.proofs.Common.{◌≡◌, drop, codes}
 use Rattle.std.specs.List.{list_any}
-use Rattle.xa_http.specs.Length.{values_of}
 use Rattle.xa_http.specs.Closing.{names_close}
+use Rattle.xa_http.specs.Fields.{values_of}
 use Rattle.xa_http.proofs.closing.connection_names_close.Given as goal
 
 abbrev pub invariant-loop-field : goal.invariant-loop-field

@@ -1,6 +1,7 @@
 use Rattle.std.proofs.Common.{◌≡◌, drop}
 use Rattle.std.specs.List.{list_all}
-use Rattle.xa_http.specs.Length.{values_of, writes_same}
+use Rattle.xa_http.specs.Fields.{values_of}
+use Rattle.xa_http.specs.Length.{writes_same}
 use Rattle.xa_http.proofs.length.all_write_same.Given as goal
 
 abbrev pub invariant-loop-field : goal.invariant-loop-field

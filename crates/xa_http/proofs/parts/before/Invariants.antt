@@ -3,4 +3,4 @@ use Rattle.xa_http.specs.Parts.{before}
 use Rattle.xa_http.proofs.parts.before.Given as goal
 
 abbrev pub invariant-loop-i : goal.invariant-loop-i
-invariant-loop-i l = before l.byte l.bytes ≡ take l.i l.bytes ++ before l.byte (drop l.i l.bytes)
+invariant-loop-i l = before l.by l.text ≡ take l.i l.text ++ before l.by (drop l.i l.text)

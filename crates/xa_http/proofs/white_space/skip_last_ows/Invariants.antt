@@ -1,6 +1,6 @@
 use Rattle.std.proofs.Common.{◌≡◌, length, reverse}
 use Rattle.httparse.specs.Grammar.{skip_ows}
-use Rattle.xa_http.proofs.closing.skip_last_ows.Given as goal
+use Rattle.xa_http.proofs.white_space.skip_last_ows.Given as goal
 
 abbrev pub invariant-loop-rest : goal.invariant-loop-rest
 invariant-loop-rest l = reverse (skip_ows (reverse l.rest)) ≡ reverse (skip_ows (reverse l.bytes))

@@ -1,6 +1,6 @@
 use Rattle.std.proofs.Common.{◌≡◌, length}
 use Rattle.httparse.specs.Grammar.{skip_ows}
-use Rattle.xa_http.proofs.closing.skip_ows.Given as goal
+use Rattle.xa_http.proofs.white_space.skip_ows.Given as goal
 
 abbrev pub invariant-loop-rest : goal.invariant-loop-rest
 invariant-loop-rest l = skip_ows l.rest ≡ skip_ows l.bytes
