@@ -2,7 +2,7 @@
 use Rattle.std.proofs.Common.{◌≡◌, ℕ, suc, ◌+◌, ◌<◌, List, ◌∷◌, length, get_or, drop, refl, sym, ap, ◌∙◌, add-one, drop-cons}
 use Rattle.std.specs.Prelude.{Bool, true, false, map, filter, if◌then◌else◌}
 use Rattle.xa_http.specs.declared.message.Field.{Field}
-use Rattle.xa_http.specs.Length.{is_named, values_of}
+use Rattle.xa_http.specs.Fields.{is_named, values_of}
 
 -- a field is among those of its name
 of_first : (b : Bool) (f : Field) (others : List Field) → map (λ (g : Field). g.value) (if b then f ∷ others else others) ≡ (if b then f.value ∷ map (λ g. g.value) others else map (λ g. g.value) others)

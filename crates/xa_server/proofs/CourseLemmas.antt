@@ -18,7 +18,7 @@ use Rattle.xa_server.specs.declared.driven.Driven.TheVariants.{Ended, ReadFault,
 use Rattle.xa_server.specs.declared.front_error.FrontError.{FrontError}
 use Rattle.xa_server.specs.declared.lines.Conn.{Conn}
 use Rattle.xa_server.specs.Driven.{AreMade, AreSent, AreWritten, HadMemory, HasTold, HaveMemory, HaveRead, HaveSaid, IsConnection, IsDriven, IsDrivenWithin, Known, StopsAfter, known}
-use Rattle.xa_server.specs.Driving.{FeedsOne, GoesOn, HasRead, IsHeldAnswered, IsRead, IsTurn, IsWaiting}
+use Rattle.xa_server.specs.handling.Driving.{FeedsOne, GoesOn, HasRead, IsHeldAnswered, IsRead, IsTurn, IsWaiting}
 use Rattle.xa_server.specs.Front.{FrontState, ServerState}
 use Rattle.xa_server.specs.Replies.{bytes_of}
 use Rattle.xa_server.specs.Lines.{IsOpen, held_at, line_at, with_line}

@@ -11,12 +11,12 @@ use Rattle.xa_records.specs.Kept.{IsChanged, Kept}
 use Rattle.xa_server.specs.Crash.{IfSent, IsStepMade}
 use Rattle.xa_server.specs.declared.received.Received.{Received}
 use Rattle.xa_server.specs.declared.replies.Reply.{Reply}
-use Rattle.xa_server.specs.declared.unanswered.Unanswered.{Unanswered}
-use Rattle.xa_server.specs.declared.unanswered.Unanswered.TheVariants.{Code, Failed}
-use Rattle.xa_server.specs.Handling.{Counts, IfTold, IsAnswerMade, IsReplyOf, LeavesMessage, LeavesNoMore, LeavesRoute}
+use Rattle.xa_server.specs.declared.unsuccessful.Unsuccessful.{Unsuccessful}
+use Rattle.xa_server.specs.declared.unsuccessful.Unsuccessful.TheVariants.{Error, Failed}
+use Rattle.xa_server.specs.handling.Replying.{Counts, IfTold, IsAnswerMade, IsReplyOf, LeavesMessage, LeavesNoMore, LeavesRoute}
 use Rattle.xa_server.specs.Machine.{Answer, answer, reply_and_state, step}
 use Rattle.xa_server.specs.Served.{state}
-use Rattle.xa_server.specs.Unanswered.{unanswered_of_route}
+use Rattle.xa_server.specs.handling.Unsuccessful.{unsuccessful_of_route}
 use Rattle.xa_server.specs.World.{World}
 use Rattle.xa_server.proofs.ServedLemmas.{world_of}
 
@@ -56,17 +56,17 @@ step_left before after received kept (Some name) leaves left may = elim (leaves 
 ]
 
 -- a message that didn't fail is the only one whose reply is sent
-pub if_sent : (claim : Type 0) (result : Result (List ℕ) Unanswered) (reply : Reply) → IfTold result claim → IsReplyOf result reply → IfSent reply claim
+pub if_sent : (claim : Type 0) (result : Result (List ℕ) Unsuccessful) (reply : Reply) → IfTold result claim → IsReplyOf result reply → IfSent reply claim
 if_sent claim (Ok bytes) reply told is = subst (λ r. IfSent r claim) (sym is) told
 if_sent claim (Err (Failed failure)) reply told is = subst (λ r. IfSent r claim) (sym is) tt
-if_sent claim (Err (Code code)) reply told (inl is) = subst (λ r. IfSent r claim) (sym is) told
-if_sent claim (Err (Code code)) reply told (inr is) = subst (λ r. IfSent r claim) (sym is) tt
+if_sent claim (Err (Error code)) reply told (inl is) = subst (λ r. IfSent r claim) (sym is) told
+if_sent claim (Err (Error code)) reply told (inr is) = subst (λ r. IfSent r claim) (sym is) tt
 
 -- a message that asks for nothing that is served, or of which that wasn't found out, was told so, and nothing is counted
-pub unasked_told : (error : OrMemory RouteFault) (claim : Type 0) → claim → IfTold {X = List ℕ} (Err (unanswered_of_route error)) claim
+pub unasked_told : (error : OrMemory RouteFault) (claim : Type 0) → claim → IfTold {X = List ℕ} (Err (unsuccessful_of_route error)) claim
 unasked_told or_memory.Memory claim is = tt
 unasked_told (or_memory.Error fault) claim is = is
 
-pub unasked_counts : (error : OrMemory RouteFault) (faults : ℕ) → Counts {X = List ℕ} faults faults (Err (unanswered_of_route error))
+pub unasked_counts : (error : OrMemory RouteFault) (faults : ℕ) → Counts {X = List ℕ} faults faults (Err (unsuccessful_of_route error))
 unasked_counts or_memory.Memory faults = refl
 unasked_counts (or_memory.Error fault) faults = refl

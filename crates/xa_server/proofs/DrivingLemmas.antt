@@ -16,7 +16,7 @@ use Rattle.xa_server.specs.declared.replies.Reply.{Reply}
 use Rattle.xa_server.specs.Alone.{Event}
 use Rattle.xa_server.specs.Connection.{all_replies, fault_replies, messages_of, moments_of}
 use Rattle.xa_server.specs.Driven.{AreMade, AreSent, AreWritten, Calls, HadMemory, HasTold, HaveMemory, HaveRead, IsDriven, IsDrivenWithin, Known, StopsAfter}
-use Rattle.xa_server.specs.Driving.{GoesOn}
+use Rattle.xa_server.specs.handling.Driving.{GoesOn}
 use Rattle.xa_server.specs.Front.{FrontState}
 use Rattle.xa_server.specs.Lines.{IsOpen}
 use Rattle.xa_server.specs.Replies.{bytes_of}

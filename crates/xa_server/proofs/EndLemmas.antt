@@ -12,11 +12,11 @@ use Rattle.xa_server.specs.declared.lines.Conn.{Conn}
 use Rattle.xa_server.specs.declared.replies.Reply.{Reply}
 use Rattle.xa_server.specs.Connection.{fault_replies}
 use Rattle.xa_server.specs.Driven.{AreMade, AreWritten, HadMemory, HasTold, HaveMemory, HaveRead, HaveSaid, IsDrivenWithin, Known, StopsAfter, goes_on_after}
-use Rattle.xa_server.specs.Driving.{GoesOn}
+use Rattle.xa_server.specs.handling.Driving.{GoesOn}
 use Rattle.xa_server.specs.Front.{FrontState, ServerState}
 use Rattle.xa_server.specs.Lines.{IsOpen, with_line}
 use Rattle.xa_server.specs.Replies.{bytes_of}
-use Rattle.xa_server.specs.Sending.{IsTaken}
+use Rattle.xa_server.specs.handling.Sending.{IsTaken}
 use Rattle.xa_server.specs.Served.{IsRun, IsServed}
 use Rattle.xa_server.specs.Transfers.{IsReadOn, WriteEnd}
 use Rattle.xa_server.specs.Work.{IsWork}

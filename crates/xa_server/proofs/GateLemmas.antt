@@ -17,13 +17,12 @@ use Rattle.xa_records.specs.Kept.{Domain, Kept, state_of}
 use Rattle.xa_records.specs.Readings.{gate_of, gate_of_domain}
 use Rattle.xa_shelf.proofs.EntryLemmas.{all_promoted, all_put, all_removed, value_found}
 use Rattle.xa_server.specs.declared.revision.Revision.{Revision}
-use Rattle.xa_server.specs.declared.unanswered.Unanswered.{Unanswered}
-use Rattle.xa_server.specs.declared.unanswered.Unanswered.TheVariants.{Code, Failed}
-use Rattle.xa_server.specs.Gates.{revision_by, revision_in, revision_of, revision_with, without_gate}
-use Rattle.xa_server.specs.Handling.{Answers, admitted_by}
+use Rattle.xa_server.specs.declared.unsuccessful.Unsuccessful.{Unsuccessful}
+use Rattle.xa_server.specs.declared.unsuccessful.Unsuccessful.TheVariants.{Error, Failed}
+use Rattle.xa_server.specs.Gates.{revision_by, revision_in, revision_of, revision_with, role_in, without_gate}
+use Rattle.xa_server.specs.handling.Replying.{Answers, admitted_by}
 use Rattle.xa_server.specs.Machine.{Answer, admitted, digest_shown, permitted}
 use Rattle.xa_server.specs.Stock.{AllStand, AreGates, IsGate, Stock, forgetting, remembering, using_gate}
-use Rattle.xa_server.specs.Tokens.{role_in}
 use Rattle.xa_server.proofs.AdmissionLemmas.{role_is}
 use Rattle.xa_server.proofs.GrowthLemmas.{grows}
 use Rattle.xa_server.proofs.ReadyLemmas.{ready_grown}
@@ -111,12 +110,12 @@ gates_left old new name others (entry ∷ gates) none are = (elim (bytes_eq name
 ]) refl
 
 -- after a message of that domain, whose gate was forgotten first
-pub changed_stands : (old new : Kept) (name : List ℕ) (result : Result (List ℕ) Unanswered) (meant : Answer) (stock : Stock) → Answers old new name result meant → AllStand old stock
+pub changed_stands : (old new : Kept) (name : List ℕ) (result : Result (List ℕ) Unsuccessful) (meant : Answer) (stock : Stock) → Answers old new name result meant → AllStand old stock
     → lookup (bytes_eq name) (without_gate name stock.gates) ≡ None → AllStand new (forgetting name stock)
 changed_stands old new name (Ok bytes) meant stock (after, is, changed) stand none = record {
   held = valid_grown old new (grows old new name after changed) stock.tally.held stand.held;
   views = ready_grown old new (grows old new name after changed) stock.room.views stand.views;
   gates = gates_left old new name changed.others (without_gate name stock.gates) none (all_removed (IsGate old) (bytes_eq name) stock.gates stand.gates);
 }
-changed_stands old new name (Err (Code code)) meant stock answers stand none = same_stands old new (forgetting name stock) answers.1 (forgotten_stands old name stock stand)
+changed_stands old new name (Err (Error code)) meant stock answers stand none = same_stands old new (forgetting name stock) answers.1 (forgotten_stands old name stock stand)
 changed_stands old new name (Err (Failed failure)) meant stock answers stand none = same_stands old new (forgetting name stock) answers (forgotten_stands old name stock stand)

@@ -3,12 +3,24 @@ use Rattle.std.proofs.Common.{◌≡◌, ◌≤◌, ℕ, List, refl, sym, ap, �
 use Rattle.std.specs.Prelude.{Option, Some, None, Ok, ◌⊎◌, option_map}
 use Rattle.std.specs.FinMap.{get}
 use Rattle.xa_records.specs.DomainState.{DomainState}
-use Rattle.xa_records.specs.Kept.{Becomes, Domain, IsChanged, IsNextEpoch, IsNextNumber, Kept, state_of}
+use Rattle.xa_records.specs.Kept.{Becomes, DecidesAlike, Domain, IsChanged, IsNextEpoch, IsNextNumber, Kept, state_of}
 use Rattle.xa_records.proofs.FinMapLemmas.{different, here_or_elsewhere}
 use Rattle.xa_records.proofs.OrderLemmas.{bytes_exact, bytes_total}
-use Rattle.xa_server.specs.Growth.{HasGoneOn, HasGrown}
-use Rattle.xa_server.specs.Handling.{Answers}
+use Rattle.xa_server.specs.handling.Replying.{Answers}
 use Rattle.xa_server.specs.Machine.{Answer}
+
+-- a domain has gone on: its number stays, its epoch doesn't fall, and while it stays nothing that decides changes
+pub record HasGoneOn (before after : Domain) : Type 0 where
+  pub number : after.number ≡ before.number
+  pub epoch : before.epoch ≤ after.epoch
+  pub alike : after.epoch ≡ before.epoch → DecidesAlike before.state after.state
+
+-- each domain that is there is new, with a number that none had, or has gone on from the one of its name
+pub record HasGrown (old new : Kept) : Type 0 where
+  pub next : old.next ≤ new.next
+  pub each : (name : List ℕ) (domain : Domain) → get new.domains name ≡ Some domain
+      → (old.next ≤ domain.number)
+      ⊎ ((before : Domain) × (get old.domains name ≡ Some before) × HasGoneOn before domain)
 
 nothing : (d : Domain) → None ≡ Some d → ⊥
 nothing d e = cc

@@ -17,7 +17,7 @@ use Rattle.xa_records.specs.Readings.{active_text, active_texts, view_of, view_o
 use Rattle.xa_records.proofs.FinMapLemmas.{all_entries}
 use Rattle.xa_records.proofs.OrderLemmas.{keys_total}
 use Rattle.xa_server.specs.View.{active_document, active_if}
-use Rattle.xa_server.specs.Viewing.{AreKeyed, active_by_key}
+use Rattle.xa_server.specs.handling.Viewing.{AreKeyed, active_by_key}
 
 -- ---- what texts are
 

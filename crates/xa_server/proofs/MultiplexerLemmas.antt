@@ -1,7 +1,7 @@
 -- One call of a front, and what it leaves of the connections.
 use Rattle.std.proofs.Common.{◌≡◌, ℕ, zero, suc, ◌+◌, ◌<◌, ◌≤◌, arith, Bool, true, false, List, [], ◌∷◌, ◌++◌, length, map, refl, sym, ap, subst, ◌∙◌, Option, Some, None, Result, Ok, Err, inl, inr, slice_index_or, slice_set}
 use Rattle.std.specs.Prelude.{ℤ, option_to_list}
-use denote.Bor.{Bor}
+use denote.Ref.{Bor}
 use Rattle.std.proofs.lemmas.List.{set-set}
 use Rattle.xa_http.specs.declared.session.Look.{Look}
 use Rattle.xa_http.specs.declared.session.Next.{Next}
@@ -15,8 +15,8 @@ use Rattle.xa_server.specs.declared.event.Outcome.TheVariants.{Begun, Held, Answ
 use Rattle.xa_server.specs.declared.front_error.FrontError.{FrontError}
 use Rattle.xa_server.specs.declared.front_error.FrontError.TheVariants.{Memory, NoSuchConnection, TooManyConnections, Full}
 use Rattle.xa_server.specs.declared.lines.Conn.{Conn}
-use Rattle.xa_server.specs.Driving.{AnswersOne, FeedsOne, PlaysOne, answer_of, piece_of}
-use Rattle.xa_server.specs.Front.{FrontState, IsPlayed, Plays}
+use Rattle.xa_server.specs.handling.Driving.{AnswersOne, FeedsOne, PlaysOne}
+use Rattle.xa_server.specs.Front.{Does, FrontState, IsPlayed, Plays}
 use Rattle.xa_server.specs.Fronting.{DoesEvent}
 use Rattle.xa_server.specs.Lines.{IsHeld, IsLooked, IsOpen, Lines, line_at, with_line}
 use Rattle.xa_server.specs.Multiplexer.{outcome_found_memory}
@@ -83,3 +83,47 @@ played_one event old new found finding outcomes rest outcome same played grows =
       does_one event old new outcome played.nexts (subst (λ (os : List Outcome). Plays (event ∷ []) os played.nexts old new) only plays),
       subst (λ (os : List Outcome). Grows found finding (map outcome_found_memory os)) (same ∙ only) grows,
     )
+
+-- what an answer that was played alone came to
+answered_as : (conn : Conn) (moment : ℤ) (old new : FrontState) (found finding : Option (List Bool)) (given : Option Next) (result : Result (Option Answer) FrontError)
+    → Does (event.Answer conn moment) old given (Answered result) new → Grows found finding (outcome_found_memory (Answered result) ∷ []) → AnswersOne conn moment old new found finding result
+answered_as conn moment old new found finding (Some given) (Ok answer) is grows = (given, is, grows)
+answered_as conn moment old new found finding None (Err Memory) is grows = inl (is.3, grows)
+answered_as conn moment old new found finding None (Err NoSuchConnection) is grows = inr is.0
+answered_as conn moment old new found finding None (Ok answer) none grows = absurd none
+answered_as conn moment old new found finding None (Err TooManyConnections) none grows = absurd none
+answered_as conn moment old new found finding None (Err Full) none grows = absurd none
+answered_as conn moment old new found finding (Some given) (Err Memory) none grows = absurd none
+answered_as conn moment old new found finding (Some given) (Err NoSuchConnection) none grows = absurd none
+answered_as conn moment old new found finding (Some given) (Err TooManyConnections) none grows = absurd none
+answered_as conn moment old new found finding (Some given) (Err Full) none grows = absurd none
+
+pub answered_one : (conn : Conn) (moment : ℤ) (old new : FrontState) (found finding : Option (List Bool)) (outcome : Outcome) (result : Result (Option Answer) FrontError)
+    → outcome ≡ Answered result → PlaysOne {E = Unit {0}} (event.Answer conn moment) old new found finding (Ok outcome) → AnswersOne conn moment old new found finding result
+answered_one conn moment old new found finding outcome result is played =
+    let one : PlaysOne {E = Unit {0}} (event.Answer conn moment) old new found finding (Ok (Answered result)) =
+    subst (λ (o : Outcome). PlaysOne {E = Unit {0}} (event.Answer conn moment) old new found finding (Ok o)) is played in
+    answered_as conn moment old new found finding one.0.0 result one.0.1 one.1
+
+-- and what a piece did
+held_as : (conn : Conn) (piece : List ℕ) (old new : FrontState) (found finding : Option (List Bool)) (result : Result (Unit {0}) FrontError)
+    → IsHeld conn piece old.lines result new.lines → new.server ≡ old.server → Grows found finding (outcome_found_memory (Held result) ∷ [])
+    → FeedsOne conn piece old new found finding result
+held_as conn piece old new found finding (Ok done) is server grows = (is.0, is.1, is.3, server, grows)
+held_as conn piece old new found finding (Err Memory) is server grows =
+    let same : new ≡ old = λ i. record { server = server i; lines = is.3 i } in inl (same, grows)
+held_as conn piece old new found finding (Err NoSuchConnection) is server grows = inr (inl is.0)
+held_as conn piece old new found finding (Err Full) is server grows = inr (inr (is.0, is.1, is.2))
+held_as conn piece old new found finding (Err TooManyConnections) none server grows = absurd none
+
+held_by : (conn : Conn) (piece : Bor (List ℕ)) (old new : FrontState) (found finding : Option (List Bool)) (given : Option Next) (result : Result (Unit {0}) FrontError)
+    → Does (event.Piece conn piece) old given (Held result) new → Grows found finding (outcome_found_memory (Held result) ∷ []) → FeedsOne conn piece.now old new found finding result
+held_by conn piece old new found finding None result does grows = held_as conn piece.now old new found finding result does.0 does.1 grows
+held_by conn piece old new found finding (Some given) result none grows = absurd none
+
+pub held_one : (conn : Conn) (piece : Bor (List ℕ)) (old new : FrontState) (found finding : Option (List Bool)) (outcome : Outcome) (result : Result (Unit {0}) FrontError)
+    → outcome ≡ Held result → PlaysOne {E = Unit {0}} (event.Piece conn piece) old new found finding (Ok outcome) → FeedsOne conn piece.now old new found finding result
+held_one conn piece old new found finding outcome result is played =
+    let one : PlaysOne {E = Unit {0}} (event.Piece conn piece) old new found finding (Ok (Held result)) =
+    subst (λ (o : Outcome). PlaysOne {E = Unit {0}} (event.Piece conn piece) old new found finding (Ok o)) is played in
+    held_by conn piece old new found finding one.0.0 result one.0.1 one.1

@@ -10,7 +10,7 @@ use Rattle.xa_http.specs.Messages.{IsLook, IsNext}
 use Rattle.xa_http.specs.Stream.{Stream}
 use Rattle.xa_http.proofs.LawLemmas.{answers_messages}
 use Rattle.xa_records.specs.Keeper.{Custody}
-use Rattle.xa_server.specs.Answering.{AnswersIn, AnswersNext, IsFaultGiven, IsHandedOn}
+use Rattle.xa_server.specs.handling.Answering.{AnswersIn, AnswersNext, IsFaultGiven, IsHandedOn}
 use Rattle.xa_server.specs.Crash.{IfSent}
 use Rattle.xa_server.specs.declared.event.Answer.{Answer}
 use Rattle.xa_server.specs.declared.front_error.FrontError.{FrontError}

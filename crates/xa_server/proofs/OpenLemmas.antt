@@ -1,12 +1,14 @@
 -- What calls do to the connections, whatever the keeper does: one that is driven stays open.
 use denote.Ref.{Bor}
-use Rattle.std.proofs.Common.{◌≡◌, ℕ, List, [], ◌∷◌, ◌++◌, length, refl, sym, ap, subst, ◌∙◌, Option, Some, None, Ok, Err, arith}
+use Rattle.std.proofs.Common.{◌≡◌, ℕ, List, [], ◌∷◌, ◌++◌, length, refl, sym, ap, subst, ◌∙◌, Option, Some, None, Result, Ok, Err, arith}
 use Rattle.std.specs.Prelude.{ℤ, option_to_list}
 use Rattle.xa_http.specs.Stream.{Stream, fed}
+use Rattle.xa_server.specs.declared.event.Answer.{Answer}
 use Rattle.xa_server.specs.declared.event.Event.{Event}
 use Rattle.xa_server.specs.declared.event.Event.TheVariants as event
 use Rattle.xa_server.specs.declared.event.Outcome.{Outcome}
 use Rattle.xa_server.specs.declared.event.Outcome.TheVariants.{Begun, Held, Answered, Finished}
+use Rattle.xa_server.specs.declared.front_error.FrontError.{FrontError}
 use Rattle.xa_server.specs.declared.front_error.FrontError.TheVariants.{Memory, NoSuchConnection, TooManyConnections, Full}
 use Rattle.xa_server.specs.declared.lines.Conn.{Conn}
 use Rattle.xa_server.specs.Driven.{KeepsOpen}
@@ -30,6 +32,22 @@ lines_of_one event outcomes rest outcome old new same plays = only rest (subst (
     only [] (mid, does, end) = subst (λ (ls : Lines). DoesLines event old outcome ls) (sym end) does
     only (one ∷ []) (mid, does, none) = absurd none
     only (one ∷ other ∷ others) (mid, does, none) = absurd none
+
+-- an answer has that of an answer
+pub only_answered : (conn : Conn) (moment : ℤ) (old new : Lines) (outcome : Outcome) → DoesLines (event.Answer conn moment) old outcome new
+    → (result : Result (Option Answer) FrontError) × (outcome ≡ Answered result)
+only_answered conn moment old new (Answered result) does = (result, refl)
+only_answered conn moment old new (Begun result) none = absurd none
+only_answered conn moment old new (Held result) none = absurd none
+only_answered conn moment old new (Finished result) none = absurd none
+
+-- and a piece that of a piece
+pub only_held : (conn : Conn) (piece : Bor (List ℕ)) (old new : Lines) (outcome : Outcome) → DoesLines (event.Piece conn piece) old outcome new
+    → (result : Result (Unit {0}) FrontError) × (outcome ≡ Held result)
+only_held conn piece old new (Held result) does = (result, refl)
+only_held conn piece old new (Begun result) none = absurd none
+only_held conn piece old new (Answered result) none = absurd none
+only_held conn piece old new (Finished result) none = absurd none
 
 -- ---- a connection that is driven
 

@@ -13,12 +13,12 @@ use Rattle.xa_shelf.proofs.EntryLemmas.{all_promoted, all_removed, all_taken, va
 use Rattle.xa_server.specs.declared.revision.Revision.{Revision}
 use Rattle.xa_server.specs.declared.ready.Ready.{Ready}
 use Rattle.xa_server.specs.Gates.{revision_by, revision_of}
-use Rattle.xa_server.specs.Growth.{HasGrown}
-use Rattle.xa_server.specs.Asking.{view_told}
+use Rattle.xa_server.specs.handling.Asking.{view_told}
 use Rattle.xa_server.specs.Standing.{StandsUnder}
 use Rattle.xa_server.specs.Stock.{AreReady, IsReady}
 use Rattle.xa_server.specs.View.{view_of}
 use Rattle.xa_server.specs.Views.{Room, added, bytes_of_tree, bytes_of_view, fitting, in_front, touched, view_ready, with_view, without}
+use Rattle.xa_server.proofs.GrowthLemmas.{HasGrown}
 use Rattle.xa_server.proofs.StandingLemmas.{all_implied, made_stands, stands_on}
 use Rattle.xa_server.proofs.WorkLemmas.{domain_of_revision}
 

@@ -15,7 +15,7 @@ use Rattle.xa_server.specs.declared.lines.Conn.{Conn}
 use Rattle.xa_server.specs.declared.replies.Reply.{Reply}
 use Rattle.xa_server.specs.declared.replies.Reply.TheVariants.{Refused, Sent}
 use Rattle.xa_server.specs.Driven.{HaveSaid, goes_on_after, known}
-use Rattle.xa_server.specs.Driving.{AnswersOne, IsAnsweredAt, IsAskedAfter, IsSentAs}
+use Rattle.xa_server.specs.handling.Driving.{AnswersOne, IsAnsweredAt, IsAskedAfter, IsSentAs}
 use Rattle.xa_server.specs.Front.{FrontState, IsAnswered}
 use Rattle.xa_server.specs.Transfers.{Grows, WriteEnd}
 use Rattle.xa_server.proofs.TransferLemmas.{grows_none}

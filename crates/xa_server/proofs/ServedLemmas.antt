@@ -7,10 +7,10 @@ use Rattle.xa_server.specs.Alone.{Event}
 use Rattle.xa_server.specs.declared.error_code.ErrorCode.{ErrorCode}
 use Rattle.xa_server.specs.declared.received.Received.{Received}
 use Rattle.xa_server.specs.declared.replies.Reply.{Reply}
-use Rattle.xa_server.specs.declared.unanswered.Unanswered.{Unanswered}
-use Rattle.xa_server.specs.declared.unanswered.Unanswered.TheVariants.{Code, Failed}
+use Rattle.xa_server.specs.declared.unsuccessful.Unsuccessful.{Unsuccessful}
+use Rattle.xa_server.specs.declared.unsuccessful.Unsuccessful.TheVariants.{Error, Failed}
 use Rattle.xa_server.specs.ErrorCode.{error_reply}
-use Rattle.xa_server.specs.Handling.{AnswersMessage, Counts, IsReplyOf}
+use Rattle.xa_server.specs.handling.Replying.{AnswersMessage, Counts, IsReplyOf}
 use Rattle.xa_server.specs.Machine.{Answer, general_reply, reply_and_state, reply_or_error, step}
 use Rattle.xa_server.specs.Owner.{owner}
 use Rattle.xa_server.specs.Served.{CountsReply, IsRun, IsSent, IsServed}
@@ -43,7 +43,7 @@ sent received old new (Some name) bytes (after, meant, changed) operator = recor
 
 -- by an error answer
 turned_away : (received : Received) (old : Kept) (new : World) (named : Option (List ℕ)) (code : ErrorCode)
-    → AnswersMessage received old new.kept named (Err (Code code)) → new.operator ≡ received.operator
+    → AnswersMessage received old new.kept named (Err (Error code)) → new.operator ≡ received.operator
     → IsSent (world_of received old) new received.moment received.message.now (error_reply code) named
 unfolding general_reply step
 turned_away received old new None code answered operator =
@@ -56,14 +56,14 @@ turned_away received old new (Some name) code answered operator = record {
 }
 
 -- without success nothing has changed
-kept_so : (received : Received) (old new : Kept) (named : Option (List ℕ)) (unanswered : Unanswered) → AnswersMessage received old new named (Err unanswered) → new ≡ old
-kept_so received old new None (Code code) answered = answered.1
+kept_so : (received : Received) (old new : Kept) (named : Option (List ℕ)) (unsuccessful : Unsuccessful) → AnswersMessage received old new named (Err unsuccessful) → new ≡ old
+kept_so received old new None (Error code) answered = answered.1
 kept_so received old new None (Failed failure) answered = answered
-kept_so received old new (Some name) (Code code) answered = answered.1
+kept_so received old new (Some name) (Error code) answered = answered.1
 kept_so received old new (Some name) (Failed failure) answered = answered
 
 -- what goes back for a message is what serving it gives
-pub served : (received : Received) (old : Kept) (new : World) (result : Result (List ℕ) Unanswered) (reply : Reply)
+pub served : (received : Received) (old : Kept) (new : World) (result : Result (List ℕ) Unsuccessful) (reply : Reply)
     → AnswersMessage received old new.kept (owner received.message.now) result → IsReplyOf result reply
     → new.operator ≡ received.operator → IsServed (world_of received old) new received.moment received.message.now reply
 served received old new (Ok bytes) reply answered is operator =
@@ -72,20 +72,20 @@ served received old new (Ok bytes) reply answered is operator =
 served received old new (Err (Failed failure)) reply answered is operator =
     subst (λ r. IsServed (world_of received old) new received.moment received.message.now r) (sym is)
     (unmoved (world_of received old) new (kept_so received old new.kept (owner received.message.now) (Failed failure) answered) operator)
-served received old new (Err (Code code)) reply answered (inl is) operator =
+served received old new (Err (Error code)) reply answered (inl is) operator =
     subst (λ r. IsServed (world_of received old) new received.moment received.message.now r) (sym is)
     (turned_away received old new (owner received.message.now) code answered operator)
-served received old new (Err (Code code)) reply answered (inr is) operator =
+served received old new (Err (Error code)) reply answered (inr is) operator =
     subst (λ r. IsServed (world_of received old) new received.moment received.message.now r) (sym is)
-    (unmoved (world_of received old) new (kept_so received old new.kept (owner received.message.now) (Code code) answered) operator)
+    (unmoved (world_of received old) new (kept_so received old new.kept (owner received.message.now) (Error code) answered) operator)
 
 -- the keeper's count, by what goes back
-pub counted : (old new : ℕ) (result : Result (List ℕ) Unanswered) (reply : Reply) → Counts old new result → IsReplyOf result reply → CountsReply old new reply
+pub counted : (old new : ℕ) (result : Result (List ℕ) Unsuccessful) (reply : Reply) → Counts old new result → IsReplyOf result reply → CountsReply old new reply
 counted old new (Ok bytes) reply counts is = subst (CountsReply old new) (sym is) counts
 counted old new (Err (Failed Memory)) reply counts is = subst (CountsReply old new) (sym is) counts
 counted old new (Err (Failed Store)) reply counts is = subst (CountsReply old new) (sym is) counts
-counted old new (Err (Code code)) reply counts (inl is) = subst (CountsReply old new) (sym is) counts
-counted old new (Err (Code code)) reply counts (inr is) = subst (CountsReply old new) (sym is) counts
+counted old new (Err (Error code)) reply counts (inl is) = subst (CountsReply old new) (sym is) counts
+counted old new (Err (Error code)) reply counts (inr is) = subst (CountsReply old new) (sym is) counts
 
 -- a run goes on by one message
 pub run_more : (old mid new : World) (events : List Event) (replies : List Reply) (event : Event) (reply : Reply)

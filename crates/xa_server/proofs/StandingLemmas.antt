@@ -5,8 +5,8 @@ use Rattle.std.specs.FinMap.{get}
 use Rattle.std.specs.List.{AllByRecursion}
 use Rattle.xa_records.specs.DomainState.{DomainState}
 use Rattle.xa_records.specs.Kept.{DecidesAlike, Domain, IsNumbered, Kept}
-use Rattle.xa_server.specs.Growth.{HasGoneOn, HasGrown}
 use Rattle.xa_server.specs.Standing.{StandsFor, StandsUnder}
+use Rattle.xa_server.proofs.GrowthLemmas.{HasGoneOn, HasGrown}
 
 pub all_implied : {X : Type 0} (P Q : X → Type 0) → ((x : X) → P x → Q x) → (xs : List X) → AllByRecursion P xs → AllByRecursion Q xs
 all_implied P Q implies [] given = tt

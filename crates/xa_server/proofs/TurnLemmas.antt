@@ -24,13 +24,13 @@ use Rattle.xa_server.specs.declared.front_error.FrontError.TheVariants as error
 use Rattle.xa_server.specs.declared.lines.Conn.{Conn}
 use Rattle.xa_server.specs.declared.replies.Reply.{Reply}
 use Rattle.xa_server.specs.Driven.{AreWritten, HadMemory, HasTold, goes_on_after, known}
-use Rattle.xa_server.specs.Driving.{IsAnsweredAt, IsAnsweredNow, IsAskedAfter, IsSentAs, IsTurn, turn_after}
+use Rattle.xa_server.specs.handling.Driving.{IsAnsweredAt, IsAnsweredNow, IsAskedAfter, IsSentAs, IsTurn, turn_after}
 use Rattle.xa_server.specs.ErrorCode.{code_of_session_fault, error_reply}
 use Rattle.xa_server.specs.Front.{FrontState, IsGiven}
 use Rattle.xa_server.specs.Lines.{IsLooked, IsOpen, with_line}
 use Rattle.xa_server.specs.Multiplexer.{found_memory}
 use Rattle.xa_server.specs.Replies.{bytes_of}
-use Rattle.xa_server.specs.Sending.{IsTaken, IsWritten}
+use Rattle.xa_server.specs.handling.Sending.{IsTaken, IsWritten}
 use Rattle.xa_server.specs.Served.{IsServed}
 use Rattle.xa_server.specs.Transfers.{Grows, IsReadOn, ReadEnd, WriteEnd}
 use Rattle.xa_server.specs.Work.{IsWork}

@@ -12,15 +12,15 @@ use Rattle.xa_records.specs.DomainState.{DomainState}
 use Rattle.xa_records.specs.Kept.{DecidesAlike, Domain, IsNumbered, Kept, state_of}
 use Rattle.xa_records.specs.Readings.{gate_of_domain}
 use Rattle.xa_server.specs.declared.revision.Revision.{Revision}
-use Rattle.xa_server.specs.declared.unanswered.Unanswered.{Unanswered}
-use Rattle.xa_server.specs.declared.unanswered.Unanswered.TheVariants.{Code, Failed}
+use Rattle.xa_server.specs.declared.unsuccessful.Unsuccessful.{Unsuccessful}
+use Rattle.xa_server.specs.declared.unsuccessful.Unsuccessful.TheVariants.{Error, Failed}
 use Rattle.xa_server.specs.Gates.{revision_by, revision_of}
-use Rattle.xa_server.specs.Growth.{HasGrown}
-use Rattle.xa_server.specs.Asking.{IsFresh, IsLookedUp, key_of_revision, worked_in}
+use Rattle.xa_server.specs.handling.Asking.{IsFresh, IsLookedUp, key_of_revision, worked_in}
 use Rattle.xa_server.specs.Tally.{Tally}
 use Rattle.xa_server.specs.ValidCache.{AreValid, GivesBody, IsValid, response_body_at}
 use Rattle.xa_server.specs.View.{view_of}
 use Rattle.xa_server.specs.Work.{IsBodyHeld, IsWorkedOut, key_in, response_of, worked_out}
+use Rattle.xa_server.proofs.GrowthLemmas.{HasGrown}
 use Rattle.xa_server.proofs.StandingLemmas.{all_implied, found_holds, made_stands, stands_on}
 use Rattle.xa_server.proofs.WorkLemmas.{domain_of_revision}
 
@@ -95,10 +95,10 @@ module _ (kept' : Kept) (numbered : IsNumbered kept') (name : List ℕ) (domain'
   valid_worked (Some (decided, timeless)) old new e (counted, held) valid =
       valid_held decided timeless (timeless && fits (key_in domain' body) decided) (first timeless (fits (key_in domain' body) decided)) old new e held valid
 
-  valid_fresh : (result : Result (List ℕ) Unanswered) (old new : Tally) → IsFresh (key_in domain' body) (worked_out domain'.state body moment) result old new
+  valid_fresh : (result : Result (List ℕ) Unsuccessful) (old new : Tally) → IsFresh (key_in domain' body) (worked_out domain'.state body moment) result old new
       → AreValid kept' old.held → AreValid kept' new.held
   valid_fresh (Ok bytes) old new work valid = valid_worked (worked_out domain'.state body moment) old new refl work valid
-  valid_fresh (Err (Code code)) old new (none, same) valid = subst (λ t. AreValid kept' t.held) (sym same) valid
+  valid_fresh (Err (Error code)) old new (none, same) valid = subst (λ t. AreValid kept' t.held) (sym same) valid
   valid_fresh (Err (Failed failure)) old new same valid = subst (λ t. AreValid kept' t.held) (sym same) valid
 
 -- after a look-up
@@ -107,7 +107,7 @@ looked_valid kept None key old new same valid = subst (λ t. AreValid kept t.hel
 looked_valid kept (Some body) key old new moved valid = subst (λ t. AreValid kept t.held) (sym moved) (all_looked (IsValid kept) key old.held valid)
 
 -- after a decision was worked out in the domain of that revision
-pub fresh_valid : (kept : Kept) (name body : List ℕ) (moment : ℤ) (revision : Revision) (result : Result (List ℕ) Unanswered) (old new : Tally) → IsNumbered kept → revision_of name kept ≡ Some revision
+pub fresh_valid : (kept : Kept) (name body : List ℕ) (moment : ℤ) (revision : Revision) (result : Result (List ℕ) Unsuccessful) (old new : Tally) → IsNumbered kept → revision_of name kept ≡ Some revision
     → IsFresh (key_of_revision revision body) (worked_in (state_of name kept) body moment) result old new → AreValid kept old.held → AreValid kept new.held
 fresh_valid kept name body moment revision result old new numbered opens work valid = by_gate (domain_of_revision kept name revision opens) where
   by_gate : ((d : Domain) × (get kept.domains name ≡ Some d) × (revision_by (gate_of_domain d) ≡ revision)) → AreValid kept new.held

@@ -3,7 +3,7 @@ use Rattle.std.specs.Prelude.{ℕ, ◌==◌, List, [], ◌∷◌, take, drop, Op
 use Rattle.std.specs.Prelude.{codes}
 use Rattle.std.specs.Str.{str_eq_ignore_ascii_case}
 use Rattle.xa_http.specs.declared.message.Field.{Field}
-use Rattle.xa_http.specs.Length.{values_of}
+use Rattle.xa_http.specs.Fields.{values_of}
 use Rattle.xa_notation.specs.Tokens.{is_token}
 
 -- the text from its first byte that is no space

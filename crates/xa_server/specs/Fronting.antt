@@ -1,4 +1,4 @@
--- The next answer of one connection: words that contracts of a front's calls cite beside its definition.
+-- What calls of a front do, one and several: words that their contracts cite beside the front's definition.
 use Rattle.std.specs.Prelude.{◌≡◌, ◌⊎◌, ℕ, ℤ, true, false, List, [], ◌∷◌, Option, Some, None, Result, Ok, Err}
 use Rattle.xa_http.specs.declared.message.Message.{Message}
 use Rattle.xa_http.specs.declared.session.Next.{Next}
@@ -96,7 +96,7 @@ abbrev pub IfOutcomeSent : Outcome → Type 0 → Type 0
 IfOutcomeSent (outcome.Answered result) claim = IfAnswerSent result claim
 IfOutcomeSent _ claim = claim
 
--- none of them did
+-- unless one of the events did
 abbrev pub IfAllSent : List Outcome → Type 0 → Type 0
 IfAllSent [] claim = claim
 IfAllSent (outcome ∷ outcomes) claim = IfOutcomeSent outcome (IfAllSent outcomes claim)

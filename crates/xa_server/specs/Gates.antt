@@ -1,13 +1,15 @@
 -- Gates that are remembered, each under its domain's name, the one that was used last first: words that only private
 -- functions and the server's invariant cite.
-use Rattle.std.specs.Prelude.{ℕ, List, Option, option_and_then, option_map, bytes_eq}
+use Rattle.std.specs.Prelude.{ℕ, List, [], ◌∷◌, Option, Some, None, option_and_then, option_map, bytes_eq}
+use Rattle.std.specs.Prelude.{if◌then◌else◌}
 use Rattle.std.specs.Map.{lookup, remove_entry}
 use Rattle.lru.specs.LruCache.{lru_cache, promoted, put_entries}
+use Rattle.xa_notation.specs.declared.token.Role.{Role}
 use Rattle.xa_records.specs.declared.gate.Gate.{Gate}
+use Rattle.xa_records.specs.declared.gate.Token.{Token}
 use Rattle.xa_records.specs.Kept.{Kept}
 use Rattle.xa_records.specs.Readings.{gate_of}
 use Rattle.xa_server.specs.declared.revision.Revision.{Revision}
-use Rattle.xa_server.specs.Tokens.{role_in}
 
 -- the revision of a gate's domain: its number and its epoch
 abbrev pub revision_by : Gate → Revision
@@ -17,7 +19,12 @@ revision_by gate = record { number = gate.number; epoch = gate.epoch }
 abbrev pub revision_of : List ℕ → Kept → Option Revision
 revision_of name kept = option_map revision_by (gate_of name kept)
 
--- that of a gate's domain, where one of its tokens has that digest
+-- the role that the token of that digest has, among these
+abbrev pub role_in : List ℕ → List Token → Option Role
+role_in digest [] = None
+role_in digest (token ∷ tokens) = if bytes_eq token.digest digest then Some token.role else role_in digest tokens
+
+-- the revision of a gate's domain, where one of its tokens has that digest
 abbrev pub revision_with : List ℕ → Gate → Option Revision
 revision_with digest gate = option_map (λ _. revision_by gate) (role_in digest gate.tokens)
 

@@ -3,7 +3,7 @@ ghost use Rattle.std.specs.Prelude.{◌≡◌, true, false, Some};
 ghost use Rattle.xa_records.specs.Kept.{state_of};
 ghost use Rattle.xa_records.specs.Readings.{gate_of};
 ghost use Rattle.xa_server.specs.Gates.{revision_of};
-ghost use Rattle.xa_server.specs.Handling.{OnlyReads, Opens, Tells, admitted_by};
+ghost use Rattle.xa_server.specs.handling.Replying.{OnlyReads, Opens, Tells, admitted_by};
 ghost use Rattle.xa_server.specs.Machine.{admitted, by_operator, digest_shown, permitted};
 ghost use Rattle.xa_server.specs.Stock.{AllStand};
 
@@ -12,7 +12,7 @@ use crate::error_code::ErrorCode;
 use crate::gates::role_in;
 use crate::resources::Resources;
 use crate::revision::Revision;
-use crate::unanswered::Unanswered;
+use crate::unsuccessful::Unsuccessful;
 use std::alloc::Global;
 use xa_http::Message;
 use xa_notation::Role;
@@ -55,7 +55,7 @@ fn gate_opened<R: Records>(
     name: &Text,
     for_decisions: bool,
     digest: &Digest,
-) -> Result<Gate, Unanswered>
+) -> Result<Gate, Unsuccessful>
     ensures tells { (R.custody records.new).sound
         → Opens (R.custody records.old).kept (R.custody records.new).kept
         (gate_of name.now (R.custody records.old).kept) result
@@ -74,7 +74,7 @@ pub(crate) fn admit<R: Records>(
     records: &mut R,
     name: &Text,
     message: &Message,
-) -> Result<(), Unanswered>
+) -> Result<(), Unsuccessful>
     ensures tells { Tells (R.custody records.old) (R.custody records.new) result
         (admitted false (state_of name.now (R.custody records.old).kept) message.now) }
     ensures keeper { OnlyReads (R.custody records.old) (R.custody records.new) result }
@@ -95,7 +95,7 @@ pub(crate) fn admit_ask<R: Records>(
     records: &mut R,
     name: &Text,
     message: &Message,
-) -> Result<Revision, Unanswered>
+) -> Result<Revision, Unsuccessful>
     ensures tells { AllStand (R.custody records.old).kept resources.old → (R.custody records.new).sound
         → Opens (R.custody records.old).kept (R.custody records.new).kept
         (revision_of name.now (R.custody records.old).kept) result

@@ -3,19 +3,19 @@
 //! counted, and cached if it is the same at every moment. A body that doesn't ask the policies is answered
 //! without a view, if none is cached.
 ghost use Rattle.std.specs.Prelude.{◌≡◌, ◌-◌, length, Some, IfOk, IfSome, OnErr};
-ghost use Rattle.xa_decide.specs.Asked.{asks_policies};
 ghost use Rattle.std.specs.Option.{ok_or};
+ghost use Rattle.xa_decide.specs.Asked.{asks_policies};
 ghost use Rattle.xa_records.specs.declared.refusal.Refusal.TheVariants.{Absent};
 ghost use Rattle.xa_records.specs.Kept.{state_of};
-ghost use Rattle.xa_server.specs.declared.error_code.ErrorCode.TheVariants.{Refused};
 ghost use Rattle.xa_records.specs.Readings.{view_of};
-ghost use Rattle.xa_server.specs.Asking.{FreshReply, IfLetIn, IsAsked, IsFresh, IsResponse};
-ghost use Rattle.xa_server.specs.Asking.{IsResponseReply, MakesReady, key_asked, key_within};
-ghost use Rattle.xa_server.specs.Asking.{reply_asked, response_asked, worked_asked};
-ghost use Rattle.xa_server.specs.Handling.{Answers, OnlyReads, Tells};
+ghost use Rattle.xa_server.specs.declared.error_code.ErrorCode.TheVariants.{Refused};
+ghost use Rattle.xa_server.specs.handling.Asking.{FreshReply, IfLetIn, IsAsked, IsFresh, IsResponse};
+ghost use Rattle.xa_server.specs.handling.Asking.{IsResponseReply, MakesReady, key_asked, key_within};
+ghost use Rattle.xa_server.specs.handling.Asking.{reply_asked, response_asked, worked_asked};
+ghost use Rattle.xa_server.specs.handling.Replying.{Answers, OnlyReads, Tells};
 ghost use Rattle.xa_server.specs.Machine.{response_to, told};
 ghost use Rattle.xa_server.specs.Stock.{AllStand};
-ghost use Rattle.xa_server.specs.Viewing.{AreKeyed, nothing_viewed};
+ghost use Rattle.xa_server.specs.handling.Viewing.{AreKeyed, nothing_viewed};
 ghost use Rattle.xa_server.specs.Views.{added, bytes_of_tree, bytes_of_view};
 ghost use Rattle.xa_server.specs.Work.{body_held, response_of};
 
@@ -26,7 +26,7 @@ use crate::ready::{Ready, bytes_of_tree, bytes_of_view};
 use crate::replies::decision_reply;
 use crate::resources::{Resources, Texts};
 use crate::revision::Revision;
-use crate::unanswered::Unanswered;
+use crate::unsuccessful::Unsuccessful;
 use crate::view::view_of_kept;
 use std::alloc::Global;
 use xa_cache::Key;
@@ -56,7 +56,7 @@ fn kept_view<R: Records>(
     alloc: Global,
     records: &mut R,
     name: &Text,
-) -> Result<KeptView, Unanswered>
+) -> Result<KeptView, Unsuccessful>
     ensures tells { Tells (R.custody records.old) (R.custody records.new) result
         (ok_or (view_of name.now (R.custody records.old).kept) (Refused Absent)) }
     ensures keyed { (R.custody records.new).sound → IfOk result (λ kept. AreKeyed kept.texts) }
@@ -69,9 +69,9 @@ fn kept_view<R: Records>(
 }
 
 /// The domain's view under these limits, made of what the keeper has. What this costs grows with the texts
-/// of the active documents, which the keeper copies, and with the rows of attributes, which are put in
-/// order. It grows also with the texts of the documents to which the root leads, each of which is looked
-/// up on the shelf or read.
+/// of the active documents, which the keeper copies; a keeper in tables reads those of the others, too. It
+/// grows with the rows of attributes, which are put in order. It grows also with the texts of the documents
+/// to which the root leads, each of which is looked up on the shelf or read.
 #[tactic(auto, using(crate::proofs::ReadyLemmas::estimated))]
 fn ready_view<R: Records>(
     alloc: Global,
@@ -79,7 +79,7 @@ fn ready_view<R: Records>(
     records: &mut R,
     ask: &Ask<'_>,
     limits: Limits,
-) -> Result<Ready, Unanswered>
+) -> Result<Ready, Unsuccessful>
     ensures tells { MakesReady (R.custody records.old) (R.custody records.new) ask.now result }
     ensures estimate { (R.custody records.new).sound
         → IfOk result (λ ready. IfSome (view_of ask.now.name.now (R.custody records.old).kept)
@@ -108,14 +108,13 @@ fn ready_within<R: Records>(
     limits: Limits,
     records: &mut R,
     ask: &Ask<'_>,
-) -> Result<Ready, Unanswered>
+) -> Result<Ready, Unsuccessful>
     ensures tells { MakesReady (R.custody records.old) (R.custody records.new) ask.now result }
     ensures keeper { OnlyReads (R.custody records.old) (R.custody records.new) result }
 {
     let mut reader = TextReader::new(&mut texts.shelf, limits.reading);
     let ready = ready_view(alloc, &mut reader, records, ask, limits);
-    let is_spent = reader.is_spent();
-    if is_spent {
+    if reader.is_spent() {
         texts.oversized.remember(ask.revision);
     }
     ready
@@ -127,7 +126,7 @@ fn response_by(
     view: &View,
     body: &RequestBody<'_>,
     moment: Moment,
-) -> Result<Responded, Unanswered>
+) -> Result<Responded, Unsuccessful>
     ensures { IsResponse (response_of view.now body.now moment) result }
 {
     let responded = respond(alloc, view, body, moment)?.ok_or(NOT_JSON)?;
@@ -142,7 +141,7 @@ fn reply_by_view(
     key: Option<Key>,
     view: &View,
     body: &RequestBody<'_>,
-) -> Result<Items<u8>, Unanswered>
+) -> Result<Items<u8>, Unsuccessful>
     requires { key ≡ key_within (key_asked ask.now body.now) }
     ensures tells { IsResponseReply (response_asked view.now ask.now body.now) result }
     ensures works { IsFresh (key_asked ask.now body.now)
@@ -165,7 +164,7 @@ fn reply_by_kept<R: Records>(
     ask: &Ask<'_>,
     key: Option<Key>,
     body: &RequestBody<'_>,
-) -> Result<Items<u8>, Unanswered>
+) -> Result<Items<u8>, Unsuccessful>
     requires { key ≡ key_within (key_asked ask.now body.now) }
     ensures tells { Tells (R.custody records.old) (R.custody records.new) result
         (reply_asked (R.custody records.old).kept ask.now body.now) }
@@ -179,7 +178,7 @@ fn reply_by_kept<R: Records>(
 {
     if resources.texts.oversized.has(ask.revision) {
         // Over the limit of reading: refused as `Limits` says.
-        return Err(Unanswered::Failed(Failure::Memory));
+        return Err(Unsuccessful::Failed(Failure::Memory));
     }
     let limits = resources.limits;
     let ready = ready_within(alloc, &mut resources.texts, limits, records, ask)?;
@@ -197,7 +196,7 @@ fn reply_without_policies(
     ask: &Ask<'_>,
     key: Option<Key>,
     body: &RequestBody<'_>,
-) -> Result<Items<u8>, Unanswered>
+) -> Result<Items<u8>, Unsuccessful>
     requires { key ≡ key_within (key_asked ask.now body.now) }
     ensures tells { IsResponseReply (response_asked nothing_viewed ask.now body.now) result }
     ensures works { IsFresh (key_asked ask.now body.now)
@@ -216,7 +215,7 @@ fn reply_without_view<R: Records>(
     ask: &Ask<'_>,
     key: Option<Key>,
     body: &RequestBody<'_>,
-) -> Result<Items<u8>, Unanswered>
+) -> Result<Items<u8>, Unsuccessful>
     requires { key ≡ key_within (key_asked ask.now body.now) }
     ensures { FreshReply (R.custody records.old) (R.custody records.new) ask.now body.now
         resources.old resources.new result }
@@ -237,7 +236,7 @@ fn reply_by_evaluation<R: Records>(
     ask: &Ask<'_>,
     key: Option<Key>,
     body: &RequestBody<'_>,
-) -> Result<Items<u8>, Unanswered>
+) -> Result<Items<u8>, Unsuccessful>
     requires { key ≡ key_within (key_asked ask.now body.now) }
     ensures { FreshReply (R.custody records.old) (R.custody records.new) ask.now body.now
         resources.old resources.new result }
@@ -259,7 +258,7 @@ fn reply_to_unread<R: Records>(
     ask: &Ask<'_>,
     key: Option<Key>,
     body: &[u8],
-) -> Result<Items<u8>, Unanswered>
+) -> Result<Items<u8>, Unsuccessful>
     requires { key ≡ key_within (key_asked ask.now body.now) }
     ensures { FreshReply (R.custody records.old) (R.custody records.new) ask.now body.now
         resources.old resources.new result }
@@ -277,7 +276,7 @@ pub(crate) fn reply_to_ask<R: Records>(
     records: &mut R,
     ask: &Ask<'_>,
     body: &[u8],
-) -> Result<Items<u8>, Unanswered>
+) -> Result<Items<u8>, Unsuccessful>
     ensures answers { IfLetIn (R.custody records.old) (R.custody records.new) ask.now resources.old
         (Answers (R.custody records.old).kept (R.custody records.new).kept ask.now.name.now result
         (told (response_to body.now ask.now.moment)

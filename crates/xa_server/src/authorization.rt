@@ -1,6 +1,6 @@
 //! The token that a message shows.
 ghost use Rattle.std.specs.Prelude.{◌≡◌, codes, option_map};
-ghost use Rattle.xa_http.specs.Length.{is_named, values_of};
+ghost use Rattle.xa_http.specs.Fields.{is_named, values_of};
 ghost use Rattle.xa_server.specs.Authorization.{after_spaces, credentials_of, token_if, the_only, token_in};
 
 use xa_http::Field;

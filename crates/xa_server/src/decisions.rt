@@ -1,7 +1,7 @@
 //! The cached decisions, with their counts.
 ghost use Rattle.std.specs.Prelude.{◌≡◌, true, option_map, IfOk};
 ghost use Rattle.xa_cache.specs.Bodies.{found};
-ghost use Rattle.xa_server.specs.Asking.{IsLookedUp, IsNoted, key_of_revision, key_within};
+ghost use Rattle.xa_server.specs.handling.Asking.{IsLookedUp, IsNoted, key_of_revision, key_within};
 ghost use Rattle.xa_server.specs.Tally.{nothing_held};
 ghost use Rattle.xa_server.specs.Work.{IsBodyHeld};
 ghost use Rattle.xa_server.specs.Replies.{decision_reply};
@@ -15,7 +15,8 @@ use xa_decide::Responded;
 use xa_records::Digest;
 use xa_value::Items;
 
-/// The most bytes of a request whose decision is looked up and cached.
+/// The most bytes of a request whose decision is looked up and cached: of a longer one none is kept
+/// (`xa_cache::fits`), so no key is made for it.
 const MAX_REQUEST_BYTES: usize = 16_384;
 
 /// The cache of decisions, and what was counted of them.
@@ -69,7 +70,7 @@ impl Decisions {
     }
 
     /// The reply by the decision that is cached under the key, which is its newest use then. A body of
-    /// more bytes than `most` is refused here as where it is evaluated.
+    /// more bytes than `most` is `AllocError`, as where it is evaluated.
     pub(crate) fn held_reply(
         &mut self,
         alloc: Global,

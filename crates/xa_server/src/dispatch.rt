@@ -3,9 +3,10 @@
 ghost use Rattle.std.specs.Prelude.{IsTrue};
 ghost use Rattle.xa_http.specs.declared.route.Route.TheVariants as to;
 ghost use Rattle.xa_records.specs.DomainName.{is_domain_name};
-ghost use Rattle.xa_server.specs.Asking.{SharesMessage, SharesRoute};
-ghost use Rattle.xa_server.specs.Handling.{ChangesRoute, HandlesChange, KeepsMessage, KeepsRoute};
-ghost use Rattle.xa_server.specs.Handling.{OnlyForgets, OnlyReads, TellsMessage, TellsRoute, domain_named};
+ghost use Rattle.xa_server.specs.handling.Asking.{SharesMessage, SharesRoute};
+ghost use Rattle.xa_server.specs.handling.Replying.{ChangesRoute, HandlesChange, KeepsMessage, KeepsRoute};
+ghost use Rattle.xa_server.specs.handling.Replying.{OnlyForgets, OnlyReads, TellsMessage, TellsRoute};
+ghost use Rattle.xa_server.specs.handling.Replying.{domain_named};
 ghost use Rattle.xa_server.specs.Machine.{by_document_command, by_domain_command, by_operator_command};
 ghost use Rattle.xa_server.specs.Owner.{name_if};
 
@@ -20,7 +21,7 @@ use crate::name::name_if;
 use crate::readings::{domains, list, show, source};
 use crate::received::Received;
 use crate::resources::Resources;
-use crate::unanswered::Unanswered;
+use crate::unsuccessful::Unsuccessful;
 use std::alloc::Global;
 use xa_http::{DocumentCommand, DocumentParts, DomainCommand, OperatorCommand, Route, Routes};
 use xa_policy::DocumentKey;
@@ -34,7 +35,7 @@ fn by_operator_command<R: Records>(
     name: &Text,
     command: OperatorCommand,
     body: &[u8],
-) -> Result<Items<u8>, Unanswered>
+) -> Result<Items<u8>, Unsuccessful>
     requires { IsTrue (is_domain_name name.now) }
     ensures { HandlesChange (R.custody records.old) (R.custody records.new) name.now result
         (by_operator_command command body.now) }
@@ -54,7 +55,7 @@ fn by_domain_command<R: Records>(
     name: &Text,
     command: DomainCommand,
     body: &[u8],
-) -> Result<Items<u8>, Unanswered>
+) -> Result<Items<u8>, Unsuccessful>
     ensures { HandlesChange (R.custody records.old) (R.custody records.new) name.now result
         (by_domain_command command body.now) }
 {
@@ -74,7 +75,7 @@ fn by_document_command<R: Records>(
     name: &Text,
     command: DocumentCommand,
     key: &DocumentKey,
-) -> Result<Items<u8>, Unanswered>
+) -> Result<Items<u8>, Unsuccessful>
     ensures { HandlesChange (R.custody records.old) (R.custody records.new) name.now result
         (by_document_command command key.now) }
 {
@@ -86,17 +87,17 @@ fn by_document_command<R: Records>(
     }
 }
 
-/// Answers a message to one of the operator's paths of a domain. Once it is let in the domain's gate is
-/// forgotten, since it may change.
+/// The reply to a message to one of the operator's paths of a domain. Once it is let in and names a domain,
+/// that domain's gate is forgotten, since it may change.
 #[tactic(auto, using(crate::proofs::GateLemmas::changed_stands))]
-fn operator_route<R: Records>(
+fn reply_on_operator_route<R: Records>(
     alloc: Global,
     resources: &mut Resources,
     records: &mut R,
     received: &Received<'_>,
     domain: Items<u8>,
     command: OperatorCommand,
-) -> Result<Items<u8>, Unanswered>
+) -> Result<Items<u8>, Unsuccessful>
     ensures handled { ChangesRoute (R.custody records.old) (R.custody records.new) received.now
         (to.Operator domain command) result }
     ensures shared { OnlyForgets (R.custody records.old) (R.custody records.new) resources.old resources.new }
@@ -107,15 +108,15 @@ fn operator_route<R: Records>(
     by_operator_command(alloc, records, &name, command, received.body())
 }
 
-/// Answers a message that asks for a decision in a domain.
+/// The reply to a message that asks for a decision in a domain.
 #[tactic(auto, using(crate::proofs::GateLemmas::same_stands))]
-fn decision_route<R: Records>(
+fn reply_on_decision_route<R: Records>(
     alloc: Global,
     resources: &mut Resources,
     records: &mut R,
     received: &Received<'_>,
     domain: Items<u8>,
-) -> Result<Items<u8>, Unanswered>
+) -> Result<Items<u8>, Unsuccessful>
     ensures answers { TellsRoute (R.custody records.old) (R.custody records.new) received.now
         resources.old (name_if domain) (to.Decide domain) result }
     ensures shared { SharesRoute (R.custody records.old) (R.custody records.new) received.now
@@ -132,17 +133,17 @@ fn decision_route<R: Records>(
     reply_to_ask(alloc, resources, records, &ask, received.body())
 }
 
-/// Answers a message that asks for something else in a domain. Once it is let in the domain's gate is
+/// The reply to a message that asks for something else in a domain. Once it is let in the domain's gate is
 /// forgotten, since it may change.
 #[tactic(auto, using(crate::proofs::GateLemmas::changed_stands))]
-fn domain_route<R: Records>(
+fn reply_on_domain_route<R: Records>(
     alloc: Global,
     resources: &mut Resources,
     records: &mut R,
     received: &Received<'_>,
     domain: Items<u8>,
     command: DomainCommand,
-) -> Result<Items<u8>, Unanswered>
+) -> Result<Items<u8>, Unsuccessful>
     ensures handled { ChangesRoute (R.custody records.old) (R.custody records.new) received.now
         (to.Domain domain command) result }
     ensures shared { OnlyForgets (R.custody records.old) (R.custody records.new) resources.old resources.new }
@@ -153,10 +154,10 @@ fn domain_route<R: Records>(
     by_domain_command(alloc, records, &name, command, received.body())
 }
 
-/// Answers a message to the path of a document. Once it is let in the domain's gate is forgotten, since
-/// it may change.
+/// The reply to a message to the path of a document. Once it is let in and names a key, the domain's gate
+/// is forgotten, since it may change.
 #[tactic(auto, using(crate::proofs::GateLemmas::changed_stands))]
-fn document_route<R: Records>(
+fn reply_on_document_route<R: Records>(
     alloc: Global,
     resources: &mut Resources,
     records: &mut R,
@@ -164,7 +165,7 @@ fn document_route<R: Records>(
     domain: Items<u8>,
     parts: DocumentParts,
     command: DocumentCommand,
-) -> Result<Items<u8>, Unanswered>
+) -> Result<Items<u8>, Unsuccessful>
     ensures handled { ChangesRoute (R.custody records.old) (R.custody records.new) received.now
         (to.Document domain parts command) result }
     ensures shared { OnlyForgets (R.custody records.old) (R.custody records.new) resources.old resources.new }
@@ -183,7 +184,7 @@ fn reply_to_route<R: Records>(
     records: &mut R,
     received: &Received<'_>,
     route: Route,
-) -> Result<Items<u8>, Unanswered>
+) -> Result<Items<u8>, Unsuccessful>
     ensures answers { TellsRoute (R.custody records.old) (R.custody records.new) received.now
         resources.old (domain_named route) route result }
     ensures shared { SharesRoute (R.custody records.old) (R.custody records.new) received.now route
@@ -196,17 +197,19 @@ fn reply_to_route<R: Records>(
             domains(alloc, records)
         }
         Route::Operator { domain, command } => {
-            operator_route(alloc, resources, records, received, domain, command)
+            reply_on_operator_route(alloc, resources, records, received, domain, command)
         }
-        Route::Decide { domain } => decision_route(alloc, resources, records, received, domain),
+        Route::Decide { domain } => {
+            reply_on_decision_route(alloc, resources, records, received, domain)
+        }
         Route::Domain { domain, command } => {
-            domain_route(alloc, resources, records, received, domain, command)
+            reply_on_domain_route(alloc, resources, records, received, domain, command)
         }
         Route::Document {
             domain,
             parts,
             command,
-        } => document_route(alloc, resources, records, received, domain, parts, command),
+        } => reply_on_document_route(alloc, resources, records, received, domain, parts, command),
     }
 }
 
@@ -217,7 +220,7 @@ pub(crate) fn reply_to_message<R: Records>(
     resources: &mut Resources,
     records: &mut R,
     received: &Received<'_>,
-) -> Result<Items<u8>, Unanswered>
+) -> Result<Items<u8>, Unsuccessful>
     ensures answers { TellsMessage (R.custody records.old) (R.custody records.new) received.now
         resources.old result }
     ensures shared { SharesMessage (R.custody records.old) (R.custody records.new) received.now

@@ -3,7 +3,7 @@ ghost use Rattle.std.specs.Prelude.{◌≡◌, ◌≤◌, false, List, Option, S
 ghost use Rattle.xa_http.specs.Stream.{Stream};
 ghost use Rattle.xa_server.specs.Driven.{IsConnection, KeepsOpen, known_by};
 ghost use Rattle.xa_server.specs.declared.driven.Driven.TheVariants as driven;
-ghost use Rattle.xa_server.specs.Driving.{FeedsOne, IsRead, IsWaiting, piece_of};
+ghost use Rattle.xa_server.specs.handling.Driving.{FeedsOne, IsRead, IsWaiting};
 ghost use Rattle.xa_server.specs.Lines.{IsOpen, line_at};
 
 use crate::clock::Clock;
@@ -17,24 +17,16 @@ use crate::turns::{answer_held, play_one};
 use crate::writer::Writer;
 use std::io::ErrorKind;
 
-/// How many bytes are read at once.
+/// How many bytes are read at once, so that one call of the system gives many small messages. The room for
+/// them stands on the stack.
 const PIECE_BYTES: usize = 65_536;
 
-/// How often a connection is read from.
+/// How often a connection is read from at most; then it ends by `TooManyReads`. So each ends, whatever its
+/// peer sends.
 const MAX_READS: u32 = 1_000_000;
 
-/// What an outcome says of a piece. The outcome of an `Event::Piece` is no other.
-fn piece_of(outcome: Outcome) -> Result<(), FrontError>
-    ensures { result ≡ piece_of outcome }
-{
-    match outcome {
-        Outcome::Held(held) => held,
-        _ => Err(FrontError::Memory),
-    }
-}
-
 /// Puts a piece to an open connection.
-#[tactic(auto, using(crate::proofs::OpenLemmas::open_kept, crate::proofs::OpenLemmas::piece_keeps))]
+#[tactic(auto, using(crate::proofs::OpenLemmas::open_kept))]
 fn play_piece<F: Multiplexer>(front: &mut F, conn: Conn, piece: &[u8]) -> Result<(), FrontError>
     ensures fed { F.is_sound front.new
         → FeedsOne conn piece.now (F.state front.old) (F.state front.new)
@@ -44,7 +36,10 @@ fn play_piece<F: Multiplexer>(front: &mut F, conn: Conn, piece: &[u8]) -> Result
     ensures sound { F.is_sound front.new → F.is_sound front.old }
 {
     let outcome = play_one(front, &Event::Piece(conn, piece))?;
-    piece_of(outcome)
+    let Outcome::Held(held) = outcome else {
+        unreachable!()
+    };
+    held
 }
 
 /// Reads once from a connection of which no whole message is left, and answers all messages that are

@@ -27,7 +27,7 @@ pub enum ErrorCode {
     #[error("the body has another media type than JSON")]
     BadMediaType,
     /// 401: the message shows no token of the domain, or on the operator's paths not the operator's.
-    #[error("the message shows no token of the domain")]
+    #[error("the message shows no token that is let in there")]
     Unauthorized,
     /// 403: the role of the message's token may not ask for that.
     #[error("the role of the message's token may not ask for that")]
@@ -42,7 +42,7 @@ pub enum ErrorCode {
     #[error(transparent)]
     Refused(Refusal),
     /// 400, 413, 431 or 501: the stream doesn't go on with a message that is taken.
-    #[error("the stream doesn't go on with a message that is taken")]
+    #[error(transparent)]
     Session(SessionFault),
 }
 

@@ -2,7 +2,7 @@
 ghost use Rattle.std.specs.Prelude.{◌≡◌, IfOk, OnErr, MatchResult, Some};
 ghost use Rattle.xa_http.specs.declared.session.Look.TheVariants as look;
 ghost use Rattle.xa_http.specs.Messages.{IsLook};
-ghost use Rattle.xa_server.specs.Answering.{AnswersIn, AnswersNext, HandsOn, IsFaultGiven, TakesIn};
+ghost use Rattle.xa_server.specs.handling.Answering.{AnswersIn, AnswersNext, HandsOn, IsFaultGiven, TakesIn};
 ghost use Rattle.xa_server.specs.Front.{IsPlayed, front_state, server_state};
 ghost use Rattle.xa_server.specs.FrontLaws.{LinesAreStreams};
 ghost use Rattle.xa_server.specs.Fronting.{AnswersLine, CountsAnswer, CountsOutcome, CountsOutcomes};
@@ -70,6 +70,7 @@ impl<R: Records> Front<R> {
     }
 
     /// Opens the connection of the least number of which none is open. It holds nothing, and takes no memory.
+    /// Refused with `TooManyConnections`, if all 64 are open.
     pub fn open(&mut self) -> Result<Conn, FrontError>
         ensures opened { IsOpened self.old.lines result self.new.lines }
         ensures server { self.new.server ≡ self.old.server }
@@ -78,8 +79,9 @@ impl<R: Records> Front<R> {
     }
 
     /// Takes a piece of the connection's stream, whole; or nothing of it, where the connection would
-    /// hold more than 1,048,576 bytes. A connection whose session has ended takes it too, and answers
-    /// nothing to it.
+    /// hold more than 1,048,576 bytes (`Full`), where there is no memory (`Memory`), or where it isn't
+    /// open (`NoSuchConnection`). A connection whose session has ended takes it too, and answers nothing
+    /// to it.
     pub fn piece(&mut self, conn: Conn, piece: &[u8]) -> Result<(), FrontError>
         ensures held { IsHeld conn piece.now self.old.lines result self.new.lines }
         ensures server { self.new.server ≡ self.old.server }
@@ -90,7 +92,8 @@ impl<R: Records> Front<R> {
     /// Answers the first whole message of the connection's bytes, or the fault by which its stream ends;
     /// nothing where there is neither. No other connection's bytes change. Without memory before the
     /// message is cut off, or for the reply to the fault, nothing has changed. The reply to a fault is
-    /// the same at every moment.
+    /// the same at every moment. Refused with `NoSuchConnection`, if it isn't open; else with `Memory`
+    /// alone.
     pub fn answer(&mut self, conn: Conn, moment: Moment) -> Result<Option<Answer>, FrontError>
         ensures answered { (R.custody self.new.server.records).sound
             → AnswersLine conn moment
@@ -116,7 +119,8 @@ impl<R: Records> Front<R> {
         }
     }
 
-    /// Closes the connection. The bytes that it holds are gone.
+    /// Closes the connection. The bytes that it holds are gone. Refused with `NoSuchConnection`, if it
+    /// isn't open.
     pub fn close(&mut self, conn: Conn) -> Result<(), FrontError>
         ensures closed { IsClosed conn self.old.lines result self.new.lines }
         ensures server { self.new.server ≡ self.old.server }
@@ -155,13 +159,14 @@ impl<R: Records> Front<R> {
 
     /// Whether the server's keeper can go on: one that can't answers `Store` to every call, so that every
     /// message that wants it is refused. A message that wants nothing of it may still be answered.
-    pub(crate) fn is_open(&self) -> bool
+    pub(crate) fn can_go_on(&self) -> bool
         ensures { result ≡ (R.custody self.now.server.records).is_open }
     {
         self.server.is_open()
     }
 
-    /// What stands at the front of the connection's stream. Nothing is changed.
+    /// What stands at the front of the connection's stream. Nothing is changed. Refused with
+    /// `NoSuchConnection`, if it isn't open; else with `Memory` alone.
     pub(crate) fn look(&mut self, conn: Conn) -> Result<Look, FrontError>
         ensures look { IsLooked conn self.old.lines result }
         ensures same { self.new ≡ self.old }

@@ -2,8 +2,7 @@
 //! in: the domain's tokens, with its number and epoch.
 ghost use Rattle.std.specs.Prelude.{◌≡◌, ◌⊎◌, [], IfOk, None, bytes_eq};
 ghost use Rattle.std.specs.Map.{lookup};
-ghost use Rattle.xa_server.specs.Gates.{revision_in, used, with_gate, without_gate};
-ghost use Rattle.xa_server.specs.Tokens.{role_in};
+ghost use Rattle.xa_server.specs.Gates.{revision_in, role_in, used, with_gate, without_gate};
 
 use crate::revision::Revision;
 use lru::LruCache;
@@ -14,7 +13,7 @@ use xa_notation::Role;
 use xa_records::{Digest, Gate, Token};
 use xa_value::Text;
 
-/// The most gates that are remembered.
+/// The most gates that are remembered: with 32 tokens each, the most of a domain, they take less than 1 MiB.
 const MAX_GATES: usize = 512;
 
 /// Gates that are remembered, each under its domain's name.

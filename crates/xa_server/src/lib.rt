@@ -1,13 +1,17 @@
 //! The decision server: one message after another, each answered by the machine of its own domain.
 //!
-//! Files in the order of a message: `server` has it answered by `dispatch`, which asks `admission` whether
-//! it is let in and goes on to `changes`, `readings` or `asks`. `admission` asks `authorization` and
-//! `gates`; `asks` asks `decisions`, `views`, `view` and `oversized`. All that is cached stands in
-//! `resources`. What is not answered with success is `unanswered`; the bytes of replies come from `replies`
-//! and `error_code`.
+//! Files in the order of a message: `server` puts it into `received`, with what else its answer depends on,
+//! and `dispatch` answers it. That reads the domain and the document from the path (`name`, `document_key`),
+//! asks `admission` whether the message is let in, and goes on to `changes`, `readings` or `asks`.
+//! `admission` asks `authorization` and `gates`; `asks` asks `decisions`, `views`, `view` and `oversized`. A
+//! view that is `ready` is that of a `revision` of its domain, and decides under `limits`. All that is
+//! cached stands in `resources`. What is not answered with success is `unsuccessful`; the bytes of replies
+//! come from `replies` and `error_code`.
 //!
-//! Files of connections: `front` cuts the messages from the bytes that `lines` holds. `driving` reads a
-//! connection from a `Reader` until it ends, and `turns` sends each reply by `sending` to a `Writer`.
+//! Files of connections: `front` cuts the messages from the bytes that `lines` holds. Its calls are values of
+//! `event`, its refusals are `front_error`. `driving` reads a connection from a `reader` until it ends as
+//! `driven` says; it stands on a `multiplexer`, which a front is. `turns` asks the `clock`, and sends each
+//! reply by `sending` to a `writer`. `interruption` has the law of a crash at any moment.
 //!
 //! In a file of functions each stands after those that it calls. In a file of a type its methods come first.
 #![tactic(auto)]
@@ -43,7 +47,7 @@ mod revision;
 mod sending;
 mod server;
 mod turns;
-mod unanswered;
+mod unsuccessful;
 mod view;
 mod views;
 mod writer;

@@ -1,6 +1,6 @@
 //! The connections of a front, each with its stream.
 ghost use Rattle.std.specs.Prelude.{◌≡◌, IfOk};
-ghost use Rattle.xa_server.specs.Answering.{IsFed};
+ghost use Rattle.xa_server.specs.handling.Answering.{IsFed};
 ghost use Rattle.xa_server.specs.Lines.{IsClosed, IsHeld, IsLooked, IsLookedIn, IsOpened};
 ghost use Rattle.xa_server.specs.Lines.{first_free, held_at, line_at, none_open, with_line};
 
@@ -10,10 +10,12 @@ use std::marker::Model;
 use std::mem;
 use xa_http::{Look, Session};
 
-/// How many connections there are.
+/// How many connections there are. If each holds the most, they hold 64 MiB together.
 const CONNECTIONS: usize = 64;
 
-/// How many bytes a connection holds at most.
+/// How many bytes a connection holds at most: more than the longest message, of 16,384 bytes of a head and
+/// 524,288 of a body, and a piece of 65,536. So one that waits for the rest of a message has room for each
+/// piece that is read, and `drive` takes a refused piece for want of memory.
 const MAX_CONNECTION_BYTES: usize = 1_048_576;
 
 /// A connection of a front, by its number. Once it is closed, no call takes it, until its number is
@@ -54,7 +56,7 @@ impl Lines {
     }
 
     /// Opens the connection of the least number that is free. It holds nothing, and no memory is taken
-    /// for it.
+    /// for it. Refused with `TooManyConnections`, if none is free.
     pub(crate) fn open(&mut self, alloc: Global) -> Result<Conn, FrontError>
         ensures { IsOpened self.old result self.new }
     {
@@ -64,7 +66,8 @@ impl Lines {
         Ok(conn)
     }
 
-    /// Puts the piece behind the bytes that the connection holds, whole or not at all.
+    /// Puts the piece behind the bytes that the connection holds, whole or not at all. Refused with
+    /// `NoSuchConnection`, if it isn't open, with `Full` or with `Memory`.
     pub(crate) fn piece(&mut self, conn: Conn, piece: &[u8]) -> Result<(), FrontError>
         ensures { IsHeld conn piece.now self.old result self.new }
     {
@@ -74,7 +77,8 @@ impl Lines {
         }
     }
 
-    /// What stands at the front of the connection's stream. Nothing is changed.
+    /// What stands at the front of the connection's stream. Nothing is changed. Refused with
+    /// `NoSuchConnection`, if it isn't open; else with `Memory` alone.
     pub(crate) fn look(&mut self, conn: Conn) -> Result<Look, FrontError>
         ensures look { IsLooked conn self.old result }
         ensures same { self.new ≡ self.old }
@@ -85,7 +89,7 @@ impl Lines {
         }
     }
 
-    /// Closes the connection, and lets its bytes go.
+    /// Closes the connection, and lets its bytes go. Refused with `NoSuchConnection`, if it isn't open.
     pub(crate) fn close(&mut self, conn: Conn) -> Result<(), FrontError>
         ensures { IsClosed conn self.old result self.new }
     {

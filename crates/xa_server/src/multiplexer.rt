@@ -35,10 +35,11 @@ pub trait Multiplexer {
     ghost said: { Self → Option (List Bool) } = { λ _. None };
 
     /// How many bytes the connection holds, if it is open.
-    fn held(&self, conn: Conn) -> Option<usize>
+    fn held_len(&self, conn: Conn) -> Option<usize>
         ensures { result ≡ held_at conn (state self.now).lines };
 
-    /// What stands at the front of the connection's stream. Nothing is changed.
+    /// What stands at the front of the connection's stream. Nothing is changed. Refused with
+    /// `NoSuchConnection`, if it isn't open; else with `Memory` alone.
     fn look(&mut self, conn: Conn) -> Result<Look, FrontError>
         ensures look { IsLooked conn (state self.old).lines result }
         ensures same { state self.new ≡ state self.old }
@@ -78,8 +79,8 @@ impl<R: Records> Multiplexer for Front<R> {
 
     ghost goes_on = { front_goes_on R.custody };
 
-    fn held(&self, conn: Conn) -> Option<usize> {
-        self.held_len(conn)
+    fn held_len(&self, conn: Conn) -> Option<usize> {
+        Front::held_len(self, conn)
     }
 
     fn look(&mut self, conn: Conn) -> Result<Look, FrontError> {
@@ -87,7 +88,7 @@ impl<R: Records> Multiplexer for Front<R> {
     }
 
     fn can_go_on(&mut self) -> bool {
-        self.is_open()
+        Front::can_go_on(self)
     }
 
     fn play(&mut self, events: &[Event<'_>]) -> Result<Vec<Outcome>, AllocError> {

@@ -4,7 +4,8 @@ use lru::LruCache;
 use std::alloc::{AllocError, Global};
 use std::num::NonZeroUsize;
 
-/// The most domains that are remembered.
+/// The most domains that are remembered, as many as gates are. One that was forgotten is read once more, as
+/// far as a message may read, and is remembered again.
 const MAX_DOMAINS: usize = 512;
 
 /// Domains whose root leads to more text than a message may have read, each by its number, with the epoch

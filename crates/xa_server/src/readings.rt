@@ -5,13 +5,13 @@ ghost use Rattle.xa_decide.specs.Rows.{rows_body};
 ghost use Rattle.xa_records.specs.Kept.{names_of};
 ghost use Rattle.xa_records.specs.Listing.{listing_body, names_body};
 ghost use Rattle.xa_records.specs.Readings.{listing_of_state};
-ghost use Rattle.xa_server.specs.Handling.{HandlesReading, OnlyReads, Tells};
+ghost use Rattle.xa_server.specs.handling.Replying.{HandlesReading, OnlyReads, Tells};
 ghost use Rattle.xa_server.specs.Machine.{by_document_command, told};
 ghost use Rattle.xa_server.specs.Replies.{json_reply};
 
 use crate::error_code::ABSENT;
 use crate::replies::json_reply;
-use crate::unanswered::Unanswered;
+use crate::unsuccessful::Unsuccessful;
 use std::alloc::Global;
 use xa_decide::write_rows;
 use xa_policy::DocumentKey;
@@ -24,7 +24,7 @@ pub(crate) fn list<R: Records>(
     alloc: Global,
     records: &mut R,
     name: &Text,
-) -> Result<Items<u8>, Unanswered>
+) -> Result<Items<u8>, Unsuccessful>
     ensures { HandlesReading (R.custody records.old) (R.custody records.new) name.now result
         (told (λ kept. Ok (json_reply (listing_body (listing_of_state kept))))) }
 {
@@ -33,13 +33,14 @@ pub(crate) fn list<R: Records>(
     Ok(json_reply(alloc, &body)?)
 }
 
-/// The rows of the domain's source of attributes.
+/// The rows of the domain's source of attributes. What this costs grows with the texts of the active
+/// documents, too, which the keeper copies.
 #[tactic(auto, using(crate::proofs::GrowthLemmas::reads))]
 pub(crate) fn source<R: Records>(
     alloc: Global,
     records: &mut R,
     name: &Text,
-) -> Result<Items<u8>, Unanswered>
+) -> Result<Items<u8>, Unsuccessful>
     ensures { HandlesReading (R.custody records.old) (R.custody records.new) name.now result
         (told (λ kept. Ok (json_reply (rows_body kept.source)))) }
 {
@@ -55,7 +56,7 @@ pub(crate) fn show<R: Records>(
     records: &mut R,
     name: &Text,
     key: &DocumentKey,
-) -> Result<Items<u8>, Unanswered>
+) -> Result<Items<u8>, Unsuccessful>
     ensures { HandlesReading (R.custody records.old) (R.custody records.new) name.now result
         (by_document_command document.Show key.now) }
 {
@@ -64,7 +65,7 @@ pub(crate) fn show<R: Records>(
 }
 
 /// The names of all domains. What this costs grows with their number.
-pub(crate) fn domains<R: Records>(alloc: Global, records: &mut R) -> Result<Items<u8>, Unanswered>
+pub(crate) fn domains<R: Records>(alloc: Global, records: &mut R) -> Result<Items<u8>, Unsuccessful>
     ensures tells { Tells (R.custody records.old) (R.custody records.new) result
         (Ok (json_reply (names_body (names_of (R.custody records.old).kept)))) }
     ensures keeper { OnlyReads (R.custody records.old) (R.custody records.new) result }

@@ -1,6 +1,6 @@
 //! What is sent to the peer of a connection.
 ghost use Rattle.std.specs.Prelude.{◌≤◌, ◌<◌, length, IfSome, MatchOption};
-ghost use Rattle.xa_server.specs.Sending.{IsFlushed, IsWritten, SendsNone, SendsSome};
+ghost use Rattle.xa_server.specs.handling.Sending.{IsFlushed, IsWritten, SendsNone, SendsSome};
 
 use crate::writer::Writer;
 use std::io::ErrorKind;

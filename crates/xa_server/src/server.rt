@@ -1,14 +1,14 @@
 //! The server: a keeper of all domains, one message after another.
 ghost use Rattle.std.specs.Prelude.{◌≡◌, IfOk, OnErr, MatchResult};
 ghost use Rattle.xa_server.specs.Isolation.{TwoWorldsAgree};
-ghost use Rattle.xa_server.specs.Handling.{IsReplyOf};
+ghost use Rattle.xa_server.specs.handling.Replying.{IsReplyOf};
 
 use crate::dispatch::reply_to_message;
 use crate::limits::Limits;
 use crate::received::Received;
 use crate::replies::Reply;
 use crate::resources::Resources;
-use crate::unanswered::Unanswered;
+use crate::unsuccessful::Unsuccessful;
 use std::alloc::{AllocError, AllocFailed, Global};
 use std::marker::Model;
 use xa_http::{Message, Routes};
@@ -167,7 +167,8 @@ impl<R: Records> Server<R> {
         self.resources.decisions.unkept()
     }
 
-    /// How many texts of policies were read that weren't on the shelf; at the greatest number it stays.
+    /// How many texts of policies were read that weren't on the shelf; at the greatest number it stays. No
+    /// clause speaks of it.
     pub fn readings(&self) -> u64 {
         self.resources.texts.shelf.readings()
     }
@@ -252,13 +253,13 @@ impl<R: Records> Server<R> {
 }
 
 /// What goes back for a message that was answered, or wasn't.
-fn reply_of(alloc: Global, answered: Result<Items<u8>, Unanswered>) -> Reply
+fn reply_of(alloc: Global, answered: Result<Items<u8>, Unsuccessful>) -> Reply
     ensures { IsReplyOf answered result }
 {
     match answered {
         Ok(bytes) => Reply::Sent(bytes),
-        Err(Unanswered::Failed(failure)) => Reply::Refused(failure),
-        Err(Unanswered::Code(code)) => match code.reply(alloc) {
+        Err(Unsuccessful::Failed(failure)) => Reply::Refused(failure),
+        Err(Unsuccessful::Error(code)) => match code.reply(alloc) {
             Ok(bytes) => Reply::Sent(bytes),
             Err(_) => Reply::Refused(Failure::Memory),
         },

@@ -4,8 +4,8 @@ ghost use Rattle.xa_http.specs.Stream.{Stream};
 ghost use Rattle.xa_server.specs.Driven.{KeepsOpen, known_by};
 ghost use Rattle.xa_server.specs.declared.turns.Turn.TheVariants as turn;
 ghost use Rattle.xa_server.specs.declared.driven.Driven.TheVariants as driven;
-ghost use Rattle.xa_server.specs.Driving.{AnswersOne, IsAnsweredAt, IsAnsweredNow, IsAskedAfter};
-ghost use Rattle.xa_server.specs.Driving.{IsHeldAnswered, IsSentAs, IsTurn, PlaysOne, answer_of};
+ghost use Rattle.xa_server.specs.handling.Driving.{AnswersOne, IsAnsweredAt, IsAnsweredNow, IsAskedAfter};
+ghost use Rattle.xa_server.specs.handling.Driving.{IsHeldAnswered, IsSentAs, IsTurn, PlaysOne};
 ghost use Rattle.xa_server.specs.Fronting.{DoesLines};
 ghost use Rattle.xa_server.specs.Lines.{IsOpen, line_at};
 ghost use Rattle.xa_server.specs.Transfers.{ReadEnd};
@@ -56,16 +56,6 @@ pub(crate) fn play_one<F: Multiplexer>(
     }
 }
 
-/// What an outcome says of an answer. The outcome of an `Event::Answer` is no other.
-fn answer_of(outcome: Outcome) -> Result<Option<Answer>, FrontError>
-    ensures { result ≡ answer_of outcome }
-{
-    match outcome {
-        Outcome::Answered(answered) => answered,
-        _ => Err(FrontError::Memory),
-    }
-}
-
 /// Has the next of an open connection answered.
 #[tactic(auto, using(crate::proofs::OpenLemmas::open_kept))]
 fn play_answer<F: Multiplexer>(
@@ -81,7 +71,10 @@ fn play_answer<F: Multiplexer>(
     ensures sound { F.is_sound front.new → F.is_sound front.old }
 {
     let outcome = play_one(front, &Event::Answer(conn, moment))?;
-    answer_of(outcome)
+    let Outcome::Answered(answered) = outcome else {
+        unreachable!()
+    };
+    answered
 }
 
 /// Whether the keeper behind a front can't go on: that is asked after a message that was refused for want
@@ -232,7 +225,7 @@ pub(crate) fn answer_held<F: Multiplexer, W: Writer, C: Clock>(
     ensures shut { result ≡ Some driven.Shut → F.goes_on front.new ≡ false }
     ensures sound { F.is_sound front.new → F.is_sound front.old }
 {
-    let Some(held) = front.held(conn) else {
+    let Some(held) = front.held_len(conn) else {
         return Some(Driven::Ended);
     };
     // A message has more than one byte, so a connection holds fewer than that.

@@ -2,7 +2,7 @@
 ghost use Rattle.std.specs.Prelude.{◌≡◌, ◌+◌, ◌<◌, false, map, true, IfOk};
 ghost use Rattle.xa_decide.specs.Reading.{IsNotTooLarge};
 ghost use Rattle.xa_server.specs.View.{viewed};
-ghost use Rattle.xa_server.specs.Viewing.{AreKeyed, active_by_key, read_for};
+ghost use Rattle.xa_server.specs.handling.Viewing.{AreKeyed, active_by_key, read_for};
 
 use std::alloc::{AllocError, Global};
 use xa_decide::View;

@@ -13,7 +13,7 @@ use std::cmp;
 use std::marker::Model;
 use xa_decide::View;
 
-/// The most views that are kept.
+/// The most views that are kept: when one more is, each of them is looked at.
 const MAX_VIEWS: usize = 128;
 
 /// The most bytes that they take together, by their estimates, unless another limit is set: 256 MiB.
@@ -72,16 +72,16 @@ impl Views {
     pub(crate) fn limit_count(&mut self, most: usize)
         ensures { self.new ≡ record { views = []; max_count = min most 128; max_bytes = self.old.max_bytes } }
     {
-        self.ready.clear();
         self.max_count = cmp::min(most, MAX_VIEWS);
+        self.clear();
     }
 
     /// None is kept any longer, and there is room for so many bytes.
     pub(crate) fn limit_bytes(&mut self, bytes: usize)
         ensures { self.new ≡ record { views = []; max_count = self.old.max_count; max_bytes = bytes } }
     {
-        self.ready.clear();
         self.max_bytes = bytes;
+        self.clear();
     }
 
     /// The view of that revision: the one under its number, if it is of its epoch. One look-up.

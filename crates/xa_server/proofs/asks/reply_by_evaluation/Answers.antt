@@ -1,7 +1,7 @@
 -- The view that is found is what decides in the domain.
 use Rattle.std.proofs.Common.{rules, ◌≡◌, Ok, Err, refl, sym, subst}
 use Rattle.xa_records.specs.Kept.{state_of}
-use Rattle.xa_server.specs.Asking.{key_of_revision}
+use Rattle.xa_server.specs.handling.Asking.{key_of_revision}
 use Rattle.xa_server.specs.Stock.{AllStand}
 use Rattle.xa_server.proofs.AskLemmas.{keeper_left, replied, works_by}
 use Rattle.xa_server.proofs.ReadyLemmas.{ready_found}

@@ -1,6 +1,6 @@
 use Rattle.std.proofs.Common.{refl, sym, subst}
 use Rattle.xa_records.specs.Kept.{state_of}
-use Rattle.xa_server.specs.Asking.{key_of_revision}
+use Rattle.xa_server.specs.handling.Asking.{key_of_revision}
 use Rattle.xa_server.specs.Stock.{AllStand}
 use Rattle.xa_server.proofs.AskLemmas.{works_by}
 use Rattle.xa_server.proofs.StockLemmas.{kept_stands}

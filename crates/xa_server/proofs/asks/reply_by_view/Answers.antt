@@ -1,5 +1,5 @@
 use Rattle.std.proofs.Common.{sym, subst}
-use Rattle.xa_server.specs.Asking.{key_of_revision}
+use Rattle.xa_server.specs.handling.Asking.{key_of_revision}
 use Rattle.xa_server.specs.Work.{IsWorkedOut}
 use Rattle.xa_server.proofs.AskLemmas.{noted}
 use Rattle.xa_server.proofs.asks.reply_by_view.Goals as goal

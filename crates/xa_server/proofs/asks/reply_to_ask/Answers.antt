@@ -2,7 +2,7 @@
 use Rattle.std.proofs.Common.{rules, ◌≡◌, refl, sym, ap, subst, ◌∙◌}
 use Rattle.std.specs.Prelude.{Some, option_map}
 use Rattle.xa_cache.specs.Bodies.{found}
-use Rattle.xa_server.specs.Asking.{key_of_revision, key_within}
+use Rattle.xa_server.specs.handling.Asking.{key_of_revision, key_within}
 use Rattle.xa_server.specs.Replies.{decision_reply}
 use Rattle.xa_server.specs.Stock.{AllStand}
 use Rattle.xa_server.specs.Work.{body_held}

@@ -2,9 +2,9 @@
 use Rattle.std.proofs.Common.{rules, ◌≡◌, false, refl, sym, ap, subst}
 use Rattle.xa_decide.specs.Asked.{asks_policies}
 use Rattle.xa_records.specs.Kept.{state_of}
-use Rattle.xa_server.specs.Asking.{key_of_revision}
+use Rattle.xa_server.specs.handling.Asking.{key_of_revision}
 use Rattle.xa_server.specs.Stock.{AllStand, Stock}
-use Rattle.xa_server.specs.Viewing.{nothing_viewed}
+use Rattle.xa_server.specs.handling.Viewing.{nothing_viewed}
 use Rattle.xa_server.proofs.AskLemmas.{keeper_left, room_left, unasked_reply, unasked_works}
 use Rattle.xa_server.proofs.StockLemmas.{left_stands}
 use Rattle.xa_server.proofs.asks.reply_without_view.Goals as goal

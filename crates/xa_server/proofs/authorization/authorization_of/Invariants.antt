@@ -1,6 +1,6 @@
 use Rattle.std.proofs.Common.{◌≡◌, ◌++◌, drop, codes, option_map}
 use Rattle.std.specs.Option.{option_to_list}
-use Rattle.xa_http.specs.Length.{values_of}
+use Rattle.xa_http.specs.Fields.{values_of}
 use Rattle.xa_server.specs.Authorization.{the_only}
 use Rattle.xa_server.proofs.authorization.authorization_of.Given as goal
 

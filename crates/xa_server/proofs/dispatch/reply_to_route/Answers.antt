@@ -7,13 +7,13 @@ use Rattle.xa_server.proofs.dispatch.reply_to_route.Goals as goal
 
 pub returns-in-Decide-clause-keeper : goal.returns-in-Decide-clause-keeper
 returns-in-Decide-clause-keeper g c = record {
-  sound = c.decision_route.ensures.keeper.sound;
-  clean = c.decision_route.ensures.keeper.clean;
-  stays = c.decision_route.ensures.keeper.stays;
+  sound = c.reply_on_decision_route.ensures.keeper.sound;
+  clean = c.reply_on_decision_route.ensures.keeper.clean;
+  stays = c.reply_on_decision_route.ensures.keeper.stays;
   leaves = λ clean sound.
       let before = (g.R.Records.custody c.args.records.now).may_leave in
-      let after = (g.R.Records.custody c.decision_route.new.records).may_leave in
+      let after = (g.R.Records.custody c.reply_on_decision_route.new.records).may_leave in
       no_more_route before after c.args.received.now _ (option_and_then name_if (named_by c.args.route)) c.args.route
-      (c.decision_route.ensures.keeper.leaves clean sound);
-  counts = c.decision_route.ensures.keeper.counts;
+      (c.reply_on_decision_route.ensures.keeper.leaves clean sound);
+  counts = c.reply_on_decision_route.ensures.keeper.counts;
 }

@@ -1,5 +1,5 @@
 use Rattle.std.proofs.Common.{◌≤◌, length}
-use Rattle.xa_server.specs.Sending.{SendsPart}
+use Rattle.xa_server.specs.handling.Sending.{SendsPart}
 use Rattle.xa_server.proofs.sending.send_whole.Given as goal
 
 -- the bytes so far are sent

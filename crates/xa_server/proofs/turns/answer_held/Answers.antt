@@ -8,7 +8,7 @@ pub loop-turn-init : goal.loop-turn-init
 loop-turn-init g c = record {
   stays_open = open_kept c.args.conn _ _ refl;
   sound = λ sound. sound;
-  shrinks = λ sound left reads. no_turn c.args.conn _ _ c.in-Some.held (sym c.held.ensures ∙ c.in-Some.is);
+  shrinks = λ sound left reads. no_turn c.args.conn _ _ c.in-Some.held (sym c.held_len.ensures ∙ c.in-Some.is);
 }
 
 pub returns-in-Waits-clause-held : goal.returns-in-Waits-clause-held
@@ -32,5 +32,5 @@ loop-turn-preserved g c = record {
 
 pub returns-clause-held : goal.returns-clause-held
 returns-clause-held g c = λ sound left reads.
-    turns_over c.loop-turn._turn c.in-Some.held c.args.conn _ _ _ _ (Some Memory) (sym c.held.ensures ∙ c.in-Some.is)
+    turns_over c.loop-turn._turn c.in-Some.held c.args.conn _ _ _ _ (Some Memory) (sym c.held_len.ensures ∙ c.in-Some.is)
     (omega (arith, c.loop-turn-test.false, c.saturating_add-turns.ensures)) (c.loop-turn.invariant.shrinks sound left reads)

@@ -1,4 +1,4 @@
--- How the code feeds a connection and answers its next: words that only contracts of private functions cite.
+-- How a connection is fed, and its next is answered.
 use Rattle.std.specs.Prelude.{◌≡◌, ◌+◌, ◌<◌, ◌≤◌, ℕ, ℤ, true, false, List, length, Option, Some, None, Result, Ok, Err}
 use Rattle.xa_http.specs.declared.fault.SessionFault.{SessionFault}
 use Rattle.xa_http.specs.declared.session.Next.{Next}

@@ -1,4 +1,4 @@
--- How the code makes what decides in a domain: words that only contracts of private functions cite.
+-- How what decides in a domain is made.
 use Rattle.std.specs.Prelude.{◌≡◌, ℕ, List, [], Some, None}
 use Rattle.std.specs.List.{AllByRecursion}
 use Rattle.xa_link.specs.declared.active.Active.{Active}

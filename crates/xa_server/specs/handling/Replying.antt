@@ -1,4 +1,4 @@
--- How the code answers a message: words that only contracts of private functions cite.
+-- How a message is answered, and what is told of the keeper after a part of it.
 use Rattle.std.specs.Option.{ok_or}
 use Rattle.std.specs.FinMap.{get}
 use Rattle.std.specs.Prelude.{◌≡◌, ◌⊎◌, ℕ, Bool, List, OnErr, Option, Some, None, option_and_then, Result, Ok, Err}
@@ -13,8 +13,8 @@ use Rattle.xa_records.specs.Kept.{IsChanged, Kept, names_of, state_of}
 use Rattle.xa_server.specs.declared.error_code.ErrorCode.{ErrorCode}
 use Rattle.xa_server.specs.declared.error_code.ErrorCode.TheVariants as error
 use Rattle.xa_server.specs.declared.received.Received.{Received}
-use Rattle.xa_server.specs.declared.unanswered.Unanswered.{Unanswered}
-use Rattle.xa_server.specs.declared.unanswered.Unanswered.TheVariants.{Code, Failed}
+use Rattle.xa_server.specs.declared.unsuccessful.Unsuccessful.{Unsuccessful}
+use Rattle.xa_server.specs.declared.unsuccessful.Unsuccessful.TheVariants.{Error, Failed}
 use Rattle.xa_server.specs.declared.replies.Reply.{Reply}
 use Rattle.xa_server.specs.declared.replies.Reply.TheVariants.{Sent, Refused}
 use Rattle.xa_server.specs.ErrorCode.{error_reply}
@@ -30,26 +30,26 @@ by_body answer given state = or_body_fault given >>= (λ x. answer x state)
 
 -- a message of the domain of that name was answered as its machine answers it, or it failed; nothing has changed but
 -- by a reply
-abbrev pub Answers : Kept → Kept → List ℕ → Result (List ℕ) Unanswered → Answer → Type 0
+abbrev pub Answers : Kept → Kept → List ℕ → Result (List ℕ) Unsuccessful → Answer → Type 0
 Answers old new name (Ok bytes) meant =
     (after : Option DomainState) × (meant ≡ Ok (bytes, after)) × IsChanged old new name after
-Answers old new name (Err (Code code)) meant = (meant ≡ Err code) × (new ≡ old)
+Answers old new name (Err (Error code)) meant = (meant ≡ Err code) × (new ≡ old)
 Answers old new name (Err (Failed failure)) meant = new ≡ old
 
 -- a message was answered so, or it failed; and nothing has changed
-abbrev pub Shows : {X : Type 0} → Kept → Kept → Result X Unanswered → Result X ErrorCode → Type 0
+abbrev pub Shows : {X : Type 0} → Kept → Kept → Result X Unsuccessful → Result X ErrorCode → Type 0
 Shows old new (Ok x) meant = (meant ≡ Ok x) × (new ≡ old)
-Shows old new (Err (Code code)) meant = (meant ≡ Err code) × (new ≡ old)
+Shows old new (Err (Error code)) meant = (meant ≡ Err code) × (new ≡ old)
 Shows old new (Err (Failed failure)) meant = new ≡ old
 
 -- the same, where the keeper is sound
-abbrev pub Tells : {X : Type 0} → Custody → Custody → Result X Unanswered → Result X ErrorCode → Type 0
+abbrev pub Tells : {X : Type 0} → Custody → Custody → Result X Unsuccessful → Result X ErrorCode → Type 0
 Tells old new result meant = new.sound → Shows old.kept new.kept result meant
 
 -- a message was let in: then that is what is there, as the gate of the domain of that name
-abbrev pub Opens : {X : Type 0} → Kept → Kept → Option X → Result X Unanswered → Result (Unit {0}) ErrorCode → Type 0
+abbrev pub Opens : {X : Type 0} → Kept → Kept → Option X → Result X Unsuccessful → Result (Unit {0}) ErrorCode → Type 0
 Opens old new there (Ok x) meant = (there ≡ Some x) × (meant ≡ Ok tt) × (new ≡ old)
-Opens old new there (Err (Code code)) meant = (meant ≡ Err code) × (new ≡ old)
+Opens old new there (Err (Error code)) meant = (meant ≡ Err code) × (new ≡ old)
 Opens old new there (Err (Failed failure)) meant = new ≡ old
 
 -- whether a domain lets a message in that shows a token of that digest
@@ -64,7 +64,7 @@ abbrev pub domain_named : Route → Option (List ℕ)
 domain_named route = option_and_then name_if (named_by route)
 
 -- a message that asks for this was answered, by the domain that its path names, if it names one
-abbrev pub AnswersRoute : Received → Kept → Kept → Option (List ℕ) → Route → Result (List ℕ) Unanswered → Type 0
+abbrev pub AnswersRoute : Received → Kept → Kept → Option (List ℕ) → Route → Result (List ℕ) Unsuccessful → Type 0
 AnswersRoute received old new None route result =
     Shows old new result (general_by_route received.operator (names_of old) received.message.now route)
 AnswersRoute received old new (Some name) route result =
@@ -72,42 +72,42 @@ AnswersRoute received old new (Some name) route result =
     (by_route received.operator (state_of name old) received.message.now received.moment route)
 
 -- a message was answered
-abbrev pub AnswersMessage : Received → Kept → Kept → Option (List ℕ) → Result (List ℕ) Unanswered → Type 0
+abbrev pub AnswersMessage : Received → Kept → Kept → Option (List ℕ) → Result (List ℕ) Unsuccessful → Type 0
 AnswersMessage received old new None result =
     Shows old new result (general_answer received.operator (names_of old) received.message.now)
 AnswersMessage received old new (Some name) result =
     Answers old new name result (answer received.operator (state_of name old) received.message.now received.moment)
 
 -- the same, where all that the server shares stood before and the keeper is sound after
-abbrev pub TellsRoute : Custody → Custody → Received → Stock → Option (List ℕ) → Route → Result (List ℕ) Unanswered
+abbrev pub TellsRoute : Custody → Custody → Received → Stock → Option (List ℕ) → Route → Result (List ℕ) Unsuccessful
     → Type 0
 TellsRoute old new received before name route result =
     AllStand old.kept before → new.sound → AnswersRoute received old.kept new.kept name route result
 
-abbrev pub TellsMessage : Custody → Custody → Received → Stock → Result (List ℕ) Unanswered → Type 0
+abbrev pub TellsMessage : Custody → Custody → Received → Stock → Result (List ℕ) Unsuccessful → Type 0
 TellsMessage old new received before result =
     AllStand old.kept before → new.sound
     → AnswersMessage received old.kept new.kept (owner received.message.now) result
 
 -- the keeper has counted one more failure for want of storage, where that is why, and else none
-abbrev pub Counts : {X : Type 0} → ℕ → ℕ → Result X Unanswered → Type 0
+abbrev pub Counts : {X : Type 0} → ℕ → ℕ → Result X Unsuccessful → Type 0
 Counts old new (Ok x) = new ≡ old
-Counts old new (Err (Code code)) = new ≡ old
+Counts old new (Err (Error code)) = new ≡ old
 Counts old new (Err (Failed Memory)) = new ≡ old
 Counts old new (Err (Failed Store)) = IsOneMore old new
 
 -- what goes back for it
-abbrev pub IsReplyOf : Result (List ℕ) Unanswered → Reply → Type 0
+abbrev pub IsReplyOf : Result (List ℕ) Unsuccessful → Reply → Type 0
 IsReplyOf (Ok bytes) reply = reply ≡ Sent bytes
 IsReplyOf (Err (Failed failure)) reply = reply ≡ Refused failure
-IsReplyOf (Err (Code code)) reply = (reply ≡ Sent (error_reply code)) ⊎ (reply ≡ Refused Memory)
+IsReplyOf (Err (Error code)) reply = (reply ≡ Sent (error_reply code)) ⊎ (reply ≡ Refused Memory)
 
 -- ---- what a crash may leave
 
 -- unless the message failed
-abbrev pub IfTold : {X : Type 0} → Result X Unanswered → Type 0 → Type 0
+abbrev pub IfTold : {X : Type 0} → Result X Unsuccessful → Type 0 → Type 0
 IfTold (Ok x) claim = claim
-IfTold (Err (Code code)) claim = claim
+IfTold (Err (Error code)) claim = claim
 IfTold (Err (Failed failure)) claim = Unit {0}
 
 -- nothing that it might not have left before
@@ -141,7 +141,7 @@ LeavesMessage before after received old (Some name) =
 -- ---- what is done for a message
 
 -- what is told of the keeper after a part of a message was handled, where this a crash may leave
-pub record Keeping {X : Type 0} (old new : Custody) (result : Result X Unanswered) (leaves_so : Type 0) : Type 0 where
+pub record Keeping {X : Type 0} (old new : Custody) (result : Result X Unsuccessful) (leaves_so : Type 0) : Type 0 where
   -- where it is sound it was, and where the disk has given back what was written it had before
   pub sound : new.sound → old.sound
   pub clean : new.clean → old.clean
@@ -152,22 +152,22 @@ pub record Keeping {X : Type 0} (old new : Custody) (result : Result X Unanswere
   pub counts : Counts old.faults new.faults result
 
 -- the keeper was asked to read, or wasn't asked: a crash leaves nothing that it might not have left before
-abbrev pub OnlyReads : {X : Type 0} → Custody → Custody → Result X Unanswered → Type 0
+abbrev pub OnlyReads : {X : Type 0} → Custody → Custody → Result X Unsuccessful → Type 0
 OnlyReads old new result = Keeping old new result (LeavesNoMore old.may_leave new.may_leave)
 
 -- it was asked for a message that asks for this, or for a message, or wasn't asked
-abbrev pub KeepsRoute : Custody → Custody → Received → Route → Result (List ℕ) Unanswered → Type 0
+abbrev pub KeepsRoute : Custody → Custody → Received → Route → Result (List ℕ) Unsuccessful → Type 0
 KeepsRoute old new received route result =
     Keeping old new result (LeavesRoute old.may_leave new.may_leave received old.kept (domain_named route) route)
 
-abbrev pub KeepsMessage : Custody → Custody → Received → Result (List ℕ) Unanswered → Type 0
+abbrev pub KeepsMessage : Custody → Custody → Received → Result (List ℕ) Unsuccessful → Type 0
 KeepsMessage old new received result =
     Keeping old new result
     (LeavesMessage old.may_leave new.may_leave received old.kept (owner received.message.now))
 
 -- what is told of all that a server shares, after a part of a message was handled before which all of it stood: of
 -- what is held of decisions this was done, and all still stands; without success the views are as they were
-pub record Sharing {X : Type 0} (old new : Custody) (before after : Stock) (result : Result X Unanswered)
+pub record Sharing {X : Type 0} (old new : Custody) (before after : Stock) (result : Result X Unsuccessful)
     (works_so : Type 0) : Type 0 where
   pub works : AllStand old.kept before → new.sound → works_so
   pub stands : AllStand old.kept before → new.sound → AllStand new.kept after
@@ -180,7 +180,7 @@ pub record OnlyForgets (old new : Custody) (before after : Stock) : Type 0 where
   pub room : after.room ≡ before.room
 
 -- a part of a message was handled: so it was answered, and this a crash may leave, or it failed
-pub record Handles {X : Type 0} (old new : Custody) (result : Result X Unanswered) (is_answered leaves_so : Type 0)
+pub record Handles {X : Type 0} (old new : Custody) (result : Result X Unsuccessful) (is_answered leaves_so : Type 0)
     : Type 0 where
   pub answers : new.sound → is_answered
   pub sound : new.sound → old.sound
@@ -190,20 +190,20 @@ pub record Handles {X : Type 0} (old new : Custody) (result : Result X Unanswere
   pub counts : Counts old.faults new.faults result
 
 -- a message that asks for this was handled, which may change the domain that its path names
-pub record ChangesRoute (old new : Custody) (received : Received) (route : Route) (result : Result (List ℕ) Unanswered)
-    : Type 0 where
+pub record ChangesRoute (old new : Custody) (received : Received) (route : Route)
+    (result : Result (List ℕ) Unsuccessful) : Type 0 where
   pub answers : new.sound → AnswersRoute received old.kept new.kept (domain_named route) route result
   pub keeper : KeepsRoute old new received route result
 
 -- as that machine of the domain of that name answers
-abbrev pub HandlesChange : Custody → Custody → List ℕ → Result (List ℕ) Unanswered
+abbrev pub HandlesChange : Custody → Custody → List ℕ → Result (List ℕ) Unsuccessful
     → (Option DomainState → Answer) → Type 0
 HandlesChange old new name result machine =
     Handles old new result (Answers old.kept new.kept name result (machine (state_of name old.kept)))
     (LeavesAnswer old.may_leave new.may_leave old.kept name (machine (state_of name old.kept)))
 
 -- as that machine answers, which changes nothing
-abbrev pub HandlesReading : Custody → Custody → List ℕ → Result (List ℕ) Unanswered
+abbrev pub HandlesReading : Custody → Custody → List ℕ → Result (List ℕ) Unsuccessful
     → (Option DomainState → Answer) → Type 0
 HandlesReading old new name result machine =
     Handles old new result (Answers old.kept new.kept name result (machine (state_of name old.kept)))

@@ -1,4 +1,4 @@
--- The sending of one reply: words that only contracts of private functions cite.
+-- How one reply is sent.
 use Rattle.std.specs.Prelude.{◌≡◌, ℕ, Bool, true, false, List, [], ◌∷◌, length, take, Option}
 use Rattle.std.specs.Io.KnownBytes.{Appends, Keeps}
 use Rattle.std.specs.List.{All}

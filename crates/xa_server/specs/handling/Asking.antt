@@ -1,5 +1,4 @@
--- How the code answers an ask, a request for a decision that a domain has let in: words that only contracts of
--- private functions cite.
+-- How an ask, a request for a decision that a domain has let in, is answered.
 use Rattle.std.specs.Option.{ok_or}
 use Rattle.std.specs.Prelude.{◌≡◌, ◌⊎◌, ℕ, ℤ, Bool, List, length, nat_le, OnErr, Option, Some, None, option_and_then}
 use Rattle.std.specs.Prelude.{option_map, Result, Ok, Err, if◌then◌else◌}
@@ -21,10 +20,10 @@ use Rattle.xa_server.specs.declared.error_code.ErrorCode.TheVariants as error
 use Rattle.xa_server.specs.declared.ready.Ready.{Ready}
 use Rattle.xa_server.specs.declared.received.Received.{Received}
 use Rattle.xa_server.specs.declared.revision.Revision.{Revision}
-use Rattle.xa_server.specs.declared.unanswered.Unanswered.{Unanswered}
-use Rattle.xa_server.specs.declared.unanswered.Unanswered.TheVariants.{Code, Failed}
+use Rattle.xa_server.specs.declared.unsuccessful.Unsuccessful.{Unsuccessful}
+use Rattle.xa_server.specs.declared.unsuccessful.Unsuccessful.TheVariants.{Error, Failed}
 use Rattle.xa_server.specs.Gates.{revision_of}
-use Rattle.xa_server.specs.Handling.{OnlyReads, Sharing, Shows}
+use Rattle.xa_server.specs.handling.Replying.{OnlyReads, Sharing, Shows}
 use Rattle.xa_server.specs.Replies.{decision_reply}
 use Rattle.xa_server.specs.Stock.{AllStand, Stock}
 use Rattle.xa_server.specs.Tally.{Tally}
@@ -47,26 +46,26 @@ abbrev pub view_told : Option DomainState → Result Viewed ErrorCode
 view_told state = ok_or (option_map view_of state) (error.Refused Absent)
 
 -- it was worked out by what decides; or the body is no JSON; or there was no memory
-abbrev pub IsResponse : Option (List ℕ × Bool) → Result Responded Unanswered → Type 0
+abbrev pub IsResponse : Option (List ℕ × Bool) → Result Responded Unsuccessful → Type 0
 IsResponse meant (Ok responded) = meant ≡ Some (responded.body, responded.timeless)
-IsResponse meant (Err (Code code)) = (meant ≡ None) × (code ≡ error.Body NotJson)
+IsResponse meant (Err (Error code)) = (meant ≡ None) × (code ≡ error.Body NotJson)
 IsResponse meant (Err (Failed failure)) = failure ≡ Memory
 
 -- the reply to what was worked out, or the body is no JSON, or there was no memory
-abbrev pub IsResponseReply : Option (List ℕ × Bool) → Result (List ℕ) Unanswered → Type 0
+abbrev pub IsResponseReply : Option (List ℕ × Bool) → Result (List ℕ) Unsuccessful → Type 0
 IsResponseReply meant (Ok bytes) = option_map (λ response. decision_reply response.0) meant ≡ Some bytes
-IsResponseReply meant (Err (Code code)) = (meant ≡ None) × (code ≡ error.Body NotJson)
+IsResponseReply meant (Err (Error code)) = (meant ≡ None) × (code ≡ error.Body NotJson)
 IsResponseReply meant (Err (Failed failure)) = failure ≡ Memory
 
 -- what decides was made ready, at that revision; or an error answer says why not, or that failed; and nothing has
 -- changed
-abbrev pub IsMadeReady : Kept → Kept → Revision → Result Ready Unanswered → Result Viewed ErrorCode → Type 0
+abbrev pub IsMadeReady : Kept → Kept → Revision → Result Ready Unsuccessful → Result Viewed ErrorCode → Type 0
 IsMadeReady old new revision (Ok ready) meant = (meant ≡ Ok ready.view) × (ready.revision ≡ revision) × (new ≡ old)
-IsMadeReady old new revision (Err (Code code)) meant = (meant ≡ Err code) × (new ≡ old)
+IsMadeReady old new revision (Err (Error code)) meant = (meant ≡ Err code) × (new ≡ old)
 IsMadeReady old new revision (Err (Failed failure)) meant = new ≡ old
 
 -- the same of the domain that has let an ask in, where the keeper is sound
-abbrev pub MakesReady : Custody → Custody → Ask → Result Ready Unanswered → Type 0
+abbrev pub MakesReady : Custody → Custody → Ask → Result Ready Unsuccessful → Type 0
 MakesReady old new ask result =
     new.sound → IsMadeReady old.kept new.kept ask.revision result (view_told (state_of ask.name.now old.kept))
 
@@ -113,9 +112,9 @@ reply_asked kept ask body = reply_told body ask.moment (state_of ask.name.now ke
 
 -- the decision was worked out, with success; by an error answer nothing was there to be worked out, and a failure has
 -- left all
-abbrev pub IsFresh : Key → Option (List ℕ × Bool) → Result (List ℕ) Unanswered → Tally → Tally → Type 0
+abbrev pub IsFresh : Key → Option (List ℕ × Bool) → Result (List ℕ) Unsuccessful → Tally → Tally → Type 0
 IsFresh key worked (Ok bytes) old new = IsWorkedOut key worked old new
-IsFresh key worked (Err (Code code)) old new = (worked ≡ None) × (new ≡ old)
+IsFresh key worked (Err (Error code)) old new = (worked ≡ None) × (new ≡ old)
 IsFresh key worked (Err (Failed failure)) old new = new ≡ old
 
 -- a look-up where a decision is held, or isn't
@@ -124,16 +123,16 @@ IsLookedUp None key old new = new ≡ old
 IsLookedUp (Some body) key old new = new ≡ looked_up key old
 
 -- an ask that was let in, where a decision is held, or isn't
-abbrev pub IsAsked : Key → Option (List ℕ) → Option (List ℕ × Bool) → Result (List ℕ) Unanswered
+abbrev pub IsAsked : Key → Option (List ℕ) → Option (List ℕ × Bool) → Result (List ℕ) Unsuccessful
     → Tally → Tally → Type 0
 IsAsked key (Some body) worked (Ok bytes) old new = new ≡ looked_up key old
-IsAsked key (Some body) worked (Err (Code code)) old new = ⊥
+IsAsked key (Some body) worked (Err (Error code)) old new = ⊥
 IsAsked key (Some body) worked (Err (Failed failure)) old new = (new ≡ old) ⊎ (new ≡ looked_up key old)
 IsAsked key None worked result old new = IsFresh key worked result old new
 
 -- an ask that was let in was answered by a decision that is worked out
 pub record FreshReply (old new : Custody) (ask : Ask) (body : List ℕ) (before after : Stock)
-    (result : Result (List ℕ) Unanswered) : Type 0 where
+    (result : Result (List ℕ) Unsuccessful) : Type 0 where
   pub tells : IfLetIn old new ask before (Shows old.kept new.kept result (reply_asked old.kept ask body))
   pub works : IfLetIn old new ask before
       (IsFresh (key_asked ask body) (worked_asked old.kept ask body) result before.tally after.tally)
@@ -144,26 +143,26 @@ pub record FreshReply (old new : Custody) (ask : Ask) (body : List ℕ) (before 
 -- ---- what was done to what is held of decisions
 
 -- by a message, by the domain that it asks
-abbrev pub WorksOf : Option Domain → List ℕ → ℤ → Result (List ℕ) Unanswered → Tally → Tally → Type 0
+abbrev pub WorksOf : Option Domain → List ℕ → ℤ → Result (List ℕ) Unsuccessful → Tally → Tally → Type 0
 WorksOf None body moment result old new = new ≡ old
 WorksOf (Some domain) body moment result old new =
     IsAsked (key_in domain body) (body_held (key_in domain body) body old)
     (worked_out domain.state body moment) result old new
 
-abbrev pub WorksRoute : Received → Kept → Route → Result (List ℕ) Unanswered → Tally → Tally → Type 0
+abbrev pub WorksRoute : Received → Kept → Route → Result (List ℕ) Unsuccessful → Tally → Tally → Type 0
 WorksRoute received kept route result old new =
     WorksOf (domain_of_route kept received.message.now route) received.message.now.body received.moment result old new
 
-abbrev pub WorksMessage : Received → Kept → Result (List ℕ) Unanswered → Tally → Tally → Type 0
+abbrev pub WorksMessage : Received → Kept → Result (List ℕ) Unsuccessful → Tally → Tally → Type 0
 WorksMessage received kept result old new =
     WorksOf (domain_of_message kept received.message.now (route_of received.message.now)) received.message.now.body
     received.moment result old new
 
 -- and what is told of all that a server shares, after a message that asks for this, or after a message
-abbrev pub SharesRoute : Custody → Custody → Received → Route → Stock → Stock → Result (List ℕ) Unanswered → Type 0
+abbrev pub SharesRoute : Custody → Custody → Received → Route → Stock → Stock → Result (List ℕ) Unsuccessful → Type 0
 SharesRoute old new received route before after result =
     Sharing old new before after result (WorksRoute received old.kept route result before.tally after.tally)
 
-abbrev pub SharesMessage : Custody → Custody → Received → Stock → Stock → Result (List ℕ) Unanswered → Type 0
+abbrev pub SharesMessage : Custody → Custody → Received → Stock → Stock → Result (List ℕ) Unsuccessful → Type 0
 SharesMessage old new received before after result =
     Sharing old new before after result (WorksMessage received old.kept result before.tally after.tally)

@@ -1,4 +1,4 @@
--- The messages of a connection so far: words that only contracts of private functions cite.
+-- How a connection is driven: one call of its front, one reply, and its messages so far.
 use Rattle.std.specs.Prelude.{◌≡◌, ◌<◌, ◌+◌, ◌⊎◌, ℕ, ℤ, List, [], ◌∷◌, length, map, Bool, true, false, Option, Some}
 use Rattle.std.specs.Prelude.{None, Result, Ok, Err}
 use Rattle.std.specs.List.{All}
@@ -13,9 +13,7 @@ use Rattle.xa_server.specs.declared.driven.Driven.TheVariants as driven
 use Rattle.xa_server.specs.declared.event.Answer.{Answer}
 use Rattle.xa_server.specs.declared.event.Event.{Event}
 use Rattle.xa_server.specs.declared.event.Outcome.{Outcome}
-use Rattle.xa_server.specs.declared.event.Outcome.TheVariants as outcome
 use Rattle.xa_server.specs.declared.front_error.FrontError.{FrontError}
-use Rattle.xa_server.specs.declared.front_error.FrontError.TheVariants.{Memory}
 use Rattle.xa_server.specs.declared.lines.Conn.{Conn}
 use Rattle.xa_records.specs.declared.refusal.Failure.TheVariants.{Store}
 use Rattle.xa_server.specs.declared.replies.Reply.{Reply}
@@ -28,7 +26,7 @@ use Rattle.xa_server.specs.Fronting.{DoesEvent}
 use Rattle.xa_server.specs.Lines.{IsOpen, line_at, with_line}
 use Rattle.xa_server.specs.Multiplexer.{outcome_found_memory}
 use Rattle.xa_server.specs.Replies.{bytes_of}
-use Rattle.xa_server.specs.Sending.{IsWritten}
+use Rattle.xa_server.specs.handling.Sending.{IsWritten}
 use Rattle.xa_server.specs.Served.{IsRun}
 use Rattle.xa_server.specs.Transfers.{Grows, IsReadOn, WriteEnd, bytes_read}
 use Rattle.xa_server.specs.Work.{IsWorkOfRun}
@@ -41,15 +39,6 @@ abbrev pub PlaysOne : {E : Type 0} → Event → FrontState → FrontState → O
 PlaysOne event old new found finding (Ok outcome) =
     DoesEvent event old outcome new × Grows found finding (outcome_found_memory outcome ∷ [])
 PlaysOne event old new found finding (Err _) = (new ≡ old) × Grows found finding (false ∷ [])
-
--- what an outcome says of an answer, and of a piece
-abbrev pub answer_of : Outcome → Result (Option Answer) FrontError
-answer_of (outcome.Answered result) = result
-answer_of _ = Err Memory
-
-abbrev pub piece_of : Outcome → Result (Unit {0}) FrontError
-piece_of (outcome.Held result) = result
-piece_of _ = Err Memory
 
 -- the next of an open connection was answered, or there was no memory
 abbrev pub AnswersOne : Conn → ℤ → FrontState → FrontState → Option (List Bool) → Option (List Bool)

@@ -1,0 +1,8 @@
+-- How the code answers messages and drives connections: words that only contracts of private functions cite.
+pub mod Answering
+pub mod Asking
+pub mod Driving
+pub mod Replying
+pub mod Sending
+pub mod Unsuccessful
+pub mod Viewing

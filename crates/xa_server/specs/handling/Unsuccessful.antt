@@ -1,0 +1,27 @@
+-- Why a message isn't answered with success.
+use Rattle.xa_value.specs.declared.or_memory.OrMemory.{OrMemory}
+use Rattle.xa_value.specs.declared.or_memory.OrMemory.TheVariants as or_memory
+use Rattle.xa_http.specs.declared.route.RouteFault.{RouteFault}
+use Rattle.xa_notation.specs.declared.notation_error.NotationError.{NotationError}
+use Rattle.xa_records.specs.declared.refusal.ChangeError.{ChangeError}
+use Rattle.xa_records.specs.declared.refusal.ChangeError.TheVariants as change
+use Rattle.xa_records.specs.declared.refusal.Failure.TheVariants.{Memory}
+use Rattle.xa_server.specs.declared.error_code.ErrorCode.TheVariants.{Body, Refused}
+use Rattle.xa_server.specs.declared.unsuccessful.Unsuccessful.{Unsuccessful}
+use Rattle.xa_server.specs.declared.unsuccessful.Unsuccessful.TheVariants.{Error, Failed}
+use Rattle.xa_server.specs.ErrorCode.{code_of_route_fault}
+
+-- of a change
+abbrev pub unsuccessful_of_change : ChangeError → Unsuccessful
+unsuccessful_of_change (change.Failed failure) = Failed failure
+unsuccessful_of_change (change.Refused refusal) = Error (Refused refusal)
+
+-- of a body
+abbrev pub unsuccessful_of_body : OrMemory NotationError → Unsuccessful
+unsuccessful_of_body or_memory.Memory = Failed Memory
+unsuccessful_of_body (or_memory.Error fault) = Error (Body fault)
+
+-- of a route
+abbrev pub unsuccessful_of_route : OrMemory RouteFault → Unsuccessful
+unsuccessful_of_route or_memory.Memory = Failed Memory
+unsuccessful_of_route (or_memory.Error fault) = Error (code_of_route_fault fault)
