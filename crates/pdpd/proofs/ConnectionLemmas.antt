@@ -11,7 +11,7 @@ use Rattle.xa_server.specs.Lines.{IsClosed, IsOpen, IsOpened, Lines, empty_strea
 use Rattle.xa_server.specs.World.{Serving}
 use Rattle.pdpd.specs.declared.replay.transcript_connection.TranscriptConnection.{TranscriptConnection}
 use Rattle.pdpd.specs.Replay.{all_open}
-use Rattle.pdpd.specs.Replaying.{AreOf, HasFree, IsBegun, IsLine, IsOneOpen, connections_from}
+use Rattle.pdpd.specs.running.Replaying.{AreOf, HasFree, IsBegun, IsConnectionHeld, IsOneOpen, connections_from}
 
 pub none_some : (X : Type 0) (x : X) → None ≡ Some x → ⊥
 none_some X x same = cc
@@ -183,7 +183,7 @@ found (Some stream ∷ lines) first (suc number) connection held =
     (is.0, is.1, is.2 ∙ further, is.3, ap (option_map suc) is.4)
 
 pub line_found : (connections : List TranscriptConnection) (lines : Lines) (number : ℕ) (connection : TranscriptConnection) → AreOf connections lines
-    → slice_get connections number ≡ Some connection → (stream : Stream) × IsLine connection lines stream × (connection.conn ≡ record { number = number })
+    → slice_get connections number ≡ Some connection → (stream : Stream) × IsConnectionHeld connection lines stream × (connection.conn ≡ record { number = number })
 line_found connections lines number connection are held =
     let is = found lines 0 number connection (ap (λ (cs : List TranscriptConnection). slice_get cs number) (sym are) ∙ held) in
     let none_more : 0 + number ≡ number = omega arith in

@@ -21,7 +21,7 @@ use Rattle.xa_server.specs.Lines.{IsOpen, Lines, line_at, with_line}
 use Rattle.pdpd.specs.declared.exit.Exit.{Exit}
 use Rattle.pdpd.specs.declared.replay.telling.Progress.{Progress}
 use Rattle.pdpd.specs.declared.replay.telling.Progress.TheVariants as progress
-use Rattle.pdpd.specs.Telling.{ArePieceAndAnswers, GoesOn, HasAnswered, HasRoom, IsAnswer, LeavesAt, LeavesRoom, Stands, TakesPieces, after_answer, after_none, answers_behind, bytes_in, left_to_answer, progress_after, progress_at, progress_of}
+use Rattle.pdpd.specs.running.Telling.{ArePieceAndAnswers, GoesOn, HasAnswered, HasRoom, IsAnswer, LeavesAt, LeavesRoom, Stands, TakesPieces, after_answer, after_none, answers_behind, bytes_in, left_to_answer, progress_after, progress_at, progress_of}
 use Rattle.pdpd.proofs.ConnectionLemmas.{line_set, none_some, some_stream}
 use Rattle.pdpd.proofs.PieceLemmas.{behind, lines_on, set_same}
 use Rattle.pdpd.proofs.TellingLemmas.{stands_after, stands_ended, stands_waiting}

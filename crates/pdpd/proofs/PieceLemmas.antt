@@ -26,8 +26,8 @@ use Rattle.pdpd.specs.declared.replay.telling.Progress.{Progress}
 use Rattle.pdpd.specs.declared.replay.telling.Progress.TheVariants as progress
 use Rattle.pdpd.specs.Entry.{IsStreamAnswered, events_at, reply_entries}
 use Rattle.pdpd.specs.Replay.{IsKept, StreamTakes}
-use Rattle.pdpd.specs.Replaying.{HasStreamTaken, TakesOpen, Writes}
-use Rattle.pdpd.specs.Telling.{AreTold, HasTold, IsTold, LeavesOff, answers_behind, progress_at, progress_of, replies_told}
+use Rattle.pdpd.specs.running.Replaying.{HasStreamTaken, TakesOpen, Writes}
+use Rattle.pdpd.specs.running.Telling.{AreTold, HasTold, IsTold, LeavesOff, answers_behind, progress_at, progress_of, replies_told}
 use Rattle.pdpd.proofs.ConnectionLemmas.{line_set, some_stream}
 use Rattle.pdpd.proofs.TellingLemmas.{entries_trans, outcomes_more, told_fed, told_more, told_none}
 

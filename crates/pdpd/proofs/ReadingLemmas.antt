@@ -7,11 +7,11 @@ use Rattle.std.specs.Prelude.{◌==◌}
 use Rattle.std.specs.Io.KnownBytes.{Consumes, IsAtEnd, Keeps, prepend_known}
 use Rattle.xa_server.proofs.ConnectionLemmas.{consumes_trans}
 use Rattle.pdpd.specs.declared.replay.heading.Heading.{Heading}
-use Rattle.pdpd.specs.declared.replay.transcript.ReadFault.{ReadFault}
-use Rattle.pdpd.specs.declared.replay.transcript.ReadFault.TheVariants.{Malformed, Failed, Memory}
+use Rattle.pdpd.specs.declared.replay.transcript.EntryFault.{EntryFault}
+use Rattle.pdpd.specs.declared.replay.transcript.EntryFault.TheVariants.{Malformed, Failed, Memory}
 use Rattle.pdpd.specs.declared.replay.transcript_fault.TranscriptFault.{TranscriptFault}
 use Rattle.pdpd.specs.declared.replay.transcript_fault.TranscriptFault.TheVariants.{NoLineFeed}
-use Rattle.pdpd.specs.Reading.{Adds, TakesBody, TakesByte, TakesBytes, TakesHeading}
+use Rattle.pdpd.specs.running.Reading.{Adds, TakesBody, TakesByte, TakesBytes, TakesHeading}
 use Rattle.pdpd.specs.Transcript.{IsNoBody, IsNoEntry, Rejects, TakesEntry, TakesOrRejects}
 
 -- ---- a piece of a list
@@ -82,7 +82,7 @@ body_wrong left mid rest count byte bytes taken here other =
     (bytes ++ byte ∷ [], consumes_trans left mid rest bytes (byte ∷ []) taken.0 here, (bytes, taken.1, inr (byte, other, refl)))
 
 -- a fault is passed on
-passed : {X Y : Type 0} (is : X → Type 0) (as_is : Y → Type 0) (wrongs others : TranscriptFault → Type 0) (f : ReadFault) → TakesOrRejects is wrongs (Err f)
+passed : {X Y : Type 0} (is : X → Type 0) (as_is : Y → Type 0) (wrongs others : TranscriptFault → Type 0) (f : EntryFault) → TakesOrRejects is wrongs (Err f)
     → ((wrong : TranscriptFault) → wrongs wrong → others wrong) → TakesOrRejects as_is others (Err f)
 passed is as_is wrongs others (Malformed wrong) at on = on wrong at
 passed is as_is wrongs others Failed at on = tt
@@ -93,7 +93,7 @@ pub entry_done : (left mid rest : Option (List ℕ)) (heading : Heading) (bytes 
 entry_done left mid rest heading bytes (first, taken_first, is_heading) (second, taken_second, is_body) =
     (first ++ second, consumes_trans left mid rest first second taken_first taken_second, (first, second, is_heading, is_body, refl))
 
-pub entry_wrong : (left mid rest : Option (List ℕ)) (heading : Heading) (bytes others : List ℕ) (f : ReadFault) → TakesHeading left mid (Some heading)
+pub entry_wrong : (left mid rest : Option (List ℕ)) (heading : Heading) (bytes others : List ℕ) (f : EntryFault) → TakesHeading left mid (Some heading)
     → TakesOrRejects {X = Unit {0}} (λ _. TakesBody mid rest heading.count bytes) (Rejects (IsNoBody heading.count) mid rest) (Err f)
     → TakesOrRejects (TakesEntry left rest others) (Rejects IsNoEntry left rest) (Err f)
 entry_wrong left mid rest heading bytes others f (first, taken_first, is_heading) wrong =

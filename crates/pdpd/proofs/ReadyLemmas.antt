@@ -9,8 +9,8 @@ use Rattle.xa_server.specs.declared.lines.Conn.{Conn}
 use Rattle.xa_server.specs.Lines.{IsOpen, Lines, empty_stream, first_free, with_line}
 use Rattle.pdpd.specs.declared.replay.transcript_connection.TranscriptConnection.{TranscriptConnection}
 use Rattle.pdpd.specs.Replay.{all_open}
-use Rattle.pdpd.specs.Replaying.{AreOf, AreReady, HasFree, IsBegun, IsOneOpen, IsReady, StaysReady, connections_from}
-use Rattle.pdpd.specs.Telling.{HasRoom, LeavesAt, TakesPieces, progress_at}
+use Rattle.pdpd.specs.running.Replaying.{AreOf, AreReady, HasFree, IsBegun, IsOneOpen, IsReady, StaysReady, connections_from}
+use Rattle.pdpd.specs.running.Telling.{HasRoom, LeavesAt, TakesPieces, progress_at}
 use Rattle.pdpd.proofs.ConnectionLemmas.{line_found, line_put, none_some, some_number}
 use Rattle.pdpd.proofs.LineLemmas.{waiting_room}
 use Rattle.pdpd.proofs.PieceLemmas.{set_same}

@@ -17,11 +17,11 @@ use Rattle.pdpd.specs.declared.replay.transcript_connection.TranscriptConnection
 use Rattle.pdpd.specs.declared.exit.Exit.{Exit}
 use Rattle.pdpd.specs.declared.exit.Exit.TheVariants as exit
 use Rattle.pdpd.specs.declared.replay.heading.Heading.{Heading}
-use Rattle.pdpd.specs.declared.replay.transcript.ReadFault.{ReadFault}
-use Rattle.pdpd.specs.declared.replay.transcript.ReadFault.TheVariants as read
+use Rattle.pdpd.specs.declared.replay.transcript.EntryFault.{EntryFault}
+use Rattle.pdpd.specs.declared.replay.transcript.EntryFault.TheVariants as read
 use Rattle.pdpd.specs.Exit.{breaks_off, exit_of_read, tells_of_entries}
 use Rattle.pdpd.specs.Replay.{AreEntries, AreReplied, ConnectionTakes, Entry, Exchange, Gave, IsEntryReplied, IsReplayed, IsTranscriptRead, OpenTakes, Replays, StreamTakes, all_open, beginning, followed, no_exchange}
-use Rattle.pdpd.specs.Replaying.{AreOf, AreReady, TakesAsHeld, Writes}
+use Rattle.pdpd.specs.running.Replaying.{AreOf, AreReady, TakesAsHeld, Writes}
 use Rattle.pdpd.specs.Transcript.{IsEntry, IsNoEntry, Rejects, TakesEntry, TakesOrRejects}
 
 -- ---- what an entry takes is a run
@@ -155,7 +155,7 @@ read_all done left mid rest number bytes so_far (none, end) =
     (so_far.entries, (gave.0, subst (λ (t : List ℕ). Consumes left rest t) (append-nil (gave.0 ++ [])) all, gave.2), end, so_far.holds)
 
 -- the next entry can't be read
-read_badly : (done : List Entry → Type 0) (left mid rest : Option (List ℕ)) (number : ℕ) (is : Option Heading → Type 0) (f : ReadFault) → SoFar done left mid number
+read_badly : (done : List Entry → Type 0) (left mid rest : Option (List ℕ)) (number : ℕ) (is : Option Heading → Type 0) (f : EntryFault) → SoFar done left mid number
     → TakesOrRejects is (Rejects IsNoEntry mid rest) (Err f) → IsTranscriptRead done left rest (exit_of_read number f)
 read_badly done left mid rest number is (read.Malformed wrong) so_far (behind, taken, is_no) =
     let gave = so_far.gave in
@@ -219,7 +219,7 @@ pub given_all : (left mid rest : Option (List ℕ)) (number : ℕ) (bytes : List
 unfolding ReadTo
 given_all left mid rest number bytes so_far none = read_all (λ _. ⊤) left mid rest number bytes so_far none
 
-pub given_badly : (left mid rest : Option (List ℕ)) (number : ℕ) (is : Option Heading → Type 0) (f : ReadFault) → ReadTo left mid number
+pub given_badly : (left mid rest : Option (List ℕ)) (number : ℕ) (is : Option Heading → Type 0) (f : EntryFault) → ReadTo left mid number
     → TakesOrRejects is (Rejects IsNoEntry mid rest) (Err f) → IsTranscriptRead (λ _. ⊤) left rest (exit_of_read number f)
 unfolding ReadTo
 given_badly left mid rest number is f so_far rejects = read_badly (λ _. ⊤) left mid rest number is f so_far rejects
@@ -248,7 +248,7 @@ answered_all held are old new left mid rest before now number bytes so_far none 
     read_all (Replays old new before now) left mid rest number bytes (so_far known).0 none
 
 pub answered_badly : (held are : List TranscriptConnection) (old new : FrontState) (left mid rest before now : Option (List ℕ)) (number : ℕ) (is : Option Heading → Type 0)
-    (f : ReadFault) → AnsweredTo held are old new left mid before now number → TakesOrRejects is (Rejects IsNoEntry mid rest) (Err f) → AreOf held old.lines
+    (f : EntryFault) → AnsweredTo held are old new left mid before now number → TakesOrRejects is (Rejects IsNoEntry mid rest) (Err f) → AreOf held old.lines
     → IsTranscriptRead (Replays old new before now) left rest (exit_of_read number f)
 unfolding AnsweredTo
 answered_badly held are old new left mid rest before now number is f so_far rejects known =

@@ -29,7 +29,7 @@ use Rattle.pdpd.specs.declared.fault.Fault.TheVariants.{Address, TokenUnread, To
 use Rattle.pdpd.specs.declared.serve.setting.Setting.{Setting}
 use Rattle.pdpd.specs.declared.serve.setting.Setting.TheVariants as set
 use Rattle.pdpd.specs.Fault.{IsNoAddress, IsOfConnections, IsOfFiles, IsOfServing, IsOfSetting, IsOfStore, IsOfToken, fault_of_end}
-use Rattle.pdpd.specs.Serving.{IsOfSettings, Serves, ServesOne}
+use Rattle.pdpd.specs.running.Serving.{IsOfSettings, Serves, ServesOne}
 use Rattle.pdpd.specs.Token.{IsOperator}
 use Rattle.pdpd.proofs.ConnectionLemmas.{none_some, some_number}
 

@@ -8,7 +8,7 @@ use Rattle.xa_server.proofs.ConnectionLemmas.{appends_none}
 use Rattle.pdpd.specs.declared.replay.transcript_connection.TranscriptConnection.{TranscriptConnection}
 use Rattle.pdpd.specs.declared.replay.heading.Heading.{Heading}
 use Rattle.pdpd.specs.Replay.{ConnectionTakes, OpenTakes, no_exchange}
-use Rattle.pdpd.specs.Replaying.{IsBegun, Takes, TakesAsHeld, TakesOpen, connections_from}
+use Rattle.pdpd.specs.running.Replaying.{IsBegun, Takes, TakesAsHeld, TakesOpen, connections_from}
 use Rattle.pdpd.proofs.ConnectionLemmas.{line_found, line_put, some_number}
 use Rattle.pdpd.proofs.PieceLemmas.{set_same}
 

@@ -35,8 +35,8 @@ use Rattle.pdpd.specs.declared.replay.telling.Progress.{Progress}
 use Rattle.pdpd.specs.declared.replay.telling.Progress.TheVariants as progress
 use Rattle.pdpd.specs.Entry.{events_at, reply_entries, reply_entry}
 use Rattle.pdpd.specs.Replay.{IsKept, StreamTakes}
-use Rattle.pdpd.specs.Replaying.{HasStreamTaken, TakesOpen, Writes}
-use Rattle.pdpd.specs.Telling.{AreTold, HasTold, IsTold, IsToldAndWritten, LeavesOff, Stands, after_answer, after_none, progress_after, progress_at, progress_of, replies_told, reply_told}
+use Rattle.pdpd.specs.running.Replaying.{HasStreamTaken, TakesOpen, Writes}
+use Rattle.pdpd.specs.running.Telling.{AreTold, HasTold, IsTold, IsToldAndWritten, LeavesOff, Stands, after_answer, after_none, progress_after, progress_at, progress_of, replies_told, reply_told}
 use Rattle.pdpd.proofs.ConnectionLemmas.{line_set, some_stream}
 
 -- ---- what is written

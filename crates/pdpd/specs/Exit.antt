@@ -4,8 +4,8 @@ use Rattle.std.specs.declared.io.ErrorKind.{ErrorKind}
 use Rattle.std.specs.declared.io.ErrorKind.TheVariants.{OutOfMemory}
 use Rattle.pdpd.specs.declared.exit.Exit.{Exit}
 use Rattle.pdpd.specs.declared.exit.Exit.TheVariants.{Done, Failed, Usage, Malformed, Store, Socket, Memory}
-use Rattle.pdpd.specs.declared.replay.transcript.ReadFault.{ReadFault}
-use Rattle.pdpd.specs.declared.replay.transcript.ReadFault.TheVariants as read
+use Rattle.pdpd.specs.declared.replay.transcript.EntryFault.{EntryFault}
+use Rattle.pdpd.specs.declared.replay.transcript.EntryFault.TheVariants as read
 
 -- the status with which it ends
 abbrev pub status_of : Exit → ℕ
@@ -23,7 +23,7 @@ exit_of OutOfMemory = Memory
 exit_of _ = Failed
 
 -- how it ends where that entry, counted from 1, can't be read
-abbrev pub exit_of_read : ℕ → ReadFault → Exit
+abbrev pub exit_of_read : ℕ → EntryFault → Exit
 exit_of_read entry (read.Malformed fault) = Malformed entry fault
 exit_of_read entry read.Failed = Failed
 exit_of_read entry read.Memory = Memory

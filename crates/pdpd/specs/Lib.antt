@@ -6,11 +6,8 @@ pub mod Exit
 pub mod Fault
 pub mod Halves
 pub mod Heading
-pub mod Reading
 pub mod Replay
-pub mod Replaying
-pub mod Serving
+pub mod running
 pub mod Setting
-pub mod Telling
 pub mod Token
 pub mod Transcript

@@ -4,8 +4,8 @@ use Rattle.std.specs.Prelude.{length, codes, Option, Some, None, Result, Ok, Err
 use Rattle.std.specs.Io.KnownBytes.{Consumes, IsAtEnd}
 use Rattle.std.specs.List.{All}
 use Rattle.pdpd.specs.declared.replay.heading.Heading.{Heading}
-use Rattle.pdpd.specs.declared.replay.transcript.ReadFault.{ReadFault}
-use Rattle.pdpd.specs.declared.replay.transcript.ReadFault.TheVariants.{Malformed}
+use Rattle.pdpd.specs.declared.replay.transcript.EntryFault.{EntryFault}
+use Rattle.pdpd.specs.declared.replay.transcript.EntryFault.TheVariants.{Malformed}
 use Rattle.pdpd.specs.declared.replay.transcript_fault.TranscriptFault.{TranscriptFault}
 use Rattle.pdpd.specs.declared.replay.transcript_fault.TranscriptFault.TheVariants as fault
 use Rattle.pdpd.specs.Heading.{heading_of}
@@ -60,7 +60,7 @@ abbrev pub most_reads : ℕ
 most_reads = 1_000_000_000
 
 -- what is read, or why the transcript is malformed; nothing where its reader failed, or memory did
-abbrev pub TakesOrRejects : {X : Type 0} → (X → Type 0) → (TranscriptFault → Type 0) → Result X ReadFault → Type 0
+abbrev pub TakesOrRejects : {X : Type 0} → (X → Type 0) → (TranscriptFault → Type 0) → Result X EntryFault → Type 0
 TakesOrRejects is wrongs (Ok x) = is x
 TakesOrRejects is wrongs (Err (Malformed wrong)) = wrongs wrong
 TakesOrRejects is wrongs (Err _) = ⊤

@@ -5,12 +5,13 @@ ghost use Rattle.pdpd.specs.CommandLine as spec;
 use std::alloc::Allocator;
 use xa_value::{TextRef, number_up_to};
 
-/// At most this many connections are served.
+/// At most this many connections are served, so that each run ends, and its file is closed. For more the
+/// program is started again.
 const MAX_CONNECTIONS: usize = 1_000_000;
 
 /// What `pdpd serve` is asked to do.
 #[derive(Drop)]
-pub struct Serving<'a> {
+pub struct ServeCommand<'a> {
     /// The path of the store.
     pub database: TextRef<'a>,
     /// The address at which connections are taken.
@@ -31,7 +32,7 @@ pub enum Command<'a> {
     /// A transcript to be replayed, with that operator's token.
     Replay(TextRef<'a>),
     /// Connections to be served.
-    Serve(Serving<'a>),
+    Serve(ServeCommand<'a>),
 }
 
 /// The number of connections that a word of the command line writes.
@@ -67,7 +68,7 @@ fn serving_of<'a>(
 ) -> Option<Command<'a>>
     ensures { result ≡ spec.serving_of database.now address.now token_file.now connections.now }
 {
-    Some(Command::Serve(Serving {
+    Some(Command::Serve(ServeCommand {
         database: TextRef::new(database),
         address: TextRef::new(address),
         token_file: TextRef::new(token_file),

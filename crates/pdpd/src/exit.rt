@@ -16,7 +16,8 @@ pub enum Exit {
     Done,
     /// Standard input or output failed.
     Failed,
-    /// The command line asks for nothing that is done, or the token is malformed or can't be read.
+    /// The command line asks for nothing that is done; or the address, a setting or the token is
+    /// malformed, or the token file can't be read.
     Usage,
     /// That entry of the transcript, counted from 1, is malformed or cut. The replies to the
     /// entries before are written.
@@ -48,6 +49,7 @@ impl Exit {
 
 impl fmt::Display for Exit {
     fn fmt<W: fmt::Write>(&self, f: &mut fmt::Formatter<W>) -> fmt::Result {
+        // `Done` and `Socket` are never shown: the first goes unreported, and a `FaultLine` tells the other.
         let text = match self {
             Exit::Done => "pdpd: done",
             Exit::Failed => "pdpd: standard input or output failed",

@@ -3,13 +3,13 @@ ghost use Rattle.std.specs.Prelude.{◌≡◌, IsTrue};
 ghost use Rattle.pdpd.specs.Exit.{ends_serving};
 ghost use Rattle.pdpd.specs.Fault.{exit_of_fault};
 
-use crate::command_line::Serving;
+use crate::command_line::ServeCommand;
 use crate::exit::Exit;
 use crate::serve::setting::Setting;
 use std::alloc::{AllocError, AllocFailed};
 use std::fmt;
 
-/// Why a store can't be opened.
+/// Why a store can't be opened, or closed.
 #[derive(Clone, Copy)]
 pub enum StoreFault {
     /// The folder of the file isn't there.
@@ -128,7 +128,7 @@ impl Fault {
     }
 
     /// What it is about: a path or an address of the command line.
-    fn subject<'a>(self, serving: &'a Serving<'_>) -> Option<&'a str> {
+    fn subject<'a>(self, serving: &'a ServeCommand<'_>) -> Option<&'a str> {
         match self {
             Fault::TokenUnread | Fault::TokenBad => Some(serving.token_file.as_str()),
             Fault::Store(_) | Fault::Shut => Some(serving.database.as_str()),
@@ -162,7 +162,7 @@ impl fmt::Display for OneLine<'_> {
 #[derive(Drop)]
 pub struct FaultLine<'a> {
     /// What the program was asked to do.
-    pub serving: &'a Serving<'a>,
+    pub serving: &'a ServeCommand<'a>,
     /// Why it ends.
     pub fault: Fault,
 }

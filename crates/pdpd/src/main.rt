@@ -1,5 +1,6 @@
 //! `pdpd serve DATABASE ADDRESS TOKEN-FILE CONNECTIONS`: answers the messages of connections, over
-//! a store in a file; and `pdpd replay OPERATOR-TOKEN`: answers those of a transcript.
+//! a store in a file; and `pdpd replay OPERATOR-TOKEN`: answers those of a transcript. `pdpd --help`
+//! and `pdpd --version` say how it is called, and which version it is.
 #![tactic(auto)]
 
 ghost use Rattle.std.specs.Prelude.{◌≡◌, ◌⊎◌, ◌↔◌, Err, IsFalse, IsTrue, map, string_bytes};
@@ -26,7 +27,7 @@ mod mode;
 mod stack;
 mod store;
 
-use command_line::{Command, Serving, command_of};
+use command_line::{Command, ServeCommand, command_of};
 use exit::Exit;
 use fault::{Fault, FaultLine};
 use std::env;
@@ -64,7 +65,7 @@ fn print(rt: &HostRuntime, text: &str) -> Exit
 }
 
 /// Serves connections, and then closes the file.
-fn serve_and_close(rt: &HostRuntime, serving: &Serving<'_>) -> Result<(), Fault>
+fn serve_and_close(rt: &HostRuntime, serving: &ServeCommand<'_>) -> Result<(), Fault>
     ensures { IsNoAddress serving.now.address → result ≡ Err Address }
 {
     let front = serve::serve(rt, serving)?;
@@ -72,7 +73,7 @@ fn serve_and_close(rt: &HostRuntime, serving: &Serving<'_>) -> Result<(), Fault>
 }
 
 /// Serves connections, and gives the exit. A line on standard error tells of a fault.
-fn exit_of_serving(rt: &HostRuntime, serving: &Serving<'_>) -> Exit
+fn exit_of_serving(rt: &HostRuntime, serving: &ServeCommand<'_>) -> Exit
     ensures serving { IsTrue (ends_serving result) }
     ensures address { IsNoAddress serving.now.address → result ≡ Usage }
 {

@@ -11,20 +11,20 @@ ghost use Rattle.xa_server.specs.Lines.{none_open};
 ghost use Rattle.xa_store.specs.Keeper.{IsSound};
 ghost use Rattle.xa_store.specs.KeeperReading.{custody_by};
 ghost use Rattle.pdpd.specs.Exit.{tells_of_entries};
-ghost use Rattle.pdpd.specs.Reading.{remaining_of};
 ghost use Rattle.pdpd.specs.Replay.{IsReplayed, IsTranscriptRead, Replays, beginning};
-ghost use Rattle.pdpd.specs.Replaying.{AreOf, AreReady, end_of};
-ghost use Rattle.pdpd.specs.Serving.{WasSound};
+ghost use Rattle.pdpd.specs.running.Reading.{remaining_of};
+ghost use Rattle.pdpd.specs.running.Replaying.{AreOf, AreReady, end_of};
+ghost use Rattle.pdpd.specs.running.Serving.{WasSound};
 ghost use Rattle.pdpd.specs.declared.exit.Exit.TheVariants.{Usage};
 
 pub(crate) mod heading;
-pub(crate) mod read_buffer;
-pub(crate) mod replayer;
-pub(crate) mod telling;
-pub(crate) mod transcript;
-pub(crate) mod transcript_connection;
+mod read_buffer;
+mod replayer;
+mod telling;
+mod transcript;
+mod transcript_connection;
 pub(crate) mod transcript_fault;
-pub(crate) mod writing;
+mod writing;
 
 use crate::exit::Exit;
 use crate::replay::replayer::Replayer;
@@ -40,7 +40,8 @@ use xa_records::Records;
 pub struct Replayed<R: Records + Drop, W: Write + Drop> {
     /// How the program ends by it.
     pub exit: Exit,
-    /// What the program holds then; nothing where no entry was looked at.
+    /// What the program holds then; nothing where no entry was looked at. No code reads it: clauses
+    /// speak of it.
     replayer: Option<Replayer<R, W>>,
 }
 

@@ -11,16 +11,16 @@ ghost use Rattle.xa_store.specs.KeeperReading.{custody_by};
 ghost use Rattle.pdpd.specs.declared.fault.Fault.TheVariants.{Address};
 ghost use Rattle.pdpd.specs.Connections.{AreIsolated, IsConnectionServed};
 ghost use Rattle.pdpd.specs.Fault.{IsNoAddress, IsOfConnections, IsOfFiles, IsOfServing, fault_of_end};
-ghost use Rattle.pdpd.specs.Serving.{Serves, ServesOne, WasSound};
+ghost use Rattle.pdpd.specs.running.Serving.{Serves, ServesOne, WasSound};
 ghost use Rattle.pdpd.specs.Token.{IsOperator};
 
-pub(crate) mod listening;
+mod listening;
 pub(crate) mod setting;
-pub(crate) mod settings;
-pub(crate) mod token;
-pub(crate) mod wall_clock;
+mod settings;
+mod token;
+mod wall_clock;
 
-use crate::command_line::Serving;
+use crate::command_line::ServeCommand;
 use crate::fault::Fault;
 use crate::serve::listening::Listening;
 use crate::serve::settings::{Settings, front_of_tables};
@@ -42,7 +42,7 @@ fn check_end(driven: Driven) -> Result<(), Fault>
         Driven::NoClock => Err(Fault::Clock),
         Driven::Memory => Err(Fault::Memory),
         Driven::Shut => Err(Fault::Shut),
-        _ => Ok(()),
+        Driven::Ended | Driven::ReadFault | Driven::WriteFault | Driven::TooManyReads => Ok(()),
     }
 }
 
@@ -126,7 +126,7 @@ fn serve_at<R: Records>(
     rt: &HostRuntime,
     front: &mut Front<R>,
     address: SocketAddr,
-    serving: &Serving<'_>,
+    serving: &ServeCommand<'_>,
     idle: usize,
 ) -> Result<(), Fault>
     requires { front.old.lines ≡ none_open }
@@ -163,7 +163,7 @@ fn address_of(word: &str) -> Result<SocketAddr, Fault>
 /// of the token file.
 fn front_of_files(
     rt: &HostRuntime,
-    serving: &Serving<'_>,
+    serving: &ServeCommand<'_>,
     settings: Settings,
 ) -> Result<Front<FileRecords>, Fault>
     ensures operator { IfOk result (λ front. IsOperator front.server.operator) }
@@ -181,7 +181,7 @@ fn front_of_files(
 /// address, PDPD_WORK, PDPD_REPLY, PDPD_READING, PDPD_VIEWS, PDPD_IDLE, the token file, the store, the
 /// socket.
 #[tactic(auto, using(crate::proofs::ServingLemmas::settings_not_address, crate::proofs::ServingLemmas::files_not_address, crate::proofs::ServingLemmas::serving_not_address, crate::proofs::ServingLemmas::address_found))]
-pub fn serve(rt: &HostRuntime, serving: &Serving<'_>) -> Result<Front<FileRecords>, Fault>
+pub fn serve(rt: &HostRuntime, serving: &ServeCommand<'_>) -> Result<Front<FileRecords>, Fault>
     ensures served { IfOk result (λ front. (custody_by over_files front.server.records).sound
         → (old : FrontState) × IsOperator old.server.world.operator × (old.server.tally ≡ nothing_held)
         × (old.lines ≡ none_open)

@@ -1,7 +1,8 @@
 //! Room on the stack.
 
-/// How many pages of the stack are touched: 512 KiB, which is as far down as messages need it.
-const PAGES: u32 = 128;
+/// How many pages of the stack are touched: 2 MiB. The most that a message is known to need is 0.8, for a
+/// function that is called choice by choice with as many arguments as a document holds.
+const PAGES: u32 = 512;
 
 /// The bytes of a page.
 const PAGE: usize = 4096;

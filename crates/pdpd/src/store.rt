@@ -1,5 +1,4 @@
 //! The store of `pdpd serve`, and that of `pdpd replay`.
-
 ghost use Rattle.std.specs.Prelude.{◌≡◌, ◌≢◌, ◌⊎◌, IfErr, IfOk, IsTrue};
 ghost use Rattle.sqlite.specs.Files.{file_state, over_files};
 ghost use Rattle.sqlite.specs.Steps.{over_memory};
@@ -11,7 +10,7 @@ ghost use Rattle.pdpd.specs.declared.fault.Fault.TheVariants as fault;
 ghost use Rattle.pdpd.specs.declared.fault.StoreFault.TheVariants.{Unclosed};
 ghost use Rattle.pdpd.specs.Fault.{IsOfStore};
 
-pub(crate) mod halves;
+mod halves;
 
 use crate::exit::Exit;
 use crate::fault::{Fault, OneLine, StoreFault};
@@ -22,6 +21,12 @@ use std::alloc::Global;
 use std::fs::{self, OpenOptions};
 use std::os::unix::fs::{OpenOptionsExt, PermissionsExt};
 use xa_store::{OpenError, SqlRecords};
+
+/// What keeps domains in a file.
+pub type FileRecords = SqlRecords<FileStore<File>>;
+
+/// What keeps domains in memory.
+pub type MemoryRecords = SqlRecords<MemStore>;
 
 /// Why the file can't be opened.
 fn fault_of_file(error: Error) -> Fault
@@ -125,12 +130,6 @@ fn make_file(rt: &HostRuntime, path: &str) {
         .mode(0o600)
         .open(rt, path);
 }
-
-/// What keeps domains in a file.
-pub type FileRecords = SqlRecords<FileStore<File>>;
-
-/// What keeps domains in memory.
-pub type MemoryRecords = SqlRecords<MemStore>;
 
 /// The keeper over the file, which is made where it isn't there. A line on standard error warns
 /// of tables of which nothing is proved, of a log that isn't there, and of a file that others

@@ -9,7 +9,7 @@ use xa_value::{Moment, number_up_to};
 /// How many connections a transcript may hold at once: as many as a front.
 pub const CONNECTIONS: usize = 64;
 
-/// The most bytes of an entry: a front holds no more of a connection.
+/// The most bytes of an entry, which are held whole while it is answered.
 pub const MAX_ENTRY_BYTES: usize = 1_048_576;
 
 /// What stands in the line before an entry.

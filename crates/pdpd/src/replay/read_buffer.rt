@@ -7,7 +7,7 @@ use std::alloc::{AllocError, Global};
 use std::io::{self, Read};
 use std::marker::Model;
 
-/// How many bytes are read at once.
+/// How many bytes are read at once: so many that the calls of the system cost little beside them.
 const BUFFER_BYTES: usize = 65_536;
 
 /// A read buffer: what it holds is taken from its front.

@@ -9,9 +9,10 @@ ghost use Rattle.xa_server.specs.Lines.{none_open};
 ghost use Rattle.xa_server.specs.Tally.{nothing_held};
 ghost use Rattle.pdpd.specs.Exit.{breaks_off};
 ghost use Rattle.pdpd.specs.Replay.{all_open};
-ghost use Rattle.pdpd.specs.Replaying.{AreReady, IsReady, StaysReady, Takes, TakesAsHeld, TakesOpen};
-ghost use Rattle.pdpd.specs.Serving.{WasSound};
-ghost use Rattle.pdpd.specs.Telling.{GoesOn, HasTold, LeavesAt, TakesPieces, left_to_answer, progress_at};
+ghost use Rattle.pdpd.specs.running.Replaying.{AreReady, IsReady, StaysReady, Takes, TakesAsHeld, TakesOpen};
+ghost use Rattle.pdpd.specs.running.Serving.{WasSound};
+ghost use Rattle.pdpd.specs.running.Telling.{GoesOn, HasTold, LeavesAt, TakesPieces, left_to_answer};
+ghost use Rattle.pdpd.specs.running.Telling.{progress_at};
 ghost use Rattle.pdpd.specs.declared.exit.Exit.TheVariants.{Memory};
 ghost use Rattle.pdpd.specs.declared.replay.telling.Progress.TheVariants.{Answered};
 
@@ -24,17 +25,18 @@ use std::io::{BufWriter, Write};
 use xa_records::{Digest, Records};
 use xa_server::{Conn, Event, Front, Server};
 
-/// How many bytes of replies are held before they are written.
+/// How many bytes of replies are held before they are written: so many that the calls of the system cost
+/// little beside them.
 const BUFFER_BYTES: usize = 65_536;
 
 /// How many bytes of an entry are handed over at once: all messages that are whole then are
-/// answered before the next.
+/// answered before the next, so that a connection always has room for a piece.
 const PIECE_BYTES: usize = 65_536;
 
 /// What the program holds between entries.
 #[derive(Drop)]
 pub struct Replayer<R: Records + Drop, W: Write + Drop> {
-    /// Where it has its memory from.
+    /// Where memory comes from.
     pub alloc: Global,
     /// The server, and its connections.
     pub front: Front<R>,

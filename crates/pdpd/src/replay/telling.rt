@@ -5,8 +5,9 @@ ghost use Rattle.std.specs.List.{All};
 ghost use Rattle.xa_server.specs.declared.front_error.FrontError.TheVariants as front;
 ghost use Rattle.pdpd.specs.Entry.{reply_entries};
 ghost use Rattle.pdpd.specs.Exit.{breaks_off};
-ghost use Rattle.pdpd.specs.Telling.{ArePieceAndAnswers, HasAnswered, IsAnswer, after_answer, after_none};
-ghost use Rattle.pdpd.specs.Telling.{answers_behind, progress_after, progress_of, replies_told, reply_told};
+ghost use Rattle.pdpd.specs.running.Telling.{ArePieceAndAnswers, HasAnswered, IsAnswer, after_answer};
+ghost use Rattle.pdpd.specs.running.Telling.{after_none, answers_behind, progress_after, progress_of};
+ghost use Rattle.pdpd.specs.running.Telling.{replies_told, reply_told};
 ghost use Rattle.pdpd.specs.declared.exit.Exit.TheVariants.{Memory};
 ghost use Rattle.pdpd.specs.declared.replay.telling.Progress.TheVariants.{Answered};
 
@@ -18,7 +19,7 @@ use xa_server::{FrontError, Outcome};
 /// What becomes of a connection that is asked for answers.
 #[derive(Clone, Copy)]
 pub enum Progress {
-    /// It was answered last, and its session goes on: another message may be whole.
+    /// Its last call was answered, and its session goes on: another message may be whole.
     Answered,
     /// No further message is whole.
     Waits,

@@ -2,10 +2,10 @@
 ghost use Rattle.std.specs.Prelude.{◌≡◌, ◌≢◌, ◌≤◌, ◌<◌, [], Err, IfErr, IfOk, OnOk};
 ghost use Rattle.std.specs.Io.KnownBytes.{IsAtEnd, Keeps};
 ghost use Rattle.pdpd.specs.declared.exit.Exit.TheVariants.{Usage};
-ghost use Rattle.pdpd.specs.declared.replay.transcript.ReadFault.TheVariants.{Failed};
+ghost use Rattle.pdpd.specs.declared.replay.transcript.EntryFault.TheVariants.{Failed};
 ghost use Rattle.pdpd.specs.Exit.{exit_of_read};
-ghost use Rattle.pdpd.specs.Reading.{Adds, IsOfReader, TakesBody, TakesByte};
-ghost use Rattle.pdpd.specs.Reading.{TakesBytes, TakesHeading, TakesLine, remaining_of};
+ghost use Rattle.pdpd.specs.running.Reading.{Adds, IsOfReader, TakesBody, TakesByte};
+ghost use Rattle.pdpd.specs.running.Reading.{TakesBytes, TakesHeading, TakesLine, remaining_of};
 ghost use Rattle.pdpd.specs.Transcript.{IsNoBody, IsNoEntry, IsNoHeading, Rejects};
 ghost use Rattle.pdpd.specs.Transcript.{TakesEntry, TakesOrRejects, most_reads};
 
@@ -16,16 +16,16 @@ use crate::replay::transcript_fault::TranscriptFault;
 use std::alloc::{AllocError, AllocFailed, Global};
 use std::io::{self, ErrorKind, Read};
 
-/// The most bytes of an entry's line, without its line feed.
+/// The most bytes of an entry's line, without its line feed: a heading has at most 23, but for leading zeros.
 const MAX_LINE_BYTES: usize = 64;
 
 /// How often a transcript is read from, in all: some minutes of single bytes or of interrupted
 /// reads. One read more counts as a failed read.
 const MAX_READS: u64 = 1_000_000_000;
 
-/// Why no further entry is read.
+/// Why the next entry isn't read.
 #[derive(Clone, Copy)]
-pub enum ReadFault {
+pub enum EntryFault {
     /// The next entry is malformed or cut.
     Malformed(TranscriptFault),
     /// The reader failed.
@@ -34,16 +34,16 @@ pub enum ReadFault {
     Memory,
 }
 
-impl ReadFault {
+impl EntryFault {
     /// How the program ends by it, at that entry.
     pub fn exit(self, entry: u64) -> Exit
         ensures exit { result ≡ exit_of_read entry self }
         ensures other { result ≢ Usage }
     {
         match self {
-            ReadFault::Malformed(fault) => Exit::Malformed { entry, fault },
-            ReadFault::Failed => Exit::Failed,
-            ReadFault::Memory => Exit::Memory,
+            EntryFault::Malformed(fault) => Exit::Malformed { entry, fault },
+            EntryFault::Failed => Exit::Failed,
+            EntryFault::Memory => Exit::Memory,
         }
     }
 }
@@ -77,7 +77,7 @@ impl<R: Read> Transcript<R> {
 
     /// Reads on, where all that was read is taken. Afterwards the buffer is empty only at the
     /// transcript's end. Each read is counted, also one that is interrupted.
-    fn read_on(&mut self) -> Result<(), ReadFault>
+    fn read_on(&mut self) -> Result<(), EntryFault>
         ensures keeps { OnOk result
             (Keeps (remaining_of R.remaining self.old) (remaining_of R.remaining self.new)) }
         ensures end { OnOk result (self.new.buffer ≡ [] → IsAtEnd (remaining_of R.remaining self.new)) }
@@ -94,14 +94,14 @@ impl<R: Read> Transcript<R> {
             match self.buffer.fill(&mut self.reader) {
                 Ok(()) => return Ok(()),
                 Err(error) if error.kind() == ErrorKind::Interrupted => {}
-                Err(error) => return Err(ReadFault::from(error)),
+                Err(error) => return Err(EntryFault::from(error)),
             }
         }
-        Err(ReadFault::Failed)
+        Err(EntryFault::Failed)
     }
 
     /// The next byte, if the transcript goes on.
-    fn next_byte(&mut self) -> Result<Option<u8>, ReadFault>
+    fn next_byte(&mut self) -> Result<Option<u8>, EntryFault>
         ensures byte { IfOk result
             (TakesByte (remaining_of R.remaining self.old) (remaining_of R.remaining self.new)) }
         ensures err { IfErr result IsOfReader }
@@ -111,7 +111,7 @@ impl<R: Read> Transcript<R> {
     }
 
     /// Moves at most `most` bytes of the transcript to the end of `bytes`, if it goes on. Whether it does.
-    fn append_to(&mut self, bytes: &mut Vec<u8>, most: usize) -> Result<bool, ReadFault>
+    fn append_to(&mut self, bytes: &mut Vec<u8>, most: usize) -> Result<bool, EntryFault>
         ensures added { IfOk result
             (Adds most (remaining_of R.remaining self.old) (remaining_of R.remaining self.new)
             bytes.old.items bytes.new.items) }
@@ -124,7 +124,7 @@ impl<R: Read> Transcript<R> {
     }
 
     /// The line before the next entry, in place of what `line` holds. Whether there is one.
-    fn next_line(&mut self, line: &mut Vec<u8>) -> Result<bool, ReadFault>
+    fn next_line(&mut self, line: &mut Vec<u8>) -> Result<bool, EntryFault>
         ensures { let left = remaining_of R.remaining self.old in
             let rest = remaining_of R.remaining self.new in
             TakesOrRejects (TakesLine left rest line.new.items) (Rejects IsNoHeading left rest) result }
@@ -135,14 +135,14 @@ impl<R: Read> Transcript<R> {
                 Some(b'\n') => return Ok(true),
                 Some(byte) => line.push(byte)?,
                 None if line.is_empty() => return Ok(false),
-                None => return Err(ReadFault::Malformed(TranscriptFault::CutLine)),
+                None => return Err(EntryFault::Malformed(TranscriptFault::CutLine)),
             }
         }
-        Err(ReadFault::Malformed(TranscriptFault::LongLine))
+        Err(EntryFault::Malformed(TranscriptFault::LongLine))
     }
 
     /// The heading of the next entry, if there is one. Its line takes the place of what `line` holds.
-    fn next_heading(&mut self, line: &mut Vec<u8>) -> Result<Option<Heading>, ReadFault>
+    fn next_heading(&mut self, line: &mut Vec<u8>) -> Result<Option<Heading>, EntryFault>
         ensures { let left = remaining_of R.remaining self.old in
             let rest = remaining_of R.remaining self.new in
             TakesOrRejects (TakesHeading left rest) (Rejects IsNoHeading left rest) result }
@@ -152,12 +152,12 @@ impl<R: Read> Transcript<R> {
         }
         match heading_of(line) {
             Ok(heading) => Ok(Some(heading)),
-            Err(fault) => Err(ReadFault::Malformed(TranscriptFault::Heading(fault))),
+            Err(fault) => Err(EntryFault::Malformed(TranscriptFault::Heading(fault))),
         }
     }
 
     /// That many bytes, in place of what `bytes` holds.
-    fn take(&mut self, count: usize, bytes: &mut Vec<u8>) -> Result<(), ReadFault>
+    fn take(&mut self, count: usize, bytes: &mut Vec<u8>) -> Result<(), EntryFault>
         ensures { let left = remaining_of R.remaining self.old in
             let rest = remaining_of R.remaining self.new in
             TakesOrRejects (λ _. TakesBytes left rest count bytes.new.items)
@@ -166,14 +166,14 @@ impl<R: Read> Transcript<R> {
         bytes.clear();
         while bytes.len() < count {
             if !self.append_to(bytes, count - bytes.len())? {
-                return Err(ReadFault::Malformed(TranscriptFault::CutBytes));
+                return Err(EntryFault::Malformed(TranscriptFault::CutBytes));
             }
         }
         Ok(())
     }
 
     /// The bytes of an entry, in place of what `bytes` holds, and the line feed after them.
-    fn body(&mut self, count: usize, bytes: &mut Vec<u8>) -> Result<(), ReadFault>
+    fn body(&mut self, count: usize, bytes: &mut Vec<u8>) -> Result<(), EntryFault>
         ensures { let left = remaining_of R.remaining self.old in
             let rest = remaining_of R.remaining self.new in
             TakesOrRejects (λ _. TakesBody left rest count bytes.new.items)
@@ -182,13 +182,13 @@ impl<R: Read> Transcript<R> {
         self.take(count, bytes)?;
         match self.next_byte()? {
             Some(b'\n') => Ok(()),
-            Some(_) => Err(ReadFault::Malformed(TranscriptFault::NoLineFeed)),
-            None => Err(ReadFault::Malformed(TranscriptFault::NoLineFeed)),
+            Some(_) => Err(EntryFault::Malformed(TranscriptFault::NoLineFeed)),
+            None => Err(EntryFault::Malformed(TranscriptFault::NoLineFeed)),
         }
     }
 
     /// The heading of the next entry, if there is one, and its bytes in place of what `bytes` holds.
-    pub fn next_entry(&mut self, bytes: &mut Vec<u8>) -> Result<Option<Heading>, ReadFault>
+    pub fn next_entry(&mut self, bytes: &mut Vec<u8>) -> Result<Option<Heading>, EntryFault>
         ensures { let left = remaining_of R.remaining self.old in
             let rest = remaining_of R.remaining self.new in
             TakesOrRejects (TakesEntry left rest bytes.new.items) (Rejects IsNoEntry left rest) result }
@@ -201,37 +201,37 @@ impl<R: Read> Transcript<R> {
     }
 }
 
-impl From<AllocError> for ReadFault {
+impl From<AllocError> for EntryFault {
     ghost use Rattle.std.specs.Prelude.{◌≡◌};
-    ghost use Rattle.pdpd.specs.declared.replay.transcript.ReadFault.TheVariants.{Memory};
+    ghost use Rattle.pdpd.specs.declared.replay.transcript.EntryFault.TheVariants.{Memory};
 
     ghost from_gives = { λ _ fault. fault ≡ Memory };
 
-    fn from(_: AllocError) -> ReadFault {
-        ReadFault::Memory
+    fn from(_: AllocError) -> EntryFault {
+        EntryFault::Memory
     }
 }
 
-impl<T: Drop> From<AllocFailed<T>> for ReadFault {
+impl<T: Drop> From<AllocFailed<T>> for EntryFault {
     ghost use Rattle.std.specs.Prelude.{◌≡◌};
-    ghost use Rattle.pdpd.specs.declared.replay.transcript.ReadFault.TheVariants.{Memory};
+    ghost use Rattle.pdpd.specs.declared.replay.transcript.EntryFault.TheVariants.{Memory};
 
     ghost from_gives = { λ _ fault. fault ≡ Memory };
 
-    fn from(_: AllocFailed<T>) -> ReadFault {
-        ReadFault::Memory
+    fn from(_: AllocFailed<T>) -> EntryFault {
+        EntryFault::Memory
     }
 }
 
-impl From<io::Error> for ReadFault {
-    ghost use Rattle.pdpd.specs.Reading.{IsOfReader};
+impl From<io::Error> for EntryFault {
+    ghost use Rattle.pdpd.specs.running.Reading.{IsOfReader};
 
     ghost from_gives = { λ _ fault. IsOfReader fault };
 
-    fn from(error: io::Error) -> ReadFault {
+    fn from(error: io::Error) -> EntryFault {
         match error.kind() {
-            ErrorKind::OutOfMemory => ReadFault::Memory,
-            _ => ReadFault::Failed,
+            ErrorKind::OutOfMemory => EntryFault::Memory,
+            _ => EntryFault::Failed,
         }
     }
 }

@@ -4,8 +4,8 @@ ghost use Rattle.xa_server.specs.Front.{server_state};
 ghost use Rattle.xa_server.specs.Lines.{none_open, with_line};
 ghost use Rattle.pdpd.specs.Exit.{breaks_off};
 ghost use Rattle.pdpd.specs.Replay.{all_open};
-ghost use Rattle.pdpd.specs.Replaying.{AreOf, HasFree, IsBegun, IsOneOpen};
-ghost use Rattle.pdpd.specs.Serving.{WasSound};
+ghost use Rattle.pdpd.specs.running.Replaying.{AreOf, HasFree, IsBegun, IsOneOpen};
+ghost use Rattle.pdpd.specs.running.Serving.{WasSound};
 
 use crate::exit::Exit;
 use crate::replay::heading::CONNECTIONS;

@@ -13,7 +13,7 @@ pub enum TranscriptFault {
     #[error("the transcript ends within the line before it")]
     CutLine,
     /// The line before it is no heading.
-    #[error("{0}")]
+    #[error(transparent)]
     Heading(HeadingFault),
     /// The transcript ends within its bytes.
     #[error("the transcript ends within its bytes")]

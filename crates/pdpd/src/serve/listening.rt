@@ -47,6 +47,44 @@ const ENOBUFS: u32 = 105;
 /// The peer's host is down.
 const EHOSTDOWN: u32 = 112;
 
+/// Where connections are taken.
+#[derive(Drop)]
+pub struct Listening {
+    /// The runtime, which waits where there is no room for a connection.
+    rt: HostRuntime,
+    /// The socket at which connections come.
+    listener: TcpListener,
+    /// For how many seconds each may give nothing, or take nothing; 0 for ever.
+    idle: usize,
+}
+
+impl Listening {
+    /// Where that listener takes connections, each of which may be idle for so many seconds; 0 for ever.
+    pub fn new(rt: &HostRuntime, listener: TcpListener, idle: usize) -> Listening {
+        Listening {
+            rt: *rt,
+            listener,
+            idle,
+        }
+    }
+
+    /// The next connection, prepared.
+    pub fn next_connection(&self) -> Result<TcpStream, Fault>
+        ensures { IfErr result (λ fault. fault ≡ Connection) }
+    {
+        for _ in 0..MAX_FAILURES {
+            match self.listener.accept() {
+                Ok((stream, _peer)) => {
+                    prepare(&stream, self.idle);
+                    return Ok(stream);
+                }
+                Err(error) => pass_over(&self.rt, error.kind(), number_of(&error))?,
+            }
+        }
+        Err(Fault::Connection)
+    }
+}
+
 /// Whether the next connection may be taken after a failure of that kind: it was the peer's or the
 /// network's, not the listener's.
 fn is_passing(kind: ErrorKind) -> bool
@@ -113,42 +151,4 @@ fn prepare(stream: &TcpStream, idle: usize) {
     // These fail only at a wait of no time, or of a stream that is gone, where the next read fails.
     let _ = stream.set_read_timeout(Some(wait));
     let _ = stream.set_write_timeout(Some(wait));
-}
-
-/// Where connections are taken.
-#[derive(Drop)]
-pub struct Listening {
-    /// The runtime, which waits where there is no room for a connection.
-    rt: HostRuntime,
-    /// The socket at which connections come.
-    listener: TcpListener,
-    /// For how many seconds each may give nothing, or take nothing; 0 for ever.
-    idle: usize,
-}
-
-impl Listening {
-    /// Where that listener takes connections, each of which may be idle for so many seconds; 0 for ever.
-    pub fn new(rt: &HostRuntime, listener: TcpListener, idle: usize) -> Listening {
-        Listening {
-            rt: *rt,
-            listener,
-            idle,
-        }
-    }
-
-    /// The next connection, prepared.
-    pub fn next_connection(&self) -> Result<TcpStream, Fault>
-        ensures { IfErr result (λ fault. fault ≡ Connection) }
-    {
-        for _ in 0..MAX_FAILURES {
-            match self.listener.accept() {
-                Ok((stream, _peer)) => {
-                    prepare(&stream, self.idle);
-                    return Ok(stream);
-                }
-                Err(error) => pass_over(&self.rt, error.kind(), number_of(&error))?,
-            }
-        }
-        Err(Fault::Connection)
-    }
 }

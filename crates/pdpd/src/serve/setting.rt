@@ -11,16 +11,20 @@ use xa_value::number_up_to;
 /// waits. The dearest honest ask measured takes 3,500,000.
 const DEFAULT_WORK: usize = 150_000_000;
 
-/// How many bytes the body of a response may have where PDPD_REPLY isn't set: 16 MiB.
+/// How many bytes the body of a response may have where PDPD_REPLY isn't set: 16 MiB. The limit of work
+/// leaves room for hundreds of megabytes.
 const DEFAULT_REPLY: usize = 16_777_216;
 
-/// How many bytes of policies may be read for one message where PDPD_READING isn't set.
+/// How many bytes of policies may be read for one message where PDPD_READING isn't set: to read them takes
+/// some 0.3 seconds, too.
 const DEFAULT_READING: usize = 16_000_000;
 
-/// How many bytes of memory the domains' ready views may take where PDPD_VIEWS isn't set: 256 MiB.
+/// How many bytes of memory the domains' ready views may take where PDPD_VIEWS isn't set: 256 MiB. A domain
+/// with as many bytes of policies as may be read takes some half of it, at 8 bytes for each.
 const DEFAULT_VIEWS: usize = 268_435_456;
 
-/// For how many seconds a connection may give nothing, or take nothing, where PDPD_IDLE isn't set.
+/// For how many seconds a connection may give nothing, or take nothing, where PDPD_IDLE isn't set: one is
+/// served at a time, so a silent one would stop everybody.
 const DEFAULT_IDLE: usize = 30;
 
 /// A setting that the environment gives.

@@ -1,10 +1,9 @@
 //! What an operator has set of a server, and the front of one that is so.
-
 ghost use Rattle.std.specs.Prelude.{◌≡◌, IfErr, IfOk};
 ghost use Rattle.xa_server.specs.Lines.{none_open};
 ghost use Rattle.xa_server.specs.Tally.{nothing_held};
 ghost use Rattle.pdpd.specs.declared.fault.Fault.TheVariants.{Memory};
-ghost use Rattle.pdpd.specs.Serving.{IsOfSettings};
+ghost use Rattle.pdpd.specs.running.Serving.{IsOfSettings};
 
 use crate::fault::Fault;
 use crate::serve::setting::Setting;

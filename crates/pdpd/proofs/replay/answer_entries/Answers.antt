@@ -3,9 +3,9 @@ use Rattle.std.specs.Prelude.{⊤}
 use Rattle.std.specs.Io.Buffered.{writer_contents}
 use Rattle.xa_server.specs.Front.{front_state}
 use Rattle.pdpd.specs.declared.exit.Exit.{Exit}
-use Rattle.pdpd.specs.Reading.{remaining_of}
+use Rattle.pdpd.specs.running.Reading.{remaining_of}
 use Rattle.pdpd.specs.Replay.{IsTranscriptRead, Replays}
-use Rattle.pdpd.specs.Replaying.{TakesAsHeld}
+use Rattle.pdpd.specs.running.Replaying.{TakesAsHeld}
 use Rattle.pdpd.specs.Transcript.{TakesEntry}
 use Rattle.pdpd.proofs.HeadingLemmas.{entry_within}
 use Rattle.pdpd.proofs.ReplayLemmas.{answered_all, answered_badly, answered_more, given_all, given_badly, given_more}

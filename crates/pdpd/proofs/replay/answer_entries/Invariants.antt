@@ -1,7 +1,7 @@
 use Rattle.std.specs.Io.Buffered.{writer_contents}
 use Rattle.xa_server.specs.Front.{front_state}
-use Rattle.pdpd.specs.Reading.{remaining_of}
-use Rattle.pdpd.specs.Replaying.{AreReady}
+use Rattle.pdpd.specs.running.Reading.{remaining_of}
+use Rattle.pdpd.specs.running.Replaying.{AreReady}
 use Rattle.pdpd.proofs.ReplayLemmas.{AnsweredTo, ReadTo}
 use Rattle.pdpd.proofs.replay.answer_entries.Given as goal
 

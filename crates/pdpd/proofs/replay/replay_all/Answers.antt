@@ -3,9 +3,9 @@ use Rattle.std.specs.Io.Buffered.{writer_contents, writer_inner}
 use Rattle.std.specs.Io.KnownBytes.{Keeps, append_known}
 use Rattle.xa_server.specs.Front.{front_state}
 use Rattle.pdpd.specs.declared.exit.Exit.{Exit}
-use Rattle.pdpd.specs.Reading.{remaining_of}
+use Rattle.pdpd.specs.running.Reading.{remaining_of}
 use Rattle.pdpd.specs.Replay.{IsTranscriptRead, Replays}
-use Rattle.pdpd.specs.Replaying.{AreOf, end_of}
+use Rattle.pdpd.specs.running.Replaying.{AreOf, end_of}
 use Rattle.pdpd.proofs.ReplayLemmas.{replayed_all}
 use Rattle.pdpd.proofs.replay.replay_all.Goals.{in-Ok, in-Err-answer_entries}
 use Rattle.pdpd.proofs.replay.replay_all.Goals as goal

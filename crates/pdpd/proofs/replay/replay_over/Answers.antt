@@ -3,7 +3,7 @@ use Rattle.std.specs.Prelude.{⊤}
 use Rattle.std.specs.Io.Buffered.{writer_buffer, writer_inner}
 use Rattle.sha2.specs.Sha256.{sha256}
 use Rattle.xa_server.specs.Front.{front_state}
-use Rattle.pdpd.specs.Reading.{remaining_of}
+use Rattle.pdpd.specs.running.Reading.{remaining_of}
 use Rattle.pdpd.specs.Replay.{IsTranscriptRead}
 use Rattle.pdpd.proofs.ReplayLemmas.{replayed_from}
 use Rattle.pdpd.proofs.replay.replay_over.Goals as goal

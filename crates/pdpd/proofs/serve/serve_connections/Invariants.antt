@@ -1,7 +1,7 @@
 use Rattle.std.proofs.Common.{◌≡◌}
 use Rattle.xa_server.specs.Front.{front_state}
 use Rattle.xa_server.specs.Lines.{none_open}
-use Rattle.pdpd.specs.Serving.{Serves}
+use Rattle.pdpd.specs.running.Serving.{Serves}
 use Rattle.pdpd.proofs.serve.serve_connections.Given as goal
 
 -- so many connections are served

@@ -3,7 +3,7 @@ use Rattle.std.specs.List.{All}
 use Rattle.std.proofs.lemmas.List.Elements.{All-more}
 use Rattle.xa_server.specs.declared.event.Outcome.{Outcome}
 use Rattle.pdpd.specs.declared.replay.telling.Progress.TheVariants.{Answered}
-use Rattle.pdpd.specs.Telling.{HasAnswered, progress_after}
+use Rattle.pdpd.specs.running.Telling.{HasAnswered, progress_after}
 use Rattle.pdpd.proofs.TellingLemmas.{progress_more, wrote_more}
 use Rattle.pdpd.proofs.replay.telling.write_outcomes.Goals as goal
 

@@ -3,7 +3,7 @@ use Rattle.std.specs.Io.KnownBytes.{Appends}
 use Rattle.std.specs.List.{All}
 use Rattle.pdpd.specs.declared.replay.telling.Progress.TheVariants.{Answered}
 use Rattle.pdpd.specs.Entry.{reply_entries}
-use Rattle.pdpd.specs.Telling.{HasAnswered, progress_of, replies_told}
+use Rattle.pdpd.specs.running.Telling.{HasAnswered, progress_of, replies_told}
 use Rattle.pdpd.proofs.replay.telling.write_outcomes.Given as goal
 
 -- the replies of the outcomes so far are written

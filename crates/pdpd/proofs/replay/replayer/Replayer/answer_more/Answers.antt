@@ -3,7 +3,7 @@ use Rattle.std.specs.Io.Buffered.{writer_contents}
 use Rattle.std.specs.List.{All}
 use Rattle.xa_server.specs.declared.event.Outcome.{Outcome}
 use Rattle.xa_server.specs.Front.{front_state}
-use Rattle.pdpd.specs.Telling.{IsAnswer}
+use Rattle.pdpd.specs.running.Telling.{IsAnswer}
 use Rattle.pdpd.proofs.LineLemmas.{all_answers, answers_fewer, answers_left}
 use Rattle.pdpd.proofs.PieceLemmas.{asked_as}
 use Rattle.pdpd.proofs.replay.replayer.Replayer.answer_more.Goals as goal

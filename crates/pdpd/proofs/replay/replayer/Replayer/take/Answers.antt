@@ -3,7 +3,7 @@ use Rattle.std.proofs.lemmas.List.{take-append-drop}
 use Rattle.std.specs.Io.Buffered.{writer_contents}
 use Rattle.xa_http.specs.Stream.{fed}
 use Rattle.xa_server.specs.Front.{front_state}
-use Rattle.pdpd.specs.Telling.{HasTold, LeavesAt, progress_at}
+use Rattle.pdpd.specs.running.Telling.{HasTold, LeavesAt, progress_at}
 use Rattle.pdpd.proofs.LineLemmas.{room_left, room_more}
 use Rattle.pdpd.proofs.PieceLemmas.{taken_ended, taken_more}
 use Rattle.pdpd.proofs.replay.replayer.Replayer.take.Goals as goal

@@ -1,7 +1,7 @@
 use Rattle.std.proofs.Common.{◌≡◌, length}
 use Rattle.std.specs.Io.Buffered.{writer_contents}
 use Rattle.xa_server.specs.Front.{front_state}
-use Rattle.pdpd.specs.Telling.{LeavesRoom}
+use Rattle.pdpd.specs.running.Telling.{LeavesRoom}
 use Rattle.pdpd.proofs.PieceLemmas.{TakenTo}
 use Rattle.pdpd.proofs.replay.replayer.Replayer.take.Given as goal
 

@@ -2,7 +2,7 @@ use Rattle.std.proofs.Common.{◌≡◌}
 use Rattle.std.specs.Io.Buffered.{writer_contents}
 use Rattle.xa_http.specs.Stream.{fed}
 use Rattle.xa_server.specs.Front.{front_state}
-use Rattle.pdpd.specs.Telling.{HasTold, LeavesAt, left_to_answer}
+use Rattle.pdpd.specs.running.Telling.{HasTold, LeavesAt, left_to_answer}
 use Rattle.pdpd.proofs.replay.replayer.Replayer.take_piece.Given as goal
 
 -- some messages are answered

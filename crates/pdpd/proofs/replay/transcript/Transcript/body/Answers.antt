@@ -1,5 +1,5 @@
 use Rattle.std.proofs.Common.{◌≢◌, Some, rules}
-use Rattle.pdpd.specs.Reading.{TakesByte, remaining_of}
+use Rattle.pdpd.specs.running.Reading.{TakesByte, remaining_of}
 use Rattle.pdpd.proofs.ReadingLemmas.{body_wrong}
 use Rattle.pdpd.proofs.replay.transcript.Transcript.body.Goals as goal
 

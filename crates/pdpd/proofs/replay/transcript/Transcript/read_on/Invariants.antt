@@ -1,6 +1,6 @@
 use Rattle.std.proofs.Common.{◌≡◌, ◌≤◌, []}
 use Rattle.std.specs.Io.KnownBytes.{Keeps}
-use Rattle.pdpd.specs.Reading.{remaining_of}
+use Rattle.pdpd.specs.running.Reading.{remaining_of}
 use Rattle.pdpd.proofs.replay.transcript.Transcript.read_on.Given as goal
 
 -- nothing is read yet

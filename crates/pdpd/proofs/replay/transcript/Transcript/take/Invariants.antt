@@ -1,6 +1,6 @@
 use Rattle.std.proofs.Common.{◌≤◌, ◌-◌, length}
 use Rattle.std.specs.Io.KnownBytes.{Consumes}
-use Rattle.pdpd.specs.Reading.{remaining_of}
+use Rattle.pdpd.specs.running.Reading.{remaining_of}
 use Rattle.pdpd.proofs.replay.transcript.Transcript.take.Given as goal
 
 -- so many bytes are taken

@@ -1,10 +1,10 @@
--- How a transcript is read, a piece at a time: words that only contracts of private functions cite.
+-- How a transcript is read, a piece at a time.
 use Rattle.std.specs.Prelude.{◌≡◌, ◌≤◌, ◌<◌, ⊤, ℕ, Bool, true, false, List}
 use Rattle.std.specs.Prelude.{[], ◌∷◌, ◌++◌, length, codes, Option, Some, None}
 use Rattle.std.specs.Io.KnownBytes.{Consumes, IsAtEnd, prepend_known}
 use Rattle.pdpd.specs.declared.replay.heading.Heading.{Heading}
-use Rattle.pdpd.specs.declared.replay.transcript.ReadFault.{ReadFault}
-use Rattle.pdpd.specs.declared.replay.transcript.ReadFault.TheVariants.{Malformed}
+use Rattle.pdpd.specs.declared.replay.transcript.EntryFault.{EntryFault}
+use Rattle.pdpd.specs.declared.replay.transcript.EntryFault.TheVariants.{Malformed}
 use Rattle.pdpd.specs.declared.replay.transcript.Transcript.{Transcript}
 use Rattle.pdpd.specs.Transcript.{IsBody, IsHeading, IsLine}
 
@@ -13,7 +13,7 @@ abbrev pub remaining_of : {R : Type 0} → (R → Option (List ℕ)) → Transcr
 remaining_of remaining transcript = prepend_known transcript.buffer (remaining transcript.reader)
 
 -- a fault of the reader: of none of the bytes
-abbrev pub IsOfReader : ReadFault → Type 0
+abbrev pub IsOfReader : EntryFault → Type 0
 IsOfReader (Malformed _) = ⊥
 IsOfReader _ = ⊤
 

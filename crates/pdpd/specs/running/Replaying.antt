@@ -1,5 +1,4 @@
--- What the program holds and writes while a transcript is replayed: words that only contracts of private
--- functions cite.
+-- What the program holds and writes while a transcript is replayed.
 use Rattle.std.specs.Prelude.{◌≡◌, ℕ, suc, Bool, false, List, [], ◌∷◌, length, Option, Some, None, Result, Ok, Err}
 use Rattle.std.specs.Io.KnownBytes.{Appends}
 use Rattle.std.specs.List.{All}
@@ -12,7 +11,7 @@ use Rattle.pdpd.specs.declared.exit.Exit.{Exit}
 use Rattle.pdpd.specs.declared.exit.Exit.TheVariants.{Done}
 use Rattle.pdpd.specs.declared.replay.heading.Heading.{Heading}
 use Rattle.pdpd.specs.Replay.{ConnectionTakes, Exchange, IsEntryReplied, StreamTakes, all_open}
-use Rattle.pdpd.specs.Telling.{HasRoom}
+use Rattle.pdpd.specs.running.Telling.{HasRoom}
 
 -- how the program ends by a result
 abbrev pub end_of : Result (Unit {0}) Exit → Exit
@@ -36,7 +35,7 @@ abbrev pub AreOf : List TranscriptConnection → Lines → Type 0
 AreOf connections lines = connections ≡ connections_from 0 lines
 
 -- what is held of a connection that is open with the stream: were it closed, it would be the least that is free
-pub record IsLine (connection : TranscriptConnection) (lines : Lines) (stream : Stream) : Type 0 where
+pub record IsConnectionHeld (connection : TranscriptConnection) (lines : Lines) (stream : Stream) : Type 0 where
   pub line : IsOpen connection.conn lines stream
   pub ended : connection.has_ended ≡ stream.ended
   pub free : first_free (with_line connection.conn None lines) ≡ Some connection.conn.number
@@ -83,7 +82,8 @@ pub record HasTaken (heading : Heading) (bytes : List ℕ) (was is : TranscriptC
 unfoldable pub Takes : Heading → List ℕ → TranscriptConnection → TranscriptConnection → FrontState → FrontState
     → Option (List ℕ) → Option (List ℕ) → Type 0
 Takes heading bytes was is old new before now =
-    (stream : Stream) → IsLine was old.lines stream → HasTaken heading bytes was is old new stream before now
+    (stream : Stream) → IsConnectionHeld was old.lines stream
+    → HasTaken heading bytes was is old new stream before now
 
 -- an entry was answered, and the replies written; what is held of the connections is right afterwards, if it was before
 unfoldable pub TakesAsHeld : Heading → List ℕ → List TranscriptConnection → List TranscriptConnection → FrontState
@@ -99,7 +99,7 @@ AreReady connections lines = AreOf connections lines × (length connections ≡ 
 
 -- so it is with one of them
 unfoldable pub IsReady : TranscriptConnection → Lines → Type 0
-IsReady connection lines = (stream : Stream) × IsLine connection lines stream × HasRoom (Some stream)
+IsReady connection lines = (stream : Stream) × IsConnectionHeld connection lines stream × HasRoom (Some stream)
 
 -- and stays, after what was done with it; no other has changed
 unfoldable pub StaysReady : TranscriptConnection → TranscriptConnection → Lines → Lines → Type 0

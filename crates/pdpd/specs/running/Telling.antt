@@ -1,4 +1,4 @@
--- What a connection is told by one answer after another: words that only contracts of private functions cite.
+-- What a connection is told by one answer after another.
 use Rattle.std.specs.Prelude.{◌≡◌, ℕ, ℤ, ◌+◌, ◌≤◌, suc, ⊤, Bool, true, false, List}
 use Rattle.std.specs.Prelude.{[], ◌∷◌, ◌++◌, length, Option, Some, None, Ok, Err}
 use Rattle.std.specs.Io.KnownBytes.{Appends}

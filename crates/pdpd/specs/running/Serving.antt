@@ -1,4 +1,4 @@
--- What is served: words that only contracts of private functions cite.
+-- What is served.
 use Rattle.std.specs.Prelude.{ℕ, ◌⊎◌}
 use Rattle.xa_records.specs.Keeper.{Custody}
 use Rattle.xa_server.specs.Driven.{Known}
