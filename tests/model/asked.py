@@ -14,7 +14,7 @@ from json_texts import MOST_NESTED
 from policies import without_duties
 from questions import Questions, place_of
 from rows import encoded, text_of
-from servers import SETUP
+from servers import setup_and_events
 
 RULES = "urn:oasis:names:tc:xacml:3.0:rule-combining-algorithm:deny-overrides"
 MAX_DOCUMENT_BYTES = 65_536
@@ -267,8 +267,8 @@ CALLS = ("begin", "piece", "answer", "finish", "moment")
 
 
 def front(fields, answer):
-    """The row itself; and where its events are calls of a front alone, the same events as one list, which is played."""
-    words = {field.partition(":")[0] for field in fields} - set(SETUP)
+    """The row itself; and where its events are calls of a front alone, the same events, each of which is played."""
+    words = {field.partition(":")[0] for field in setup_and_events(fields)[1]}
     return [Row([kind, *fields], answer) for kind in ("front", "played") if kind == "front" or words <= set(CALLS)]
 
 

@@ -1,4 +1,5 @@
-"""Combining algorithms (XACML 3.0, appendix C) over the decisions Permit, Deny, NotApplicable, {P}, {D} and {DP} of the children."""
+"""Combining algorithms (XACML 3.0, appendix C) over the decisions Permit, Deny, NotApplicable, {P}, {D} and
+{DP} of the children."""
 
 DECISIONS = ["Permit", "Deny", "NotApplicable", "{P}", "{D}", "{DP}"]
 MIRROR = {"Permit": "Deny", "Deny": "Permit", "{P}": "{D}", "{D}": "{P}"}
@@ -38,7 +39,8 @@ def first_applicable(found):
 def ending(targets):
     """The place of the first Indeterminate target, or of the second Match, if that comes before."""
     matching = [place for place, target in enumerate(targets) if target == "Match"]
-    return min([place for place, target in enumerate(targets) if target == "Indeterminate"] + matching[1:2], default=None)
+    return min([place for place, target in enumerate(targets) if target == "Indeterminate"] + matching[1:2],
+               default=None)
 
 
 def only_one_applicable(children):
@@ -50,8 +52,8 @@ def only_one_applicable(children):
 
 BY_DECISIONS = {
     "deny-overrides": deny_overrides, "ordered-deny-overrides": deny_overrides, "permit-overrides": permit_overrides,
-    "ordered-permit-overrides": permit_overrides, "deny-unless-permit": deny_unless_permit, "permit-unless-deny": permit_unless_deny,
-    "first-applicable": first_applicable,
+    "ordered-permit-overrides": permit_overrides, "deny-unless-permit": deny_unless_permit,
+    "permit-unless-deny": permit_unless_deny, "first-applicable": first_applicable,
 }
 ALGORITHMS = [*BY_DECISIONS, "only-one-applicable"]
 

@@ -1,4 +1,5 @@
-"""What a designator finds: values of the request, else of the clock, else of a source of attributes (XACML 3.0, core, sections 7.3.5, 7.3.6, 10.2.5)."""
+"""What a designator finds: values of the request, else of the clock, else of a source of attributes (XACML 3.0, core,
+sections 7.3.5, 7.3.6, 10.2.5)."""
 import collections
 
 from identifiers import OTHERS, SHORTHANDS, SUBJECTS
@@ -37,7 +38,8 @@ class Context:
     def asked(self, category, attribute_id, data_type, issuer=None):
         """The values that the request gives."""
         return [value for held in self.objects if held.category == category for attribute in held.attributes
-                if (attribute.id, attribute.data_type) == (attribute_id, data_type) and issuer in (None, attribute.issuer)
+                if (attribute.id, attribute.data_type) == (attribute_id, data_type)
+                and issuer in (None, attribute.issuer)
                 for value in attribute.values]
 
     def entity(self, category):
@@ -53,4 +55,5 @@ class Context:
         if issuer is None and category == ENVIRONMENT and (attribute_id, data_type) in CLOCK:
             return [moment_as(data_type, self.moment)]
         place = category, self.entity(category), attribute_id
-        return [row.value for row in self.source if row[:3] == place and row.value[0] == data_type and issuer in (None, row.issuer)]
+        return [row.value for row in self.source if row[:3] == place and row.value[0] == data_type
+                and issuer in (None, row.issuer)]

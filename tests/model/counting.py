@@ -1,7 +1,9 @@
-"""How often a server reads a text and works out a response, by what it keeps of those before: a shelf of texts, views of domains that are ready, and a cache of
-responses; and which asks it refuses, by its limits of work, of a response and of reading.
+"""How often a server reads a text and works out a response, by what it keeps of those before: a shelf of texts,
+views of domains that are ready, and a cache of responses; and which asks it refuses, by its limits of work, of a
+response and of reading.
 
-What is kept changes no reply. A view is kept for the domain's number and its epoch, one for each number. A response is kept where it is the same at every moment, for the domain's number, which no other domain ever has, for its epoch,
+What is kept changes no reply. A view is kept for the domain's number and its epoch, one for each number. A response is
+kept where it is the same at every moment, for the domain's number, which no other domain ever has, for its epoch,
 which rises with each change of what decides, and for the very bytes of the request.
 """
 import collections
@@ -43,7 +45,8 @@ class LastUsed:
 
 
 class Views:
-    """The views that are kept ready, the one that was used last at the end: by a domain's number its epoch, and the memory that the view takes by an estimate."""
+    """The views that are kept ready, the one that was used last at the end: by a domain's number its epoch, and the
+    memory that the view takes by an estimate."""
 
     def __init__(self):
         self.most, self.room, self.held = MOST_VIEWS, ROOM_FOR_VIEWS, collections.OrderedDict()
@@ -55,7 +58,8 @@ class Views:
         self.held.move_to_end(number)
 
     def put(self, number, epoch, size):
-        """Keeps a view, where it isn't too large, in the place of the domain's older one, and lets go those for which there is no room."""
+        """Keeps a view, where it isn't too large, in the place of the domain's older one, and lets go those for
+        which there is no room."""
         self.held.pop(number, None)
         if self.most and size <= self.room:
             self.held[number] = epoch, size
@@ -110,7 +114,8 @@ def names_the_clock(designator):
 
 
 def asks_policies(held):
-    """Whether the bytes of a request ask the policies: what is no request doesn't, nor one for all of whose individual requests one result stands."""
+    """Whether the bytes of a request ask the policies: what is no request doesn't, nor one for all of whose individual
+    requests one result stands."""
     try:
         (combined, _), found, named = request_of(held)
     except (NotJson, NotProfile):
@@ -142,7 +147,8 @@ class CountingServer(Server):
         self.restart()
         # the next domain's number, and of each domain that is there its number and its epoch
         self.number, self.gates = 1, {}
-        # the work that a message may ask for, the bytes that the body of a response may have, and those of the texts that are read for a message
+        # the work that a message may ask for, the bytes that the body of a response may have, and those of the texts
+        # that are read for a message
         self.most_units, self.most_bytes, self.most_read = None, None, float("inf")
 
     def restart(self):
@@ -185,7 +191,8 @@ class CountingServer(Server):
             self.gates[name] = number, epoch + 1
 
     def count(self, name, held, made):
-        """Counts what it took to decide on the bytes of a request, which were answered so; False where it took too much to read."""
+        """Counts what it took to decide on the bytes of a request, which were answered so; False where it
+        took too much to read."""
         key, is_short, state = (self.gates[name], held), len(held) <= MOST_BYTES, self.states[name]
         if is_short and self.cache.has(key):
             return True
@@ -199,8 +206,8 @@ class CountingServer(Server):
         return True
 
     def see(self, number, epoch, state, held, succeeds):
-        """Takes the view that is kept ready, of which this is a use, with success; where there is none and the policies are asked, it is made of the texts, and kept, with success;
-        False where they are too long."""
+        """Takes the view that is kept ready, of which this is a use, with success; where there is none and the
+        policies are asked, it is made of the texts, and kept, with success; False where they are too long."""
         if self.views.has(number, epoch):
             if succeeds:
                 self.views.use(number)

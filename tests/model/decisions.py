@@ -1,4 +1,5 @@
-"""Decisions on a request: its individual requests, each by the tree of the root (XACML 3.0, core, section 7.17; Multiple Decision Profile)."""
+"""Decisions on a request: its individual requests, each by the tree of the root (XACML 3.0, core, section 7.17;
+Multiple Decision Profile)."""
 import collections
 
 from contexts import FIRST_MOMENT, LAST_MOMENT, Context, SourceRow
@@ -61,7 +62,8 @@ def row_of(field):
     """The source row of a field `CATEGORY|ENTITY|ID|TYPE=TEXT` or `CATEGORY|ENTITY|ID|TYPE|ISSUER=TEXT`."""
     place, held = field.split("=", 1)
     category, entity, attribute_id, data_type, *issuer = place.split("|")
-    return SourceRow(category_named(text_of(category)), text_of(entity), text_of(attribute_id), value_of(f"{data_type}:{held}"), *map(text_of, issuer))
+    return SourceRow(category_named(text_of(category)), text_of(entity), text_of(attribute_id),
+                     value_of(f"{data_type}:{held}"), *map(text_of, issuer))
 
 
 def given(fields):
@@ -84,6 +86,8 @@ def given(fields):
 
 def decide(*fields):
     """The answer to a row: the response to the bytes of the last field, by what the others give."""
+    if not fields:
+        return ["!FieldCount"]
     try:
         view, moment = given(fields[:-1])
         return [encoded(response(view, decoded(fields[-1]), moment))]

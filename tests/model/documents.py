@@ -1,7 +1,7 @@
 """Policy documents in JSON (XACML 3.0, core, section 5): their shape by the tables of members, and their types.
 
-The tables are written as the notation states them: `?` marks a member that may be left out, and of the members of an object in ONE_OF exactly
-one is there. A document that is none raises DocumentFault with the name of its first fault.
+The tables are written as the notation states them: `?` marks a member that may be left out, and of the members of an
+object in ONE_OF exactly one is there. A document that is none raises DocumentFault with the name of its first fault.
 """
 import collections
 
@@ -13,11 +13,13 @@ from values import Fault, read
 from versions import PATTERN, VERSION, NoVersion, Reference, numbered, parts
 
 MAX_BYTES, MAX_SETS, MAX_ID_BYTES = 65_536, 8, 512
-IN_BOTH = ("deny-overrides", "permit-overrides", "ordered-deny-overrides", "ordered-permit-overrides", "deny-unless-permit",
-           "permit-unless-deny")
+IN_BOTH = ("deny-overrides", "permit-overrides", "ordered-deny-overrides", "ordered-permit-overrides",
+           "deny-unless-permit", "permit-unless-deny")
 TABLES = {
-    "Policy": "PolicyId Version RuleCombiningAlgId Description? Target? VariableDefinition? Rule? ObligationExpressions? AdviceExpressions?",
-    "PolicySet": "PolicySetId Version PolicyCombiningAlgId Description? Target? Children? ObligationExpressions? AdviceExpressions?",
+    "Policy": "PolicyId Version RuleCombiningAlgId Description? Target? VariableDefinition? Rule? "
+              "ObligationExpressions? AdviceExpressions?",
+    "PolicySet": "PolicySetId Version PolicyCombiningAlgId Description? Target? Children? ObligationExpressions? "
+                 "AdviceExpressions?",
     "Reference": "Id Version? EarliestVersion? LatestVersion?",
     "Rule": "RuleId Effect Description? Target? Condition? ObligationExpressions? AdviceExpressions?",
     "Target": "AnyOf?",
@@ -60,7 +62,8 @@ class DocumentFault(Exception):
     """Why bytes are no document."""
 
 
-# A policy, whose children are its rules, or a policy set, which has no variables and whose children are documents and references.
+# A policy, whose children are its rules, or a policy set, which has no variables and whose children are
+# documents and references.
 Document = collections.namedtuple("Document", "form id version algorithm target variables children duties")
 Rule = collections.namedtuple("Rule", "effect target condition duties")
 # An obligation or advice, and one of its assignments.
@@ -233,7 +236,8 @@ def duty(table, name, decision):
     return reads
 
 
-obligation, advice = duty("ObligationExpression", "ObligationId", "FulfillOn"), duty("AdviceExpression", "AdviceId", "AppliesTo")
+obligation, advice = (duty("ObligationExpression", "ObligationId", "FulfillOn"),
+                      duty("AdviceExpression", "AdviceId", "AppliesTo"))
 
 
 def duties(found):
@@ -268,7 +272,8 @@ def child(value, sets):
     name, inner = one_of("child", value)
     if name == "Policy":
         return policy(inner)
-    return policy_set(inner, sets + 1) if name == "PolicySet" else reference("policy" if name == "PolicyIdReference" else "set", inner)
+    return (policy_set(inner, sets + 1)
+            if name == "PolicySet" else reference("policy" if name == "PolicyIdReference" else "set", inner))
 
 
 def policy_set(value, sets=1):

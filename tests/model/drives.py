@@ -1,6 +1,8 @@
-"""What becomes of a connection that is driven: it is read from, all whole messages are answered, each at the clock's moment, and each reply is written.
+"""What becomes of a connection that is driven: it is read from, all whole messages are answered, each at the clock's
+moment, and each reply is written.
 
-Reads, writes and flushes are those of a peer that says how many bytes it gives or takes at most at a call, which call fails, and which are interrupted.
+Reads, writes and flushes are those of a peer that says how many bytes it gives or takes at most at a call, which call
+fails, and which are interrupted.
 """
 from fronts import Connections, shown
 from messages import Message

@@ -1,13 +1,16 @@
-"""Expressions and targets: their kinds and their values (XACML 3.0, core, sections 5.5 to 5.9, 5.25 to 5.32, 7.3.5 to 7.8, appendix A.3).
+"""Expressions and targets: their kinds and their values (XACML 3.0, core, sections 5.5 to 5.9, 5.25 to 5.32, 7.3.5
+to 7.8, appendix A.3).
 
-An expression is a pair of its form and what that holds: `value` a value, `designator` a Designator, `function` and `variable` a name,
-`apply` a function's name and a list of expressions. A kind is a type's name, of a bag with `bag ` before it.
+An expression is a pair of its form and what that holds: `value` a value, `designator` a Designator, `function`
+and `variable` a name, `apply` a function's name and a list of expressions. A kind is a type's name, of a bag
+with `bag ` before it.
 """
 import collections
 import sys
 
-from functions import (BAG_FUNCTIONS, BAG_SIGNATURES, FUNCTIONS, HIGHER_ORDER, bag_function_named, boolean, by_places, fits, higher_order,
-                       takes_so_many)
+from functions import (
+    BAG_FUNCTIONS, BAG_SIGNATURES, FUNCTIONS, HIGHER_ORDER, bag_function_named, boolean, by_places, fits, higher_order,
+    takes_so_many)
 from identifiers import STATUS
 from values import Fault
 
@@ -114,7 +117,8 @@ def check_inner(expression, depth):
 
 
 class Evaluation:
-    """The values of checked expressions, where `values_of` gives the values that a designator names, and variables have these definitions."""
+    """The values of checked expressions, where `values_of` gives the values that a designator names, and variables
+    have these definitions."""
 
     def __init__(self, values_of, definitions):
         self.values_of, self.definitions, self.known = values_of, definitions, {}
@@ -196,7 +200,8 @@ def listed(given):
 
 
 def status(fault):
-    return STATUS + {"BadText": "syntax-error", "MissingAttribute": "missing-attribute"}.get(str(fault), "processing-error")
+    return (STATUS
+            + {"BadText": "syntax-error", "MissingAttribute": "missing-attribute"}.get(str(fault), "processing-error"))
 
 
 def check_match(name, literal, designator):

@@ -7,7 +7,7 @@ import collections
 from messages import Fault, Message, Stream
 from replies import error_reply
 from rows import decoded, encoded
-from servers import SETUP, TurnedAway, each_encoded, in_runs, set_up
+from servers import TurnedAway, each_encoded, in_runs, set_up, setup_and_events
 
 MOST_OPEN, MOST_HELD = 64, 1_048_576
 # the reply to a message or to a fault, and whether the connection has ended with it
@@ -45,7 +45,8 @@ class Front:
         stream.held += held
 
     def answer(self, number, moment):
-        """The reply to the next whole message, or to the fault that stands in its place; None where there is none yet, or none any more."""
+        """The reply to the next whole message, or to the fault that stands in its place; None where there is none
+        yet, or none any more."""
         stream = self.stream(number)
         found = stream.next()
         if isinstance(found, Message):
@@ -115,7 +116,8 @@ class Connections:
         return []
 
     def turns(self, text):
-        """Hands over what waits, so many bytes for each connection in turn, and answers after each piece what can be answered."""
+        """Hands over what waits, so many bytes for each connection in turn, and answers after each piece
+        what can be answered."""
         size, found = int(text), {number: [] for number in sorted(self.waiting)}
         while any(self.waiting.values()):
             for number in found:
@@ -127,8 +129,8 @@ class Connections:
         return in_runs([[encoded(replies_of(answers))] + last_of(answers) for answers in found.values()])
 
     def cuts(self, text):
-        """Hands over the bytes in two pieces, cut behind each of them in turn, each time on a connection of their own. What is answered, and how much of it before
-        the second piece."""
+        """Hands over the bytes in two pieces, cut behind each of them in turn, each time on a connection of their own.
+        What is answered, and how much of it before the second piece."""
         held, found, before = decoded(text), [], []
         for place in range(len(held) + 1):
             number = self.front.open()
@@ -142,15 +144,17 @@ class Connections:
         return in_runs(found) + in_runs(before)
 
     def happen(self, word, text):
-        """What the event answers, in fields."""
+        """What the event answers, in fields; None for what is no event."""
+        if word not in WORDS:
+            return None
         try:
             return getattr(self, WORDS[word])(text)
         except Refused as refusal:
             return [f"!{refusal}"]
 
 
-WORDS = {"begin": "begin", "piece": "piece", "answer": "answer", "answers": "answers", "finish": "finish", "moment": "dated", "waits": "waits", "turns": "turns",
-         "cuts": "cuts"}
+WORDS = {"begin": "begin", "piece": "piece", "answer": "answer", "answers": "answers", "finish": "finish",
+         "moment": "dated", "waits": "waits", "turns": "turns", "cuts": "cuts"}
 
 
 def shown(fields, connections):
@@ -160,10 +164,12 @@ def shown(fields, connections):
     except TurnedAway as reply:
         return [encoded(reply.args[0])]
     found = []
-    for field in fields:
+    for field in setup_and_events(fields)[1]:
         word, _, text = field.partition(":")
-        if word not in SETUP:
-            found += made.happen(word, text)
+        answered = made.happen(word, text)
+        if answered is None:
+            return found + ["!Malformed"]
+        found += answered
     return found
 
 

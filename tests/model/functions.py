@@ -1,7 +1,7 @@
 """The functions of values, of bags, and the higher-order functions (XACML 3.0, core, appendix A.3).
 
-FUNCTIONS has each function of values by its URI: the types that it takes, the type that it gives, and what it gives. A last type
-`integer*` in the list means any number of further integers.
+FUNCTIONS has each function of values by its URI: the types that it takes, the type that it gives, and what it gives. A
+last type `integer*` in the list means any number of further integers.
 """
 import itertools
 import math
@@ -109,7 +109,8 @@ function(V1, "and", ["boolean*"], "boolean", lambda *held: boolean(all(b for _, 
 function(V1, "n-of", ["integer", "boolean*"], "boolean", n_of)
 function(V1, "not", ["boolean"], "boolean", lambda a: boolean(not a[1]))
 function(V1, "string-normalize-space", ["string"], "string", lambda a: ("string", a[1].strip(WHITE_SPACE)))
-function(V2, "string-concatenate", ["string", "string", "string*"], "string", lambda *held: ("string", "".join(s for _, s in held)))
+function(V2, "string-concatenate", ["string", "string", "string*"], "string",
+         lambda *held: ("string", "".join(s for _, s in held)))
 for t in ("string", "anyURI"):
     function(V3, f"{t}-starts-with", ["string", t], "boolean", lambda a, b: boolean(b[1].startswith(a[1])))
     function(V3, f"{t}-ends-with", ["string", t], "boolean", lambda a, b: boolean(b[1].endswith(a[1])))
@@ -166,7 +167,8 @@ BAG_FUNCTIONS = {
 
 
 def by_places(stop, booleans):
-    """The join of booleans that are made one after another, until the one that stops it; a fault made before is the result."""
+    """The join of booleans that are made one after another, until the one that stops it; a fault made
+    before is the result."""
     for held in booleans:
         if held == stop:
             return stop
@@ -182,7 +184,8 @@ def higher_order(name, meaning, arguments):
         arguments = [list(dict.fromkeys(argument)) for argument in arguments]
     if math.prod(map(len, arguments)) > 10**6 and name.startswith("any-of") and meaning in RISING:
         # what is True with a False is True with the True beside it
-        arguments = [[boolean(True)] if boolean(True) in argument else list(dict.fromkeys(argument)) for argument in arguments]
+        arguments = [[boolean(True)] if boolean(True) in argument else list(dict.fromkeys(argument))
+                     for argument in arguments]
     choices = itertools.product(*arguments)
     if name in ("any-of", "any-of-any"):
         return boolean(by_places(True, (meaning(*choice)[1] for choice in choices)))
@@ -202,8 +205,9 @@ HIGHER_ORDER.update({V1 + name: name for name in ("all-of-any", "all-of-all")})
 
 # What the bag functions of a type T take and give; `bag T` is a bag, and `T*` at the end any number.
 BAG_SIGNATURES = {
-    "one-and-only": (["bag T"], "T"), "bag-size": (["bag T"], "integer"), "is-in": (["T", "bag T"], "boolean"), "bag": (["T*"], "bag T"),
-    "intersection": (["bag T", "bag T"], "bag T"), "union": (["bag T", "bag T", "bag T*"], "bag T"),
+    "one-and-only": (["bag T"], "T"), "bag-size": (["bag T"], "integer"), "is-in": (["T", "bag T"], "boolean"),
+    "bag": (["T*"], "bag T"), "intersection": (["bag T", "bag T"], "bag T"),
+    "union": (["bag T", "bag T", "bag T*"], "bag T"),
     "at-least-one-member-of": (["bag T", "bag T"], "boolean"), "subset": (["bag T", "bag T"], "boolean"),
     "set-equals": (["bag T", "bag T"], "boolean"),
 }
@@ -229,4 +233,5 @@ def fits(takes, kinds):
     """Whether arguments of these kinds fit."""
     last = takes[-1] if takes and takes[-1].endswith("*") else None
     needed = takes[:-1] if last else takes
-    return kinds[:len(needed)] == list(needed) and all(last and kind == last.rstrip("*") for kind in kinds[len(needed):])
+    return (kinds[:len(needed)] == list(needed)
+            and all(last and kind == last.rstrip("*") for kind in kinds[len(needed):]))

@@ -1,4 +1,5 @@
-"""Identifiers of data types, of categories with their shorthands, and of status codes (XACML 3.0, core, appendix B; JSON Profile, section 4.2)."""
+"""Identifiers of data types, of categories with their shorthands, and of status codes (XACML 3.0, core, appendix B;
+JSON Profile, section 4.2)."""
 from values import TYPES
 
 NAMESPACE = "http://www.w3.org/2001/XMLSchema#"

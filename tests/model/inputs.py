@@ -1,11 +1,13 @@
-"""Rows as the program reads them, and its answers: what stands in a row in short is written as the bodies, the documents and the messages that the code which serves reads."""
+"""Rows as the program reads them, and its answers: what stands in a row in short is written as the bodies, the
+documents and the messages that the code which serves reads."""
 import json
 
 from documents import RULE_ALGORITHMS, POLICY_ALGORITHMS, DocumentFault
 from rows import decoded, encoded, text_of
 from servers import OPERATOR_TOKEN, ROOTS, SETUP, SETUP_TOKEN, Setup, path, root, rows
 
-# References and keys are written as the bodies and documents that have them, and domains as the messages that make them.
+# References and keys are written as the bodies and documents that have them, and domains as the
+# messages that make them.
 
 
 class Messages(Setup):
@@ -76,8 +78,10 @@ def document_with_key(key):
     if key.count("|") != 2:
         return key
     kind, name, version = key.split("|")
-    form, algorithms = (("Policy", "Rule"), RULE_ALGORITHMS) if kind == "policy" else (("PolicySet", "Policy"), POLICY_ALGORITHMS)
-    held = {f"{form[0]}Id": text_of(name), "Version": text_of(version), f"{form[1]}CombiningAlgId": next(iter(algorithms))}
+    form, algorithms = ((("Policy", "Rule"), RULE_ALGORITHMS)
+                        if kind == "policy" else (("PolicySet", "Policy"), POLICY_ALGORITHMS))
+    held = {f"{form[0]}Id": text_of(name), "Version": text_of(version),
+            f"{form[1]}CombiningAlgId": next(iter(algorithms))}
     return encoded(json.dumps({form[0]: held}, ensure_ascii=False, separators=(",", ":")))
 
 
@@ -85,7 +89,8 @@ def decide(fields):
     """The fields of a decision, with the root's body and one body of all source rows."""
     *given, body = fields
     listed = [field[4:] for field in given if field.startswith("row:")]
-    others = ["root:" + root_body(field[5:]) if field.startswith("root:") else field for field in given if not field.startswith("row:")]
+    others = ["root:" + root_body(field[5:]) if field.startswith("root:") else field
+              for field in given if not field.startswith("row:")]
     return others + (["source:" + encoded(rows(listed))] if listed else []) + [body]
 
 
@@ -100,8 +105,9 @@ def call(field):
 
 
 READ = {
-    "server": events, "server_in_memory": events, "loopback": events, "front": events, "played": events, "driven": events, "decide": decide,
-    "tripped": events, "tripped_after": lambda fields: [fields[0], *events(fields[1:])],
+    "server": events, "server_in_memory": events, "loopback": events, "front": events, "played": events,
+    "driven": events, "decide": decide, "tripped": events,
+    "tripped_after": lambda fields: [fields[0], *events(fields[1:])],
     "link": lambda fields: [root_body(fields[0]), *fields[1:]],
     "resolve": lambda fields: [root_body(fields[0]), *map(document_with_key, fields[1:])],
     "keeper_with": lambda fields: [fields[0], *map(call, fields[1:])],
@@ -115,8 +121,22 @@ def as_read(fields):
 
 
 # The names of this program's rows, for names of the code.
-COMMANDS = {"create": "Create", "remove": "Remove", "put": "PutToken", "drop": "DropToken", "decide": "Decide", "upload": "Upload", "list": "List", "root": "SetRoot",
-            "source": "SetSource", "rows": "Source", "document": "Show", "delete": "Delete", "activate": "Activate", "deactivate": "Deactivate"}
+COMMANDS = {
+    "create": "Create",
+    "remove": "Remove",
+    "put": "PutToken",
+    "drop": "DropToken",
+    "decide": "Decide",
+    "upload": "Upload",
+    "list": "List",
+    "root": "SetRoot",
+    "source": "SetSource",
+    "rows": "Source",
+    "document": "Show",
+    "delete": "Delete",
+    "activate": "Activate",
+    "deactivate": "Deactivate",
+}
 DECISIONS = {"{P}": "IndeterminatePermit", "{D}": "IndeterminateDeny", "{DP}": "IndeterminateDenyPermit"}
 
 

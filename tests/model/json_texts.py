@@ -1,6 +1,7 @@
 """The JSON of bytes: which are JSON, and what stands for a number in it.
 
-Of the members of one name the last counts. A number is whole where 64 bits hold it, and a Fraction else; what no float can hold is no JSON.
+Of the members of one name the last counts. A number is whole where 64 bits hold it, and a Fraction else; what no
+float can hold is no JSON.
 """
 import json
 import re
@@ -64,6 +65,7 @@ def json_of(held):
         text = held.decode()
         if is_deep(text):
             raise NotJson
-        return unicode(json.loads(text, parse_int=number, parse_float=fraction, parse_constant=refused, object_pairs_hook=of_pairs))
+        return unicode(json.loads(text, parse_int=number, parse_float=fraction, parse_constant=refused,
+                                  object_pairs_hook=of_pairs))
     except ValueError:
         raise NotJson from None

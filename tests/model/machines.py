@@ -1,6 +1,8 @@
-"""The machine of one domain: the reply to each message that names it, and the state after it. A server is such a machine for each domain.
+"""The machine of one domain: the reply to each message that names it, and the state after it. A server is such a
+machine for each domain.
 
-What a message asks for is answered in one order: where it leads, who may ask for it, what its body is, and then what is there.
+What a message asks for is answered in one order: where it leads, who may ask for it, what its body is,
+and then what is there.
 """
 import collections
 import hashlib
@@ -18,7 +20,8 @@ from versions import NoVersion, numbered, numbers
 MOST_TOKENS, MOST_DOCUMENTS, MOST_ROWS = 32, 1024, 4096
 KINDS = {b"policy": "policy", b"policyset": "set"}
 NAMES = {kind: name.decode() for name, kind in KINDS.items()}
-# a domain that is there: its tokens' digests with their roles, its documents by their keys, its root or None, and the rows of its source
+# a domain that is there: its tokens' digests with their roles, its documents by their keys, its root or None, and
+# the rows of its source
 State = collections.namedtuple("State", "tokens documents root rows")
 Stored = collections.namedtuple("Stored", "text is_active")
 Key = collections.namedtuple("Key", "kind id version")
@@ -80,7 +83,8 @@ def drop(state, asked):
 
 def view(state):
     """What decides: each active text, read anew, the root and the rows."""
-    return View([active_in(stored.text) for stored in state.documents.values() if stored.is_active], state.root, state.rows)
+    return View([active_in(stored.text) for stored in state.documents.values() if stored.is_active],
+                state.root, state.rows)
 
 
 def decide(state, asked):
@@ -135,7 +139,8 @@ def delete(state, asked):
 def set_active(is_active):
     def change(state, asked):
         key = key_in(asked.parts, state.documents)
-        return DONE, state._replace(documents={**state.documents, key: state.documents[key]._replace(is_active=is_active)})
+        return (DONE,
+                state._replace(documents={**state.documents, key: state.documents[key]._replace(is_active=is_active)}))
     return change
 
 
@@ -153,8 +158,22 @@ def source(state, _):
     return reply(200, rows_shown(state.rows)), state
 
 
-COMMANDS = {"create": create, "remove": remove, "put": put, "drop": drop, "decide": decide, "upload": upload, "list": listed, "document": show,
-            "delete": delete, "activate": set_active(True), "deactivate": set_active(False), "root": set_root, "source": set_source, "rows": source}
+COMMANDS = {
+    "create": create,
+    "remove": remove,
+    "put": put,
+    "drop": drop,
+    "decide": decide,
+    "upload": upload,
+    "list": listed,
+    "document": show,
+    "delete": delete,
+    "activate": set_active(True),
+    "deactivate": set_active(False),
+    "root": set_root,
+    "source": set_source,
+    "rows": source,
+}
 
 
 def check_token(operator, state, message, command):
@@ -167,7 +186,8 @@ def check_token(operator, state, message, command):
 
 
 def step(operator, state, message, moment):
-    """The reply to a message that names the domain, and the state after it; None is the state of a domain that is absent."""
+    """The reply to a message that names the domain, and the state after it; None is the state of a
+    domain that is absent."""
     try:
         route = route_of(message)
         check_token(operator, state, message, route.command)

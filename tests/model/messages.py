@@ -102,7 +102,8 @@ def values_of(name, fields):
 
 def closes(fields):
     """Whether a Connection field has the token `close`."""
-    return any(token.strip(b" \t").lower() == b"close" for value in values_of(b"connection", fields) for token in value.split(b","))
+    return any(token.strip(b" \t").lower() == b"close" for value in values_of(b"connection", fields)
+               for token in value.split(b","))
 
 
 def body_length(fields):

@@ -1,7 +1,7 @@
 """The names of the functions (XACML 3.0, core, appendix A.3), each with the function that it names and its signature.
 
-NAMES has each function by its URI: the function's families, and what it takes and gives, as the program writes them. A function that no version of the
-standard has is of the version "", and its name is the whole URI.
+NAMES has each function by its URI: the function's families, and what it takes and gives, as the program writes them. A
+function that no version of the standard has is of the version "", and its name is the whole URI.
 """
 from values import TYPES
 
@@ -73,12 +73,14 @@ for t in TYPES:
     bag = "bag " + t
     for version in ("1.0", "3.0") if t in DURATIONS else ("1.0",):
         for verb, takes, gives in (
-            ("one-and-only", [bag], t), ("bag-size", [bag], "integer"), ("is-in", [t, bag], "boolean"), ("bag", [t + "*"], bag),
-            ("intersection", [bag, bag], bag), ("union", [bag, bag, bag + "*"], bag),
-            ("at-least-one-member-of", [bag, bag], "boolean"), ("subset", [bag, bag], "boolean"), ("set-equals", [bag, bag], "boolean"),
+            ("one-and-only", [bag], t), ("bag-size", [bag], "integer"), ("is-in", [t, bag], "boolean"),
+            ("bag", [t + "*"], bag), ("intersection", [bag, bag], bag), ("union", [bag, bag, bag + "*"], bag),
+            ("at-least-one-member-of", [bag, bag], "boolean"), ("subset", [bag, bag], "boolean"),
+            ("set-equals", [bag, bag], "boolean"),
         ):
             function(version, f"{t}-{verb}", f"Bag({word(verb)}, {word(t)})", takes, gives)
-for version, verb in [("3.0", v) for v in ("any-of", "all-of", "any-of-any", "map")] + [("1.0", v) for v in ("all-of-any", "all-of-all")]:
+for version, verb in ([("3.0", v) for v in ("any-of", "all-of", "any-of-any", "map")]
+                      + [("1.0", v) for v in ("all-of-any", "all-of-all")]):
     NAMES[uri(version, verb)] = (f"HigherOrder({word(verb)})", f"HigherOrder({word(verb)})")
 
 

@@ -1,9 +1,11 @@
-"""Rules, policies and policy sets (XACML 3.0, core, sections 7.11 to 7.15 and 7.18): decision, status, obligations and advice.
+"""Rules, policies and policy sets (XACML 3.0, core, sections 7.11 to 7.15 and 7.18): decision, status,
+obligations and advice.
 
-What decides Permit or Deny tells of itself, and a set then of what its evaluated children tell of: by these a response names policies.
+What decides Permit or Deny tells of itself, and a set then of what its evaluated children tell of: by these a
+response names policies.
 
-A decision is Permit, Deny, NotApplicable, or Indeterminate as {P}, {D} or {DP}. A tree is a policy, or a set with the trees of its
-children; LEAF stands for a reference for which there is no document.
+A decision is Permit, Deny, NotApplicable, or Indeterminate as {P}, {D} or {DP}. A tree is a policy, or a set with the
+trees of its children; LEAF stands for a reference for which there is no document.
 """
 import collections
 
@@ -51,7 +53,8 @@ def returned(evaluation, duties, decision):
 
 
 def with_duties(evaluation, decision, children, duties):
-    """Permit or Deny with the duties of those evaluated children that share it and then its own; Indeterminate where one of these is at fault."""
+    """Permit or Deny with the duties of those evaluated children that share it and then its own; Indeterminate where
+    one of these is at fault."""
     try:
         obligations, advice = (returned(evaluation, listed, decision) for listed in duties)
     except Fault as fault:
@@ -91,11 +94,13 @@ def only_one(children):
 
 
 def combined(algorithm, children):
-    """The decision of the algorithm over all children, the status that it has where it is Indeterminate, and the evaluated children."""
+    """The decision of the algorithm over all children, the status that it has where it is Indeterminate, and the
+    evaluated children."""
     if algorithm == "only-one-applicable":
         return only_one(children)
     settling = SETTLING.get(algorithm)
-    evaluated = up_to_first(children, lambda decision: decision == settling if settling else decision != "NotApplicable")
+    evaluated = up_to_first(children,
+                            lambda decision: decision == settling if settling else decision != "NotApplicable")
     first = next((child.status for child in children if is_indeterminate(child.decision)), OK)
     return BY_DECISIONS[algorithm]([child.decision for child in children]), first, evaluated
 
@@ -137,7 +142,8 @@ def applied(evaluation, document, target, children):
 
 
 def with_ids(found, document, children):
-    """Permit or Deny with the document itself and then what those evaluated children tell of, whatever they decide; of Indeterminate nothing."""
+    """Permit or Deny with the document itself and then what those evaluated children tell of, whatever they decide; of
+    Indeterminate nothing."""
     if found.decision not in INDETERMINATE:
         return found
     itself = Told(document.form, document.id, ".".join(document.version))

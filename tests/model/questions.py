@@ -1,11 +1,13 @@
 """Rows of expressions and targets.
 
-The attributes of a request come first, `has:TYPE|CATEGORY|ID=TEXT` or `has:TYPE|CATEGORY|ID|ISSUER=TEXT`, a field for each value.
-An expression is `TYPE:TEXT`, `any:TYPE|CATEGORY|ID`, `some:..` where it must be present, both also with `|ISSUER`, `function:NAME`,
-`variable:NAME`, or `(NAME`, arguments and `)`. After `let:NAME` it defines a variable, else it is a question. Of a target, `<NAME`, a
-literal, a designator and `>` are a match, `|` ends a conjunction of matches, and `;` a part of the target.
+The attributes of a request come first, `has:TYPE|CATEGORY|ID=TEXT` or `has:TYPE|CATEGORY|ID|ISSUER=TEXT`, a field for
+each value. An expression is `TYPE:TEXT`, `any:TYPE|CATEGORY|ID`, `some:..` where it must be present, both also with
+`|ISSUER`, `function:NAME`, `variable:NAME`, or `(NAME`, arguments and `)`. After `let:NAME` it defines a variable,
+else it is a question. Of a target, `<NAME`, a literal, a designator and `>` are a match, `|` ends a conjunction of
+matches, and `;` a part of the target.
 """
-from expressions import Attribute, CheckError, Designator, Evaluation, Variables, check, check_match, status, target_value, values_among
+from expressions import (
+    Attribute, CheckError, Designator, Evaluation, Variables, check, check_match, status, target_value, values_among)
 from names import kind
 from rows import bag_shown, shown, text_of, value_of
 from values import Fault, read

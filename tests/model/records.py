@@ -1,7 +1,8 @@
 """What a keeper of records answers to changes and readings, one after another, of which the first finds no domain.
 
-A change alters one domain, or is refused and alters nothing. Each domain has a number, which no other ever has, and an epoch, which rises by one
-with each change of what decides: of its documents, of which of them are active, of its root, of its source of attributes.
+A change alters one domain, or is refused and alters nothing. Each domain has a number, which no other ever has, and an
+epoch, which rises by one with each change of what decides: of its documents, of which of them are active, of its root,
+of its source of attributes.
 """
 import copy
 
@@ -99,8 +100,8 @@ def set_source(domain, text):
     domain.source = rows
 
 
-CHANGES = {"put": put, "drop": drop, "upload": upload, "activate": set_active(True), "deactivate": set_active(False), "delete": delete, "root": set_root,
-           "source": set_source}
+CHANGES = {"put": put, "drop": drop, "upload": upload, "activate": set_active(True), "deactivate": set_active(False),
+           "delete": delete, "root": set_root, "source": set_source}
 
 
 # Readings of a domain that is there.
@@ -125,13 +126,15 @@ def key_shown(key):
 
 
 def listed(domain, _):
-    return [("active:" if domain.documents[key][1] else "inactive:") + key_shown(key) for key in sorted(domain.documents)] + ["."]
+    return [("active:" if domain.documents[key][1] else "inactive:") + key_shown(key)
+            for key in sorted(domain.documents)] + ["."]
 
 
 def view(domain, _):
     active = [domain.documents[key][0] for key in sorted(domain.documents) if domain.documents[key][1]]
     root = reference_shown(domain.root) if domain.root else "!None"
-    return ["active:" + encoded(text) for text in active] + ["root:" + root, "source:" + encoded(rows_shown(domain.source))]
+    return (["active:" + encoded(text) for text in active]
+            + ["root:" + root, "source:" + encoded(rows_shown(domain.source))])
 
 
 READINGS = {"gate": gate, "role": role, "document": document, "list": listed, "view": view}
@@ -144,7 +147,8 @@ class Keeper:
         self.domains, self.next, self.faults = {}, 1, 0
 
     def raised(self, number):
-        """The number after it. A call that would have to raise the greatest one is refused, as if its storage had failed, and is counted."""
+        """The number after it. A call that would have to raise the greatest one is refused, as if its storage had
+        failed, and is counted."""
         if number == GREATEST:
             self.faults += 1
             raise Refused("Store")
@@ -196,6 +200,8 @@ def keeper(*fields):
 def keeper_with(first, *fields):
     """The same, of a keeper that begins with one domain of that name, number and epoch."""
     name, number, epoch = first.split(" ")
+    if not is_domain_name(name.encode()):
+        return ["!Malformed"]
     held = Keeper()
     held.domains[name], held.next = Domain(int(number), int(epoch)), int(number) + 1
     return answers(held, fields)

@@ -1,4 +1,5 @@
-"""What the program pdpd writes to a transcript, and the status with which it ends: its entries, their connections, and the domains that messages make."""
+"""What the program pdpd writes to a transcript, and the status with which it ends: its entries, their connections, and
+the domains that messages make."""
 import collections
 import re
 
@@ -27,7 +28,8 @@ def entry_at(held, at):
         raise Malformed
     connection, moment, count = map(int, found.groups())
     behind = end + 1 + count
-    if connection > LAST_CONNECTION or count > MOST_BYTES or not FIRST_MOMENT <= moment <= LAST_MOMENT or held[behind:behind + 1] != b"\n":
+    if (connection > LAST_CONNECTION or count > MOST_BYTES or not FIRST_MOMENT <= moment <= LAST_MOMENT
+        or held[behind:behind + 1] != b"\n"):
         raise Malformed
     return Entry(connection, moment, held[end + 1:behind]), behind + 1
 
@@ -67,7 +69,8 @@ def replay(held):
     server, written = Server(OPERATOR_TOKEN), []
     try:
         for event in events(held):
-            reply = server.answer(event.found, event.moment) if isinstance(event.found, Message) else error_reply(str(event.found))
+            reply = (server.answer(event.found, event.moment)
+                     if isinstance(event.found, Message) else error_reply(str(event.found)))
             written.append(b"%d %d\n%b\n" % (event.connection, len(reply), reply))
     except Malformed:
         return b"".join(written), MALFORMED

@@ -1,4 +1,5 @@
-"""Requests of the JSON Profile of XACML 3.0, version 1.1 (section 4.2), and the individual requests of one (Multiple Decision Profile, section 2)."""
+"""Requests of the JSON Profile of XACML 3.0, version 1.1 (section 4.2), and the individual requests of one (Multiple
+Decision Profile, section 2)."""
 import collections
 import itertools
 
@@ -66,7 +67,8 @@ def attribute(found):
     kinds = {type(item) for item in held}
     if len(kinds) > 1 or kinds - {str, bool, int}:
         raise NotProfile
-    data_type = type_of(named) if named is not None else {bool: "boolean", int: "integer"}.get(next(iter(kinds), str), "string")
+    data_type = (type_of(named)
+                 if named is not None else {bool: "boolean", int: "integer"}.get(next(iter(kinds), str), "string"))
     return Attribute(name, issuer, included, data_type, [value(data_type, item) for item in held])
 
 
@@ -91,7 +93,8 @@ def references(found):
 
 
 def request_of(body):
-    """Of the bytes of a request whether a combined decision and the ids of policies are asked for, the Category objects, and the references."""
+    """Of the bytes of a request whether a combined decision and the ids of policies are asked for, the Category
+    objects, and the references."""
     whole = of_kind(dict, json_of(body))
     asked = needed(whole, "Request", dict)
     flags = at(asked, "CombinedDecision", bool, False), at(asked, "ReturnPolicyIdList", bool, False)
@@ -151,4 +154,5 @@ def individuals(body):
     all_of_them = individuals_of(found, named)
     if all_of_them is None:
         return ["!TooMany"]
-    return ["!BadReference" if places is None else "at" + "".join(f",{place}" for place in places) for places in all_of_them]
+    return ["!BadReference" if places is None else "at" + "".join(f",{place}" for place in places)
+            for places in all_of_them]

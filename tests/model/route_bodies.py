@@ -53,7 +53,8 @@ def root_of(held):
 
 def source_row(value):
     found = members("SourceRow", value)
-    return SourceRow(category(found["Category"]), text(found["Entity"]), text(found["AttributeId"]), typed_value(found), optional(text, found, "Issuer"))
+    return SourceRow(category(found["Category"]), text(found["Entity"]), text(found["AttributeId"]), typed_value(found),
+                     optional(text, found, "Issuer"))
 
 
 def rows_of(held):
@@ -62,7 +63,8 @@ def rows_of(held):
 
 
 def row_shown(row):
-    shown = {"AttributeId": row.attribute_id, "Category": row.category, "DataType": NAMESPACE + row.value[0], "Entity": row.entity, "Value": plain(row.value)}
+    shown = {"AttributeId": row.attribute_id, "Category": row.category, "DataType": NAMESPACE + row.value[0],
+             "Entity": row.entity, "Value": plain(row.value)}
     return shown if row.issuer is None else {**shown, "Issuer": row.issuer}
 
 
@@ -74,7 +76,8 @@ def rows_shown(found):
 def reference_shown(reference):
     """The reference as a field `KIND|ID|PATTERN|EARLIEST|LATEST` has it."""
     kind, name, pattern, earliest, latest = reference
-    return "|".join([kind, encoded(name), ".".join(pattern or []), *(".".join(map(str, version or [])) for version in (earliest, latest))])
+    return "|".join([kind, encoded(name), ".".join(pattern or []),
+                     *(".".join(map(str, version or [])) for version in (earliest, latest))])
 
 
 def read_as(reads, shows):

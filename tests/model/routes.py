@@ -1,4 +1,5 @@
-"""Where messages lead: paths and the methods that each of them knows, the media types of bodies, and the domains whose messages they are."""
+"""Where messages lead: paths and the methods that each of them knows, the media types of bodies, and the domains
+whose messages they are."""
 import collections
 from urllib.parse import unquote_to_bytes
 
@@ -47,7 +48,8 @@ def named(pattern, parts):
 
 
 def place_of(target):
-    """The methods that the target's path knows, each with what it asks for, and the parts that it names; None where it isn't known."""
+    """The methods that the target's path knows, each with what it asks for, and the parts that it names; None
+    where it isn't known."""
     parts = path_of(target)
     for pattern, commands in TABLE.items() if parts else ():
         found = named(pattern, parts)
@@ -88,7 +90,8 @@ def route_of(message):
 
 
 def route(method, target):
-    """The answer to a row: what a message of that method and target asks for, of which domain, and of which document."""
+    """The answer to a row: what a message of that method and target asks for, of which domain,
+    and of which document."""
     place = place_of(decoded(target))
     if place is None:
         return ["!NoRoute"]

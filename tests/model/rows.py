@@ -1,6 +1,7 @@
 """The rows of the program xa_trials as text: a row is a line of fields with a tab between, and so is its answer.
 
-In a field a backslash begins an escape: \\n, \\r, \\t, \\\\, \\xHH for a byte, and \\{COUNT,TEXT\\} for COUNT times the text.
+In a field a backslash begins an escape: \\n, \\r, \\t, \\\\, \\xHH for a byte, and \\{COUNT,TEXT\\} for COUNT times
+the text, in which no other is repeated.
 Sources may also write \\u{HEX} for a character, letters beyond ASCII as they are, \\(NAME) for a text that a line `define NAME TEXT` gave
 before, where `file:PATH` is the text of a file of the repository and `rows:PATH` a field `row:..` for each source row in one, \\[COUNT,TEXT\\]
 for COUNT times the text, and \\[FIRST-LAST,TEXT\\] for the text once with each of these numbers where it has \\#, and the one before where it has \\-; two spaces or more part fields too, fields between `[COUNT` and `]` stand COUNT times, and a field that begins with `(` or `<` is parted at spaces and before `)` and `>`.
@@ -20,23 +21,32 @@ SHORT = {9: "\\t", 10: "\\n", 13: "\\r", 92: "\\\\"}
 WRITTEN = {byte: SHORT.get(byte) or (chr(byte) if 32 <= byte < 127 else f"\\x{byte:02x}") for byte in range(256)}
 
 
+class BadField(ValueError):
+    """A field in which a repeated text has no beginning, has no end, or stands in another."""
+
+
 def decoded(field):
     """The bytes that the text of a field stands for."""
-    done, start, count = bytearray(), 0, 1
+    done, repeated = bytearray(), None
     for found in TOKEN.finditer(field.encode()):
         letter, byte, times, escaped, plain = found.groups()
         if letter:
             done += chr(int(letter, 16)).encode()
         elif byte:
             done.append(int(byte, 16))
-        elif times:
-            start, count = len(done), int(times)
-        elif escaped == b"}":
+        elif times and repeated is None:
+            repeated = len(done), int(times)
+        elif escaped == b"}" and repeated is not None:
+            (start, count), repeated = repeated, None
             done = done[:start] + done[start:] * count
+        elif times or escaped in (b"{", b"}"):
+            raise BadField(field)
         elif escaped:
             done += LETTERS.get(escaped, escaped)
         else:
             done += plain
+    if repeated is not None:
+        raise BadField(field)
     return bytes(done)
 
 

@@ -132,14 +132,18 @@ class Setup:
         self.name, self.rows = None, []
 
 
+def setup_and_events(fields):
+    """The fields before the first event, and those from it on, among which no setting stands."""
+    count = next((place for place, field in enumerate(fields) if field.partition(":")[0] not in SETUP), len(fields))
+    return fields[:count], fields[count:]
+
+
 def set_up(fields, beginning=CountingServer):
     """The server that the fields before the first event make, of one that begins without domains."""
     server = beginning(OPERATOR_TOKEN)
     setup = Setup(server)
-    for field in fields:
+    for field in setup_and_events(fields)[0]:
         word, _, text = field.partition(":")
-        if word not in SETUP:
-            break
         getattr(setup, word)(text)
     setup.end()
     return server
@@ -192,7 +196,7 @@ def loopback(*fields):
     except TurnedAway as reply:
         return [encoded(reply.args[0])]
     held, moment, shown = b"", 0, []
-    for field in [*fields, "close:"]:
+    for field in [*setup_and_events(fields)[1], "close:"]:
         word, _, text = field.partition(":")
         if word == "piece":
             held += decoded(text)
@@ -201,6 +205,8 @@ def loopback(*fields):
             held = b""
         elif word == "moment":
             moment = int(text)
+        else:
+            return shown + ["!Malformed"]
     return shown
 
 
@@ -210,13 +216,13 @@ def server(*fields, beginning=CountingServer):
         made = set_up(fields, beginning)
     except TurnedAway as reply:
         return [encoded(reply.args[0])]
-    return answered_by(made, fields)
+    return answered_by(made, setup_and_events(fields)[1])
 
 
-def answered_by(made, fields):
-    """What the server answers to the events among the fields."""
+def answered_by(made, events):
+    """What the server answers to the events."""
     stream, moment, shown = Stream(), 0, []
-    for field in fields:
+    for field in events:
         word, _, text = field.partition(":")
         if word == "piece":
             shown += piece(stream, made, moment, decoded(text))
@@ -229,4 +235,6 @@ def answered_by(made, fields):
             moment = int(text)
         elif word in COUNTS:
             shown.append(f"{word} {getattr(made, word)}")
+        else:
+            return shown + ["!Malformed"]
     return shown

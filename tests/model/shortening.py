@@ -1,14 +1,17 @@
-"""Rows in short, as they are stored: a word stands for a text that many rows have, and what stands in a row again and again is written once.
+"""Rows in short, as they are stored: a word stands for a text that many rows have, and what stands in a row again and
+again is written once.
 
-`\\(WORD)` is the text that a row `define WORD TEXT` above gave; `\\[COUNT,TEXT\\]` is the text so often, and `\\[FIRST-LAST,TEXT\\]` the text once with each of these numbers,
-in which `\\#` is the number and `\\-` the one before. Repetitions may stand in one another: a number is that of the innermost that has numbers.
+`\\(WORD)` is the text that a row `define WORD TEXT` above gave; `\\[COUNT,TEXT\\]` is the text so often, and
+`\\[FIRST-LAST,TEXT\\]` the text once with each of these numbers, in which `\\#` is the number and `\\-` the one
+before. Repetitions may stand in one another: a number is that of the innermost that has numbers.
 """
 import collections
 import re
 
 PARTS = re.compile(r"\\\(\w+\)|\\.|[0-9]+|[A-Za-z]+|[^0-9A-Za-z\\]", re.DOTALL)
 NUMBER = re.compile(r"0|[1-9][0-9]{0,14}")
-# how long a repeated text may be, in parts, in each of several passes: short ones are found first, and then longer ones that have them
+# how long a repeated text may be, in parts, in each of several passes: short ones are found first, and then
+# longer ones that have them
 SPANS = (3, 12, 60, 400, 4000)
 LEAST_GAIN, MOST_TRIED = 8, 12
 
@@ -27,6 +30,8 @@ def written_out(text, words):
             held[-1].append(times(inner, numbers))
         else:
             held[-1].append({"\\#": "\x01", "\\-": "\x02"}.get(part, part))
+    if open_at:
+        raise ValueError(f"a repeated text has no end: {text[:300]}")
     return "".join(held[0])
 
 
@@ -34,7 +39,8 @@ def times(inner, numbers):
     first, is_numbered, last = numbers.partition("-")
     if not is_numbered:
         return inner * int(first)
-    return "".join(inner.replace("\x01", str(number)).replace("\x02", str(number - 1)) for number in range(int(first), int(last) + 1))
+    return "".join(inner.replace("\x01", str(number)).replace("\x02", str(number - 1))
+                   for number in range(int(first), int(last) + 1))
 
 
 class Period:
@@ -60,7 +66,8 @@ class Period:
         for place in range(self.length):
             one, two = self.parts[self.at + place], self.parts[self.at + self.length + place]
             if one != two:
-                if not (NUMBER.fullmatch(one) and NUMBER.fullmatch(two) and int(two) == int(one) + 1 and self.rises(place, int(one))):
+                if not (NUMBER.fullmatch(one) and NUMBER.fullmatch(two) and int(two) == int(one) + 1
+                        and self.rises(place, int(one))):
                     return False
         return True
 
@@ -71,11 +78,13 @@ class Period:
 
     def stands(self, time):
         start = self.at + time * self.length
-        return start + self.length <= len(self.parts) and all(self.parts[start + place] == self.expected(place, time) for place in range(self.length))
+        return (start + self.length <= len(self.parts)
+                and all(self.parts[start + place] == self.expected(place, time) for place in range(self.length)))
 
     def text(self):
         """The repetition."""
-        inner = "".join("\\" + self.marks[place] if place in self.marks else self.parts[self.at + place] for place in range(self.length))
+        inner = "".join("\\" + self.marks[place] if place in self.marks else self.parts[self.at + place]
+                        for place in range(self.length))
         numbers = f"{self.first}-{self.first + self.count - 1}" if self.marks else str(self.count)
         return f"\\[{numbers},{inner}\\]"
 
@@ -94,7 +103,8 @@ def like(part):
 
 
 def folded(parts, span):
-    """The parts, where those that stand again and again are one part; a text that is repeated has at most so many parts."""
+    """The parts, where those that stand again and again are one part; a text that is repeated has at
+    most so many parts."""
     kinds = list(map(like, parts))
     triples = [tuple(kinds[at:at + 3]) for at in range(len(parts))]
     places = collections.defaultdict(list)

@@ -1,7 +1,8 @@
-"""What opening a store as a keeper's answers, and what it leaves, over Python's own sqlite3; and what a server answers whose keeper was opened so.
+"""What opening a store as a keeper's answers, and what it leaves, over Python's own sqlite3; and what a server answers
+whose keeper was opened so.
 
-A store without one of a keeper's tables gets all of them. Another is read and judged, row by row, and nothing of it is altered unless all of it is sound: then
-the rows of sources of schema 1 are brought over into the second schema.
+A store without one of a keeper's tables gets all of them. Another is read and judged, row by row, and nothing of it is
+altered unless all of it is sound: then the rows of sources of schema 1 are brought over into the second schema.
 """
 import sqlite3
 
@@ -10,7 +11,9 @@ from documents import DocumentFault, document_of
 from routes import is_domain_name
 from rows import text_of
 from servers import OPERATOR_TOKEN, answered_by
-from tables import KINDS, MAKING, OF_SCHEMA, ROLES, SOURCES_MADE, TABLES, TYPES, opened, schema_numbered, schema_of, state_at, text_of_version
+from tables import (
+    KINDS, MAKING, OF_SCHEMA, ROLES, SOURCES_MADE, TABLES, TYPES, opened, schema_numbered, schema_of, state_at,
+    text_of_version)
 from values import Fault, read, to_text
 from versions import PATTERN, VERSION, NoVersion, numbers, parts
 
@@ -33,13 +36,16 @@ def unless(is_refused, why):
 
 def names_taken(db):
     """The names of tables, indexes and views, in small letters."""
-    return {name.lower() for (name,) in db.execute("SELECT name FROM sqlite_schema WHERE type IN ('table', 'index', 'view')")}
+    return {name.lower()
+            for (name,) in db.execute("SELECT name FROM sqlite_schema WHERE type IN ('table', 'index', 'view')")}
 
 
 def is_schema(db, number):
-    """Whether there are the tables of that schema and no others, in the order in which they are made, and nothing else."""
+    """Whether there are the tables of that schema and no others, in the order in which they are
+    made, and nothing else."""
     made = [name for (name,) in db.execute("SELECT name FROM sqlite_schema WHERE type = 'table' ORDER BY rowid")]
-    others = db.execute("SELECT count(*) FROM sqlite_schema WHERE type <> 'table' AND name NOT LIKE 'sqlite_autoindex_%'").fetchone()
+    others = db.execute("SELECT count(*) FROM sqlite_schema "
+                        "WHERE type <> 'table' AND name NOT LIKE 'sqlite_autoindex_%'").fetchone()
     return made == list(OF_SCHEMA[number]) and others == (0,) and schema_of(db) == schema_numbered(number)
 
 
@@ -88,7 +94,8 @@ def is_document(kind, name, version, body):
     except DocumentFault:
         return False
     version_of_it = text_of_version(numbers(".".join(found.version))).encode()
-    return (KINDS.index("policy" if found.form == "Policy" else "set"), found.id.encode(), version_of_it) == (kind, name, version)
+    return (KINDS.index("policy" if found.form == "Policy" else "set"), found.id.encode(),
+            version_of_it) == (kind, name, version)
 
 
 def is_source_row(category, entity, attribute, value_type, value, issuer=None):
@@ -110,9 +117,12 @@ OF_ROW = "number, place, category, entity, attribute, value_type, value"
 JUDGED = {
     "domains": ("number, name, epoch", lambda name, epoch: is_domain_name(name) and epoch >= 0),
     "tokens": ("number, digest, role", lambda digest, role: len(digest) == 32 and 0 <= role < len(ROLES)),
-    "policies": ("number, kind, id, version, body, active", lambda kind, name, version, body, active: active in (0, 1) and is_document(kind, name, version, body)),
-    "roots": ("number, kind, id, pattern, earliest, latest", lambda kind, name, pattern, *bounds: 0 <= kind < len(KINDS) and is_text(name)
-              and (pattern is None or reads_as(PATTERN, pattern)) and all(held is None or reads_as(VERSION, held) for held in bounds)),
+    "policies": ("number, kind, id, version, body, active",
+                 lambda kind, name, version, body, active: active in (0, 1) and is_document(kind, name, version, body)),
+    "roots": ("number, kind, id, pattern, earliest, latest",
+              lambda kind, name, pattern, *bounds: 0 <= kind < len(KINDS) and is_text(name)
+              and (pattern is None or reads_as(PATTERN, pattern))
+              and all(held is None or reads_as(VERSION, held) for held in bounds)),
     "attributes": (OF_ROW, lambda place, *held: is_source_row(*held)),
     "sources": (OF_ROW + ", issuer", lambda place, *held: is_source_row(*held)),
 }
@@ -150,7 +160,8 @@ def run(db, statements):
 
 
 def open_store(db):
-    """Opens the store: whether it has a keeper's tables and no others; NotOpened where it has others, or a damaged row."""
+    """Opens the store: whether it has a keeper's tables and no others; NotOpened where it has
+    others, or a damaged row."""
     if not names_taken(db) & set(TABLES):
         run(db, [*MAKING, NEW_ROW])
         return is_schema(db, 2)

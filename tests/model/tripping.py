@@ -1,8 +1,10 @@
 """How often a server calls its keeper, and what it answers where one of these calls fails.
 
-The operator's message makes one call, unless its body isn't one. Any other message to a domain asks for its gate, and once it is let in makes one call more for what it asks,
-unless its body isn't one or its path names no document. An ask alone may do with less: without the gate, where that is remembered from an ask by another token or its own,
-and no other message was let in since; and without the view, where the response is held, the view is kept ready or the body doesn't ask the policies.
+The operator's message makes one call, unless its body isn't one. Any other message to a domain asks for its gate, and
+once it is let in makes one call more for what it asks, unless its body isn't one or its path names no document. An ask
+alone may do with less: without the gate, where that is remembered from an ask by another token or its own, and no
+other message was let in since; and without the view, where the response is held, the view is kept ready or the body
+doesn't ask the policies.
 """
 import collections
 
@@ -17,9 +19,24 @@ from rows import decoded
 from servers import server, set_up
 from versions import NoVersion, numbers
 
-CALLS = ("Gate", "View", "Document", "List", "Domains", "Create", "Remove", "PutToken", "DropToken", "Upload", "SetActive", "Delete", "SetRoot", "SetSource")
-CALL_FOR = {"create": "Create", "remove": "Remove", "put": "PutToken", "drop": "DropToken", "upload": "Upload", "list": "List", "root": "SetRoot", "source": "SetSource",
-            "rows": "View", "document": "Document", "delete": "Delete", "activate": "SetActive", "deactivate": "SetActive", "domains": "Domains"}
+CALLS = ("Gate", "View", "Document", "List", "Domains", "Create", "Remove", "PutToken", "DropToken", "Upload",
+         "SetActive", "Delete", "SetRoot", "SetSource")
+CALL_FOR = {
+    "create": "Create",
+    "remove": "Remove",
+    "put": "PutToken",
+    "drop": "DropToken",
+    "upload": "Upload",
+    "list": "List",
+    "root": "SetRoot",
+    "source": "SetSource",
+    "rows": "View",
+    "document": "Document",
+    "delete": "Delete",
+    "activate": "SetActive",
+    "deactivate": "SetActive",
+    "domains": "Domains",
+}
 BODIES = {"put": new_token_of, "drop": old_token_of, "upload": document_of, "root": root_of, "source": rows_of}
 OF_DOCUMENT = ("document", "delete", "activate", "deactivate")
 
@@ -69,7 +86,8 @@ class CallingServer(CountingServer):
             check_token(self.operator, state, message, command)
             if name is not None or command == "domains":
                 self.ask(name, route, message.body)
-        elif name is not None and shown is not None and not (command == "decide" and shown in self.remembered.get(name, ())):
+        elif (name is not None and shown is not None
+              and not (command == "decide" and shown in self.remembered.get(name, ()))):
             self.calls.append("Gate")
             check_token(self.operator, state, message, command)
             if command == "decide":

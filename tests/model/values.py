@@ -1,14 +1,16 @@
-"""Values of the eleven data types: how texts are read, printed, compared (XACML 3.0, core, appendix A.2; XML Schema, part 2).
+"""Values of the eleven data types: how texts are read, printed, compared (XACML 3.0, core, appendix
+A.2; XML Schema, part 2).
 
-A value is a pair of its type's name and what it holds: a text, a bool, an int, bytes; a date is (year, month, day) and a zone, a time
-its nanoseconds and a zone, a dateTime all three; a zone is its minutes, or None. Durations are nanoseconds, or months.
+A value is a pair of its type's name and what it holds: a text, a bool, an int, bytes; a date is (year, month, day) and
+a zone, a time its nanoseconds and a zone, a dateTime all three; a zone is its minutes, or None. Durations are
+nanoseconds, or months.
 """
 import base64
 import binascii
 import re
 
-TYPES = ["string", "boolean", "integer", "date", "time", "dateTime", "dayTimeDuration", "yearMonthDuration", "anyURI", "hexBinary",
-         "base64Binary"]
+TYPES = ["string", "boolean", "integer", "date", "time", "dateTime", "dayTimeDuration", "yearMonthDuration", "anyURI",
+         "hexBinary", "base64Binary"]
 WHITE_SPACE = " \t\r\n"
 SECOND = 10**9
 DAY = 86400 * SECOND

@@ -13,7 +13,7 @@ from json_texts import NotJson
 from linking import TooLarge, linked
 from policies import LEAF, OK, PROCESSING_ERROR, SETTLING, Assigned, Evaluated, Returned, INDETERMINATE, is_indeterminate, with_ids, without_duties
 from requests import NotProfile, individuals_of, request_of
-from responses import body, result
+from responses import result
 from values import Fault
 
 STEP, LOOK, VALUE = 32, 8, 16
@@ -36,7 +36,6 @@ FEW, HALVING = 8, 48
 NAME, NUMBER = 32, 10
 # with how many others a value is compared at most that is searched for; and in a large bag that is put in order
 COMPARISONS, LARGE, SCANS, ORDERED = 32, 256, 16, 18
-ONE_SIZE = ("boolean", "integer", "date", "time", "dateTime", "dayTimeDuration", "yearMonthDuration")
 
 
 def rate(function):

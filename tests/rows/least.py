@@ -4,8 +4,9 @@
 usage: tests/rows/least.py PROGRAM     PROGRAM: the program xa_trials, as it was built
        tests/rows/least.py --model     by the model, which counts by the rules of charging
 
-A row that is answered otherwise than by the 503 has the least limit with which it is, as far as it says: it is answered alike without a limit, and not with one less.
-Rows of several messages stand under a limit that isn't the least one, and are passed over.
+A row that is answered otherwise than by the 503 has the least limit with which it is, as far as it says: it is
+answered alike without a limit, and not with one less. Rows of several messages stand under a limit that isn't the
+least one, and are passed over.
 """
 import pathlib
 import subprocess
@@ -28,13 +29,16 @@ NO_LIMIT = 2**64 - 1
 
 def answers(program, rows, limits):
     """What the program answers to the rows, each with another limit."""
-    text = "".join(line(as_read(["server_in_memory", f"limit:{limit}", *fields])) for fields, limit in zip(rows, limits))
-    return subprocess.run([program], input=text.encode(), stdout=subprocess.PIPE, check=True).stdout.decode().split("\n")[:-1]
+    text = "".join(line(as_read(["server_in_memory", f"limit:{limit}", *fields]))
+                   for fields, limit in zip(rows, limits))
+    return subprocess.run([program], input=text.encode(), stdout=subprocess.PIPE,
+                          check=True).stdout.decode().split("\n")[:-1]
 
 
 def are_least(program, rows, limits):
     """Of each row whether it is answered as without a limit by this one, and not by one less."""
-    without, at, below = (answers(program, rows, found) for found in ([NO_LIMIT] * len(rows), limits, [max(limit - 1, 0) for limit in limits]))
+    without, at, below = (answers(program, rows, found)
+                          for found in ([NO_LIMIT] * len(rows), limits, [max(limit - 1, 0) for limit in limits]))
     return [one == two and (limit == 0 or two != three) for one, two, three, limit in zip(without, at, below, limits)]
 
 
@@ -45,7 +49,8 @@ def least(program, rows):
         middle = [(start + end) // 2 if end - start > 1 else end for start, end in zip(low, high)]
         for place, found in enumerate(answers(program, rows, middle)):
             is_enough = found == wanted[place]
-            low[place], high[place] = (low[place], min(high[place], middle[place])) if is_enough else (max(low[place], middle[place]), high[place])
+            low[place], high[place] = ((low[place], min(high[place], middle[place]))
+                                       if is_enough else (max(low[place], middle[place]), high[place]))
     return high
 
 
@@ -65,6 +70,9 @@ def by_model(fields):
 
 
 def main():
+    if len(sys.argv) != 2:
+        print(__doc__, file=sys.stderr)
+        return 2
     found = []
     for place, fields, wanted in Source(HERE / "limit.rows").rows:
         is_least = fields[1].startswith("limit:") and fields[1] not in ("limit:100000", f"limit:{NO_LIMIT}")
@@ -78,7 +86,8 @@ def main():
         return 1 if others else 0
     right = are_least(sys.argv[1], [fields for _, _, fields in found], [written for _, written, _ in found])
     others = [one for one, is_right in zip(found, right) if not is_right]
-    for (place, written, _), limit in zip(others, least(sys.argv[1], [fields for _, _, fields in others]) if others else []):
+    for (place, written, _), limit in zip(others,
+                                          least(sys.argv[1], [fields for _, _, fields in others]) if others else []):
         print(f"{place}: {written:,} in the row, {limit:,} are the least")
     print(f"{len(found)} forms, {len(others)} with another least limit")
     return 1 if others else 0

@@ -19,7 +19,8 @@ pub enum Call {
     SetSource,
 }
 
-/// All of them, in the order of the trait's methods.
+/// All of them, in the order of the trait's methods. Each has to stand here: one that is left out
+/// isn't counted, and nothing tells.
 pub const CALLS: [Call; 14] = [
     Call::Gate,
     Call::View,

@@ -5,7 +5,7 @@ use xa_server::Clock;
 use xa_value::Moment;
 
 /// A clock that stands, and tells its moment so many times.
-#[derive(Clone, Copy, Drop)]
+#[derive(Clone, Copy)]
 pub struct StandingClock {
     /// Where it stands.
     pub moment: Moment,

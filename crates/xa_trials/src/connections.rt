@@ -1,15 +1,18 @@
-//! A front with all its connections, and what an event does to it: the calls of a front, and what
-//! comes to many of them.
+//! Rows of connections: what a front with all its connections answers to events. Behind what stands before
+//! the first event come `begin:`, `piece:N:BYTES`, `answer:N` and `finish:N`, the calls of a front.
+//! `answers:N` asks for all answers that there are, and `moment:SECONDS` dates those that follow.
+//! `waits:N-M:BYTES` has bytes wait for some connections, `turns:SIZE` hands over what waits, so many bytes
+//! of each in turn, and `cuts:BYTES` hands over bytes cut behind each of them.
 pub(crate) mod lines;
 
 use crate::answer::Answer;
 use crate::clock::moment_of;
-use crate::connections::lines::{Line, Output, answer_all, lines_of, turn};
-use crate::field::{bytes_of, number_of};
+use crate::connections::lines::{Line, Output, add_lines, answer_all, push_all, turn};
+use crate::field::{bytes_of, number_of, word_and_text};
 use crate::front_calls::{answer_next, close, feed, open};
 use crate::no_answer::NoAnswer;
 use crate::runs::{Runs, push_answer, push_last};
-use crate::server::{is_of_setup, server_made};
+use crate::setup::{Setup, server_made};
 use std::alloc::Global;
 use xa_records::Records;
 use xa_server::{Conn, Front};
@@ -29,20 +32,17 @@ pub struct FrontTrial<R: Records + Drop> {
 }
 
 impl<R: Records + Drop> FrontTrial<R> {
-    /// A front over a server over the keeper, at moment 0.
-    pub fn new(
-        answer: &mut Answer,
-        records: R,
-        events: &[&str],
-    ) -> Result<FrontTrial<R>, NoAnswer> {
+    /// A front over a server over the keeper, as that is set up.
+    pub fn new(answer: &mut Answer, records: R, setup: &Setup) -> Result<FrontTrial<R>, NoAnswer> {
         let alloc = answer.alloc();
-        let mut front = Front::new(alloc, server_made(answer, records, events)?)?;
-        let lines = lines_of(alloc, &mut front)?;
+        let mut front = Front::new(alloc, server_made(answer, records, setup)?)?;
+        let mut lines = Vec::new(alloc);
+        add_lines(alloc, &mut front, &mut lines)?;
         Ok(FrontTrial {
             alloc,
             front,
             lines,
-            moment: moment_of("0")?,
+            moment: setup.moment,
         })
     }
 
@@ -91,21 +91,12 @@ impl<R: Records + Drop> FrontTrial<R> {
     fn answers(&mut self, answer: &mut Answer, text: &str) -> Result<(), NoAnswer> {
         let conn = self.conn(text)?;
         let mut runs = Runs::new(self.alloc);
-        let mut is_none = true;
-        let mut is_last = false;
-        for _ in 0..u64::MAX {
-            let Some(given) = answer_next(&mut self.front, conn, self.moment)? else {
-                break;
-            };
-            runs.push(answer, given.reply.bytes(), false)?;
-            is_none = false;
-            is_last = given.last;
-        }
+        let given = push_all(&mut self.front, conn, self.moment, answer, &mut runs)?;
         runs.end(answer);
-        if is_none {
-            answer.push_word("!None");
+        match given {
+            Some(is_last) => push_last(answer, is_last),
+            None => answer.push_word("!None"),
         }
-        push_last(answer, is_last);
         Ok(())
     }
 
@@ -164,18 +155,33 @@ impl<R: Records + Drop> FrontTrial<R> {
         Ok(())
     }
 
-    /// Hands over the bytes in two pieces on a connection of their own. How many replies there were
-    /// to the first piece, and what was answered in all.
-    fn cut(&mut self, bytes: &[u8], place: usize) -> Result<(usize, Output), NoAnswer> {
-        let mut output = Output::new(self.alloc);
+    /// Hands over the bytes in two pieces on a connection of their own. How many replies there were to
+    /// the first piece.
+    fn cut(&mut self, bytes: &[u8], place: usize, output: &mut Output) -> Result<usize, NoAnswer> {
         let conn = open(&mut self.front)?;
         feed(&mut self.front, conn, bytes.get(..place).unwrap_or(&[]))?;
-        answer_all(&mut self.front, conn, self.moment, &mut output)?;
+        answer_all(&mut self.front, conn, self.moment, output)?;
         let before = output.count;
         feed(&mut self.front, conn, bytes.get(place..).unwrap_or(&[]))?;
-        answer_all(&mut self.front, conn, self.moment, &mut output)?;
+        answer_all(&mut self.front, conn, self.moment, output)?;
         close(&mut self.front, conn)?;
-        Ok((before, output))
+        Ok(before)
+    }
+
+    /// Hands over the bytes cut at the place, adds what was answered, and notes to how many messages
+    /// before the second piece came.
+    fn push_cut(
+        &mut self,
+        answer: &mut Answer,
+        outputs: &mut Runs,
+        counts: &mut Vec<usize>,
+        bytes: &[u8],
+        place: usize,
+    ) -> Result<(), NoAnswer> {
+        let mut output = Output::new(self.alloc);
+        let before = self.cut(bytes, place, &mut output)?;
+        counts.push(before)?;
+        outputs.push(answer, &output.bytes, output.is_last)
     }
 
     /// Hands over the bytes cut behind each of them, and adds what was answered, and then to how
@@ -185,17 +191,10 @@ impl<R: Records + Drop> FrontTrial<R> {
         let mut outputs = Runs::new(self.alloc);
         let mut counts = Vec::new(self.alloc);
         for place in 0..=bytes.len() {
-            let (before, output) = self.cut(&bytes, place)?;
-            outputs.push(answer, &output.bytes, output.is_last)?;
-            counts.push(before)?;
+            self.push_cut(answer, &mut outputs, &mut counts, &bytes, place)?;
         }
         outputs.end(answer);
-        for count in counts {
-            let shown = format!(in self.alloc; "{count}")?;
-            outputs.push(answer, shown.as_bytes(), false)?;
-        }
-        outputs.end(answer);
-        Ok(())
+        push_counts(answer, &counts)
     }
 
     /// Runs the event of the word and the text behind it. A refusal is given back.
@@ -213,7 +212,6 @@ impl<R: Records + Drop> FrontTrial<R> {
             "waits" => self.wait(text),
             "turns" => self.turns(answer, text),
             "cuts" => self.cuts(answer, text),
-            _ if is_of_setup(word) => Ok(()),
             _ => Err(NoAnswer::Malformed),
         }
     }
@@ -233,4 +231,36 @@ impl<R: Records + Drop> FrontTrial<R> {
             done => done,
         }
     }
+
+    /// Runs the events, one after another.
+    fn run_events(&mut self, answer: &mut Answer, events: &[&str]) -> Result<(), NoAnswer> {
+        for event in events {
+            let (word, text) = word_and_text(event);
+            self.run_event(answer, word, text)?;
+        }
+        Ok(())
+    }
+}
+
+/// Adds the counts, equal ones in a row once.
+fn push_counts(answer: &mut Answer, counts: &[usize]) -> Result<(), NoAnswer> {
+    let alloc = answer.alloc();
+    let mut runs = Runs::new(alloc);
+    for count in counts {
+        let shown = format!(in alloc; "{count}")?;
+        runs.push(answer, shown.as_bytes(), false)?;
+    }
+    runs.end(answer);
+    Ok(())
+}
+
+/// Runs the events on a front over a server over the keeper.
+pub fn run_front_events<R: Records + Drop>(
+    answer: &mut Answer,
+    records: R,
+    setup: &Setup,
+    events: &[&str],
+) -> Result<(), NoAnswer> {
+    let mut trial = FrontTrial::new(answer, records, setup)?;
+    trial.run_events(answer, events)
 }

@@ -44,11 +44,12 @@ impl Case {
 
 /// The case of the fields, and moment 0 where none says another.
 fn case_of(alloc: Global, fields: &[&str]) -> Result<Case, NoAnswer> {
+    let moment = moment_of("0")?;
     let mut case = Case {
         active: Items::new(alloc),
         root: None,
         source: Items::new(alloc),
-        moment: moment_of("0")?,
+        moment,
     };
     for field in fields {
         case.take(alloc, field)?;
@@ -56,22 +57,31 @@ fn case_of(alloc: Global, fields: &[&str]) -> Result<Case, NoAnswer> {
     Ok(case)
 }
 
-/// The body of the response to the last field, the body of a request.
-pub fn decision(answer: &mut Answer, fields: &[&str]) -> Result<(), NoAnswer> {
-    let [fields @ .., body] = fields else {
-        return Err(NoAnswer::Malformed);
-    };
-    let alloc = answer.alloc();
+/// What decides in the case.
+fn view_of(alloc: Global, case: Case) -> Result<View, NoAnswer> {
+    let mut shelf = Shelf::new(alloc)?;
     let Case {
         active,
         root,
         source,
-        moment,
-    } = case_of(alloc, fields)?;
-    let mut shelf = Shelf::new(alloc)?;
+        moment: _,
+    } = case;
     let mut reader = TextReader::new(&mut shelf, u64::MAX);
     let view = View::new(alloc, &mut reader, active.as_slice(), &root, source)?;
-    match xa_decide::answer(alloc, &view, &bytes_of(alloc, body)?, moment)? {
+    Ok(view)
+}
+
+/// The body of the response to the last field, the body of a request.
+pub fn decision(answer: &mut Answer, fields: &[&str]) -> Result<(), NoAnswer> {
+    let [fields @ .., body] = fields else {
+        return Err(NoAnswer::FieldCount);
+    };
+    let alloc = answer.alloc();
+    let body = bytes_of(alloc, body)?;
+    let case = case_of(alloc, fields)?;
+    let moment = case.moment;
+    let view = view_of(alloc, case)?;
+    match xa_decide::answer(alloc, &view, &body, moment)? {
         Some(body) => answer.push_field("", &body),
         None => answer.push_word("!NotJson"),
     }

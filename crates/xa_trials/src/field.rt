@@ -13,11 +13,24 @@ struct Field {
     text: Escapes,
     /// Where the text that is repeated begins.
     start: usize,
-    /// How often that text stands there in all.
-    count: usize,
+    /// How often that text stands there in all, until its end has come.
+    count: Option<usize>,
 }
 
 impl Field {
+    /// Takes the field. A repetition has its end in it.
+    fn take(&mut self, field: &str) -> Result<(), NoAnswer> {
+        for part in field.split('\\') {
+            if let Some((letter, rest)) = self.text.take(part, b"\\")? {
+                self.escape(part, letter, rest)?;
+            }
+        }
+        match self.count {
+            Some(_) => Err(NoAnswer::Malformed),
+            None => Ok(()),
+        }
+    }
+
     /// Takes the letter of an escape and the bytes after it, which are that part.
     fn escape(&mut self, part: &str, letter: u8, rest: &[u8]) -> Result<(), NoAnswer> {
         match letter {
@@ -43,10 +56,13 @@ impl Field {
         }
     }
 
-    /// Takes how often a text stands there, and the beginning of the text.
+    /// Takes how often a text stands there, and the beginning of the text. It stands in no other.
     fn begin(&mut self, part: &str) -> Result<(), NoAnswer> {
+        if self.count.is_some() {
+            return Err(NoAnswer::Malformed);
+        }
         let (digits, rest) = part.split_once(',').ok_or(NoAnswer::Malformed)?;
-        self.count = number_of(digits.strip_prefix("{").unwrap_or(digits))?;
+        self.count = Some(number_of(digits.strip_prefix("{").unwrap_or(digits))?);
         self.start = self.text.len();
         self.text.put(rest.as_bytes())
     }
@@ -54,8 +70,9 @@ impl Field {
     /// Puts the text since the start so often that it stands there as often as was said, and the
     /// bytes after it.
     fn repeat(&mut self, rest: &[u8]) -> Result<(), NoAnswer> {
+        let count = self.count.take().ok_or(NoAnswer::Malformed)?;
         let bytes = self.text.take_off(self.start)?;
-        for _ in 0..self.count {
+        for _ in 0..count {
             self.text.put(&bytes)?;
         }
         self.text.put(rest)
@@ -78,6 +95,26 @@ pub fn word_and_text(field: &str) -> (&str, &str) {
     field.split_once(':').unwrap_or((field, ""))
 }
 
+/// The text before the first space, and the one behind it.
+pub fn first_word_and_rest(text: &str) -> (&str, &str) {
+    text.split_once(' ').unwrap_or((text, ""))
+}
+
+/// The fields at the beginning that have the word, and the rest.
+pub fn leading_and_rest<'a>(fields: &'a [&'a str], word: &str) -> (&'a [&'a str], &'a [&'a str]) {
+    let mut count = 0usize;
+    for field in fields {
+        let (other, _) = word_and_text(field);
+        if other != word {
+            break;
+        }
+        count = count.saturating_add(1);
+    }
+    let leading = fields.get(..count).unwrap_or(&[]);
+    let rest = fields.get(count..).unwrap_or(&[]);
+    (leading, rest)
+}
+
 /// The number that the text is.
 pub fn number_of<T: FromStr + Drop>(text: &str) -> Result<T, NoAnswer>
 where
@@ -87,18 +124,15 @@ where
 }
 
 /// The bytes that the field stands for: `\n`, `\r`, `\t` and `\xHH` are a byte, `\{COUNT,TEXT\}` is
-/// the text COUNT times, and any other letter after a backslash stands for itself.
+/// the text COUNT times, in which no other is repeated, and any other letter after a backslash stands
+/// for itself.
 pub fn bytes_of(alloc: Global, field: &str) -> Result<Vec<u8>, NoAnswer> {
     let mut read = Field {
         text: Escapes::new(alloc),
         start: 0,
-        count: 1,
+        count: None,
     };
-    for part in field.split('\\') {
-        if let Some((letter, rest)) = read.text.take(part, b"\\")? {
-            read.escape(part, letter, rest)?;
-        }
-    }
+    read.take(field)?;
     Ok(read.text.into_bytes())
 }
 
@@ -117,19 +151,14 @@ pub fn kept_text(alloc: Global, field: &str) -> Result<Text, NoAnswer> {
 /// Adds the bytes to the line as a field has them: in ASCII, with no tab and no line feed.
 pub fn push_bytes(line: &mut String, bytes: &[u8]) -> Result<(), AllocError> {
     for byte in bytes {
-        push_byte(line, *byte)?;
+        match *byte {
+            b'\n' => line.push_str("\\n")?,
+            b'\r' => line.push_str("\\r")?,
+            b'\t' => line.push_str("\\t")?,
+            b'\\' => line.push_str("\\\\")?,
+            b' '..=b'~' => line.push(char::from(*byte))?,
+            other => write!(line, "\\x{other:02x}")?,
+        }
     }
     Ok(())
-}
-
-/// Adds the byte to the line as a field has it.
-fn push_byte(line: &mut String, byte: u8) -> Result<(), AllocError> {
-    match byte {
-        b'\n' => line.push_str("\\n"),
-        b'\r' => line.push_str("\\r"),
-        b'\t' => line.push_str("\\t"),
-        b'\\' => line.push_str("\\\\"),
-        b' '..=b'~' => line.push(char::from(byte)),
-        _ => write!(line, "\\x{byte:02x}"),
-    }
 }

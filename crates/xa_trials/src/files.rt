@@ -1,9 +1,10 @@
 //! Stores over two files in memory, the database's and its log, and what a crash leaves of these.
+use crate::keepers::opened_keeper;
 use crate::no_answer::NoAnswer;
 use sqlite::{Connection, FileStore, Files, Options};
 use sqlite_disk::{Crash, Disk, Fuse, Memory};
 use std::alloc::Global;
-use xa_store::{OpenError, SqlRecords};
+use xa_store::SqlRecords;
 
 /// A file in memory, which passes on so many calls, and then is frozen.
 pub type File = Fuse<Memory>;
@@ -52,14 +53,6 @@ pub fn files_under(conn: Connection<Store>) -> Files<File> {
     conn.into_store().close()
 }
 
-/// The keeper of the store; why it isn't opened, and its connection.
-pub fn opened_keeper(
-    alloc: Global,
-    conn: Connection<Store>,
-) -> Result<SqlRecords<Store>, (OpenError, Connection<Store>)> {
-    SqlRecords::open(alloc, conn)
-}
-
 /// A keeper of the store in the files; the files, where it can't be opened.
 pub fn keeper_of(alloc: Global, files: Files<File>) -> Result<SqlRecords<Store>, Files<File>> {
     match opened_keeper(alloc, connection_to(alloc, files)?) {
@@ -76,19 +69,6 @@ fn copy_of(alloc: Global, file: &File, calls: u64) -> Result<File, NoAnswer> {
     Ok(Fuse::new(copy, calls))
 }
 
-/// Files with all that was written to these, of which each passes on so many calls.
-fn copies_of(
-    alloc: Global,
-    files: &Files<File>,
-    log: u64,
-    db: u64,
-) -> Result<Files<File>, NoAnswer> {
-    Ok(Files {
-        log: copy_of(alloc, &files.log, log)?,
-        db: copy_of(alloc, &files.db, db)?,
-    })
-}
-
 /// The file of that name.
 pub fn file_named(word: &str) -> Result<FileName, NoAnswer> {
     match word {
@@ -98,17 +78,22 @@ pub fn file_named(word: &str) -> Result<FileName, NoAnswer> {
     }
 }
 
-/// Files that hold what these do, of which that one passes on so many calls.
+/// Files with all that was written to these, of which that one passes on so many calls, and the other more
+/// than any row makes.
 pub fn files_of(
     alloc: Global,
     held: &Files<File>,
     name: FileName,
     calls: u64,
 ) -> Result<Files<File>, NoAnswer> {
-    match name {
-        FileName::Log => copies_of(alloc, held, calls, u64::MAX),
-        FileName::Database => copies_of(alloc, held, u64::MAX, calls),
-    }
+    let (log, db) = match name {
+        FileName::Log => (calls, u64::MAX),
+        FileName::Database => (u64::MAX, calls),
+    };
+    Ok(Files {
+        log: copy_of(alloc, &held.log, log)?,
+        db: copy_of(alloc, &held.db, db)?,
+    })
 }
 
 /// What a crash leaves at its two ends: what was synced alone, and all that was written.
@@ -116,7 +101,7 @@ pub fn after_crash(
     alloc: Global,
     mut files: Files<File>,
 ) -> Result<(Files<File>, Files<File>), NoAnswer> {
-    let written = copies_of(alloc, &files, u64::MAX, u64::MAX)?;
+    let written = files_of(alloc, &files, FileName::Log, u64::MAX)?;
     files.log.crash();
     files.db.crash();
     Ok((files, written))

@@ -1,9 +1,11 @@
-//! The calls of a front and of a server that rows make, each in one place. What rows do with their answers
-//! rests on no clause of theirs, so all else is proved without these clauses, which are long.
+//! The calls of a front and of a server that have long clauses, each in one place. What rows do with their
+//! answers rests on none of these clauses, so all else is proved without them.
 use crate::no_answer::NoAnswer;
 use xa_http::Message;
 use xa_records::Records;
-use xa_server::{Answer, Conn, Front, Reply, Server};
+use xa_server::{
+    Answer, Clock, Conn, Driven, Event, Front, Outcome, Reader, Reply, Server, Writer,
+};
 use xa_value::Moment;
 
 /// Opens a connection.
@@ -34,7 +36,34 @@ pub fn close<R: Records + Drop>(front: &mut Front<R>, conn: Conn) -> Result<(), 
     Ok(front.close(conn)?)
 }
 
+/// What comes of the events, which are played.
+pub fn play<R: Records + Drop>(
+    front: &mut Front<R>,
+    events: &[Event<'_>],
+) -> Result<Vec<Outcome>, NoAnswer> {
+    Ok(front.play(events)?)
+}
+
+/// Drives a connection. How that has ended.
+pub fn drive<R: Records + Drop, I: Reader, W: Writer, C: Clock>(
+    front: &mut Front<R>,
+    conn: Conn,
+    reader: &mut I,
+    writer: &mut W,
+    clock: &mut C,
+) -> Driven {
+    xa_server::drive(front, conn, reader, writer, clock)
+}
+
 /// The server's reply to the message.
 pub fn serve<R: Records>(server: &mut Server<R>, moment: Moment, message: &Message) -> Reply {
     server.serve(moment, message)
+}
+
+/// The server's replies to the messages.
+pub fn run<R: Records>(
+    server: &mut Server<R>,
+    messages: &[(Moment, Message)],
+) -> Result<Vec<Reply>, NoAnswer> {
+    Ok(server.run(messages)?)
 }

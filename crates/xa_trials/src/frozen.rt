@@ -4,6 +4,7 @@ use crate::driven::run_driven_events;
 use crate::field::number_of;
 use crate::files::{Store, file_named, files_of, keeper_of, new_files};
 use crate::no_answer::{NoAnswer, answered};
+use crate::setup::{Setup, setup_and_events};
 use sqlite::Alter;
 use std::alloc::Global;
 use xa_store::SqlRecords;
@@ -11,27 +12,26 @@ use xa_store::SqlRecords;
 /// The keeper of tables over the files of which one passes on so many calls, as `FILE CALLS` says.
 fn frozen_keeper(alloc: Global, text: &str) -> Result<SqlRecords<Store>, NoAnswer> {
     let (word, calls) = text.split_once(' ').ok_or(NoAnswer::Malformed)?;
-    let files = files_of(
-        alloc,
-        &new_files(alloc),
-        file_named(word)?,
-        number_of(calls)?,
-    )?;
-    keeper_of(alloc, files).ok().ok_or(NoAnswer::Malformed)
+    let (name, calls) = (file_named(word)?, number_of(calls)?);
+    let held = new_files(alloc);
+    let files = files_of(alloc, &held, name, calls)?;
+    keeper_of(alloc, files).ok().ok_or(NoAnswer::NotOpened)
 }
 
 /// Runs the events on a front over the keeper of tables.
 fn run_frozen_events<S: Alter + Drop>(
     answer: &mut Answer,
     records: SqlRecords<S>,
+    setup: &Setup,
     events: &[&str],
 ) -> Result<(), NoAnswer> {
-    answered(run_driven_events(answer, records, events))
+    answered(run_driven_events(answer, records, setup, events))
 }
 
 /// What becomes of driven connections over the keeper of tables in two files, of which one is frozen
 /// behind so many calls.
-pub fn frozen(answer: &mut Answer, text: &str, events: &[&str]) -> Result<(), NoAnswer> {
+pub fn frozen(answer: &mut Answer, text: &str, fields: &[&str]) -> Result<(), NoAnswer> {
+    let (setup, events) = setup_and_events(answer.alloc(), fields)?;
     let records = frozen_keeper(answer.alloc(), text)?;
-    run_frozen_events(answer, records, events)
+    run_frozen_events(answer, records, &setup, events)
 }

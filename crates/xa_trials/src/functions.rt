@@ -125,7 +125,7 @@ fn apply_each(answer: &mut Answer, function: HigherOrder, inner: FuncId, argumen
 /// What the higher-order function gives for the inner function that the first field names, and the arguments.
 pub fn higher(answer: &mut Answer, name: &str, fields: &[&str]) -> Result<(), NoAnswer> {
     let [inner, fields @ ..] = fields else {
-        return Err(NoAnswer::Malformed);
+        return Err(NoAnswer::FieldCount);
     };
     let arguments = arguments(answer.alloc(), fields)?;
     match (FuncId::from_uri(name), FuncId::from_uri(inner)) {

@@ -6,14 +6,15 @@ pub(crate) mod changes;
 pub(crate) mod readings;
 
 use crate::answer::Answer;
-use crate::field::{kept_text, number_of};
+use crate::field::{first_word_and_rest, kept_text, number_of};
 use crate::keeper::changes::{
     create, delete, drop_token, put_token, remove, set_active, set_root, set_source, upload,
 };
 use crate::keeper::readings::{document, domains, gate, list, view};
-use crate::keepers::{KeeperRow, Reopen, run_over_both, tables_with};
+use crate::keeper_rows::{KeeperRow, compare_over};
+use crate::keepers::tables_with;
 use crate::no_answer::NoAnswer;
-use xa_records::{PlainRecords, Records};
+use xa_records::{PlainRecords, Records, is_domain_name};
 use xa_value::Text;
 
 /// A call of a keeper: a word, the domain's name, and the text behind it.
@@ -27,61 +28,40 @@ pub struct KeeperCall<'a> {
     pub text: &'a str,
 }
 
-/// What a keeper answers to the calls, of which the first finds no domain: one in memory, and one
-/// over tables, which has to answer the same.
-pub fn keeper(answer: &mut Answer, calls: &[&str]) -> Result<(), NoAnswer> {
-    run_over_both(answer, &CallsRow(calls))
-}
-
-/// The same, by the keeper in memory alone.
-pub fn keeper_in_memory(answer: &mut Answer, calls: &[&str]) -> Result<(), NoAnswer> {
-    let alloc = answer.alloc();
-    make_all(answer, PlainRecords::new(alloc), calls)
-}
-
-/// The same, by keepers that begin with one domain, which the text says with its number and its
-/// epoch: `NAME NUMBER EPOCH`.
+/// What keepers answer to the calls which begin with one domain: the text has its name, its number and its
+/// epoch, as `NAME NUMBER EPOCH`.
 pub fn keeper_with(answer: &mut Answer, text: &str, calls: &[&str]) -> Result<(), NoAnswer> {
     let alloc = answer.alloc();
     let (name, numbers) = first_word_and_rest(text);
     let (number, epoch) = first_word_and_rest(numbers);
     let (number, epoch) = (number_of(number)?, number_of(epoch)?);
-    let plain = PlainRecords::with_domain(alloc, kept_text(alloc, name)?, number, epoch);
-    make_all(answer, plain.ok().ok_or(NoAnswer::Malformed)?, calls)?;
-    let mut other = Answer::new(alloc);
-    make_all(&mut other, tables_with(alloc, name, number, epoch)?, calls)?;
-    answer.compare(&other);
-    Ok(())
-}
-
-/// A row of calls of a keeper.
-#[derive(Drop)]
-struct CallsRow<'a>(&'a [&'a str]);
-
-impl KeeperRow for CallsRow<'_> {
-    fn run<R: Reopen + Drop>(&self, answer: &mut Answer, records: R) -> Result<(), NoAnswer> {
-        make_all(answer, records, self.0)
+    if !is_domain_name(name.as_bytes()) {
+        return Err(NoAnswer::Malformed);
     }
+    let row = KeeperRow::Calls(calls);
+    let plain = PlainRecords::with_domain(alloc, Text::new(alloc, name)?, number, epoch);
+    row.run(answer, plain.ok().ok_or(NoAnswer::Malformed)?)?;
+    compare_over(answer, row, tables_with(alloc, name, number, epoch)?)
 }
 
 /// Makes the calls, one after another.
-fn make_all<R: Records + Drop>(
+pub fn make_all<R: Records + Drop>(
     answer: &mut Answer,
     mut records: R,
     calls: &[&str],
 ) -> Result<(), NoAnswer> {
-    for call in calls {
-        let (word, rest) = first_word_and_rest(call);
-        let (name, text) = first_word_and_rest(rest);
-        let name = kept_text(answer.alloc(), name)?;
-        make_call(answer, &mut records, &KeeperCall { word, name, text })?;
+    for field in calls {
+        make(answer, &mut records, field)?;
     }
     Ok(())
 }
 
-/// The text before the first space, and the one behind it.
-pub fn first_word_and_rest(text: &str) -> (&str, &str) {
-    text.split_once(' ').unwrap_or((text, ""))
+/// Makes the call of the field.
+fn make<R: Records>(answer: &mut Answer, records: &mut R, field: &str) -> Result<(), NoAnswer> {
+    let (word, rest) = first_word_and_rest(field);
+    let (name, text) = first_word_and_rest(rest);
+    let name = kept_text(answer.alloc(), name)?;
+    make_call(answer, records, &KeeperCall { word, name, text })
 }
 
 /// Makes the call that the word says: a change, else a reading.

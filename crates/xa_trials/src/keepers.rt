@@ -1,11 +1,10 @@
-//! The keepers over which rows are answered.
-use crate::answer::Answer;
-use crate::field::kept_text;
-use crate::no_answer::{NoAnswer, answered};
+//! The keepers over which rows are answered, and the stores under them.
+use crate::field::text_of;
+use crate::no_answer::NoAnswer;
 use sqlite::{Alter, Connection, MemStore};
 use std::alloc::Global;
 use xa_records::{PlainRecords, Records};
-use xa_store::SqlRecords;
+use xa_store::{OpenError, SqlRecords};
 
 /// A keeper that can be stopped and taken up again.
 pub trait Reopen: Records {
@@ -25,37 +24,34 @@ impl Reopen for SqlRecords<MemStore> {
     }
 }
 
-/// A row that is answered over a keeper, whichever that is.
-pub trait KeeperRow {
-    /// Adds what is answered over the keeper.
-    fn run<R: Reopen + Drop>(&self, answer: &mut Answer, records: R) -> Result<(), NoAnswer>;
+/// The keeper of the store; why it isn't opened, and its connection.
+pub fn opened_keeper<S: Alter>(
+    alloc: Global,
+    conn: Connection<S>,
+) -> Result<SqlRecords<S>, (OpenError, Connection<S>)> {
+    SqlRecords::open(alloc, conn)
 }
 
-/// Answers the row over a keeper in memory, and over tables, which have to answer the same.
-pub fn run_over_both<T: KeeperRow>(answer: &mut Answer, row: &T) -> Result<(), NoAnswer> {
-    let alloc = answer.alloc();
-    answered(row.run(answer, PlainRecords::new(alloc)))?;
-    let mut other = Answer::new(alloc);
-    answered(row.run(&mut other, tables(alloc)?))?;
-    answer.compare(&other);
+/// Runs the statements of each field in the store: `sql:SQL`, or the statements alone.
+pub fn run_all<S: Alter>(
+    alloc: Global,
+    conn: &mut Connection<S>,
+    fields: &[&str],
+) -> Result<(), NoAnswer> {
+    for field in fields {
+        let sql = text_of(alloc, field.strip_prefix("sql:").unwrap_or(*field))?;
+        conn.execute_batch(sql.as_str())
+            .ok()
+            .ok_or(NoAnswer::Malformed)?;
+    }
     Ok(())
 }
 
-/// Runs the statements of a field in the store.
-pub fn run_statements<S: Alter>(
-    alloc: Global,
-    conn: &mut Connection<S>,
-    field: &str,
-) -> Result<(), NoAnswer> {
-    let sql = kept_text(alloc, field)?;
-    conn.execute_batch(sql.as_str())
-        .ok()
-        .ok_or(NoAnswer::Malformed)
-}
-
-/// A connection to a store in memory, without tables.
-pub fn connection(alloc: Global) -> Result<Connection<MemStore>, NoAnswer> {
-    Ok(Connection::open_in_memory(alloc)?)
+/// A connection to a store in memory in which the statements of the fields were run.
+pub fn connection_after(alloc: Global, fields: &[&str]) -> Result<Connection<MemStore>, NoAnswer> {
+    let mut conn = Connection::open_in_memory(alloc)?;
+    run_all(alloc, &mut conn, fields)?;
+    Ok(conn)
 }
 
 /// The keeper over the store.
@@ -63,12 +59,16 @@ fn keeper_over(
     alloc: Global,
     conn: Connection<MemStore>,
 ) -> Result<SqlRecords<MemStore>, NoAnswer> {
-    SqlRecords::open(alloc, conn).ok().ok_or(NoAnswer::Memory)
+    match opened_keeper(alloc, conn) {
+        Ok(records) => Ok(records),
+        Err((OpenError::Memory, _)) => Err(NoAnswer::Memory),
+        Err(_) => Err(NoAnswer::NotOpened),
+    }
 }
 
 /// A keeper over tables in memory, without domains.
 pub fn tables(alloc: Global) -> Result<SqlRecords<MemStore>, NoAnswer> {
-    keeper_over(alloc, connection(alloc)?)
+    keeper_over(alloc, connection_after(alloc, &[])?)
 }
 
 /// A keeper over tables in memory with one domain of that name, number and epoch, in which nothing
@@ -84,8 +84,6 @@ pub fn tables_with(
         "UPDATE meta SET next_number = {next}; INSERT INTO domains VALUES ({number}, '{name}', {epoch})"
     )?;
     let mut conn = tables(alloc)?.into_connection();
-    conn.execute_batch(sql.as_str())
-        .ok()
-        .ok_or(NoAnswer::Malformed)?;
+    run_all(alloc, &mut conn, &[sql.as_str()])?;
     keeper_over(alloc, conn)
 }

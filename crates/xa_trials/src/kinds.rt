@@ -1,11 +1,14 @@
 //! The kinds of rows. Each has one arm, by its name alone, which says how many fields it has. The arms
 //! stand in families, a function each, which say whether they know the kind; `answer_row` tries them all.
 use crate::answer::Answer;
+use crate::field::number_of;
+use crate::keeper_rows::{
+    KeeperRow, Manner, run_in_memory, run_messages_in_memory, run_over_both, run_server_row,
+};
 use crate::no_answer::NoAnswer;
 use crate::{
-    bodies, combining, decisions, documents, driven, fronts, frozen, functions, keeper, linking,
-    loopback, messages, plain, played, references, requests, server, stops, stored, stores,
-    tripped, values, versions,
+    bodies, combining, decisions, documents, frozen, functions, keeper, linking, loopback,
+    messages, plain, references, requests, stops, stored, stores, tripped, values, versions,
 };
 
 /// The field of a row that has one behind the kind.
@@ -32,155 +35,153 @@ fn first_field_and_rest<'a>(fields: &'a [&'a str]) -> Result<(&'a str, &'a [&'a 
     }
 }
 
-/// Answers a row of types, of categories or of versions. Whether it knows the kind.
-fn answer_name(answer: &mut Answer, kind: &str, fields: &[&str]) -> Result<bool, NoAnswer> {
-    match kind {
-        "type" => values::data_type(answer, only_field(fields)?)?,
-        "numbered" => values::data_type_of_number(answer, only_field(fields)?)?,
-        "category" => values::category(answer, only_field(fields)?)?,
-        "version" => versions::version(answer, only_field(fields)?)?,
-        "pattern" => versions::pattern(answer, only_field(fields)?)?,
-        _ => return Ok(false),
-    }
-    Ok(true)
-}
-
 /// Answers a row of values. Whether it knows the kind.
 fn answer_value(answer: &mut Answer, kind: &str, fields: &[&str]) -> Result<bool, NoAnswer> {
-    match kind {
-        "months" => values::months(answer, only_field(fields)?)?,
-        "nanoseconds" => values::nanoseconds(answer, only_field(fields)?)?,
+    let done = match kind {
+        "months" => values::months(answer, only_field(fields)?),
+        "nanoseconds" => values::nanoseconds(answer, only_field(fields)?),
         "read" => {
             let (name, text) = two_fields(fields)?;
-            values::read(answer, name, text)?;
+            values::read(answer, name, text)
         }
         "same" => {
             let (left, right) = two_fields(fields)?;
-            values::same(answer, left, right)?;
+            values::same(answer, left, right)
         }
         "order" => {
             let (left, right) = two_fields(fields)?;
-            values::order(answer, left, right)?;
+            values::order(answer, left, right)
         }
         "number" => {
             let (most, digits) = two_fields(fields)?;
-            values::number(answer, most, digits)?;
+            values::number(answer, most, digits)
         }
         "plain" => {
             let (name, member) = two_fields(fields)?;
-            plain::plain(answer, name, member)?;
+            plain::plain(answer, name, member)
         }
         _ => return Ok(false),
-    }
+    };
+    done?;
     Ok(true)
 }
 
 /// Answers a row of functions, of combining, or of what a reference stands for. Whether it knows the kind.
 fn answer_function(answer: &mut Answer, kind: &str, fields: &[&str]) -> Result<bool, NoAnswer> {
-    match kind {
-        "function" => functions::function(answer, only_field(fields)?)?,
+    let done = match kind {
+        "function" => functions::function(answer, only_field(fields)?),
         "apply" => {
             let (name, arguments) = first_field_and_rest(fields)?;
-            functions::apply(answer, name, arguments)?;
+            functions::apply(answer, name, arguments)
         }
         "higher" => {
             let (name, arguments) = first_field_and_rest(fields)?;
-            functions::higher(answer, name, arguments)?;
+            functions::higher(answer, name, arguments)
         }
         "combine" => {
             let (algorithm, children) = first_field_and_rest(fields)?;
-            combining::combination(answer, algorithm, children)?;
+            combining::combination(answer, algorithm, children)
         }
         "resolve" => {
             let (reference, documents) = first_field_and_rest(fields)?;
-            references::resolution(answer, reference, documents)?;
+            references::resolution(answer, reference, documents)
         }
         "link" => {
             let (root, documents) = first_field_and_rest(fields)?;
-            linking::tree(answer, root, documents)?;
+            linking::tree(answer, root, documents)
         }
         _ => return Ok(false),
-    }
+    };
+    done?;
     Ok(true)
 }
 
-/// Answers a row of a text that is read: a document or a body. Whether it knows the kind.
+/// Answers a row of a text that is read: a name, a version, a document or a body. Whether it knows the kind.
 fn answer_text(answer: &mut Answer, kind: &str, fields: &[&str]) -> Result<bool, NoAnswer> {
-    match kind {
-        "document" => documents::document(answer, only_field(fields)?)?,
-        "request" => requests::request(answer, only_field(fields)?)?,
-        "individuals" => requests::individuals(answer, only_field(fields)?)?,
-        "new_token" => bodies::new_token(answer, only_field(fields)?)?,
-        "old_token" => bodies::old_token(answer, only_field(fields)?)?,
-        "root" => bodies::root(answer, only_field(fields)?)?,
-        "rows" => bodies::rows(answer, only_field(fields)?)?,
+    let done = match kind {
+        "type" => values::data_type(answer, only_field(fields)?),
+        "numbered" => values::data_type_of_number(answer, only_field(fields)?),
+        "category" => values::category(answer, only_field(fields)?),
+        "version" => versions::version(answer, only_field(fields)?),
+        "pattern" => versions::pattern(answer, only_field(fields)?),
+        "document" => documents::document(answer, only_field(fields)?),
+        "request" => requests::request(answer, only_field(fields)?),
+        "individuals" => requests::individuals(answer, only_field(fields)?),
+        "new_token" => bodies::new_token(answer, only_field(fields)?),
+        "old_token" => bodies::old_token(answer, only_field(fields)?),
+        "root" => bodies::root(answer, only_field(fields)?),
+        "rows" => bodies::rows(answer, only_field(fields)?),
         _ => return Ok(false),
-    }
+    };
+    done?;
     Ok(true)
 }
 
-/// Answers a row of messages, or of the connections on which they come. Whether it knows the kind.
+/// Answers a row of messages, of their parts, or of a decision. Whether it knows the kind.
 fn answer_message(answer: &mut Answer, kind: &str, fields: &[&str]) -> Result<bool, NoAnswer> {
-    match kind {
-        "token" => messages::token(answer, only_field(fields)?)?,
-        "domain" => messages::domain(answer, only_field(fields)?)?,
+    let done = match kind {
+        "token" => messages::token(answer, only_field(fields)?),
+        "domain" => messages::domain(answer, only_field(fields)?),
         "digest" => {
             let (text, hexadecimal) = two_fields(fields)?;
-            messages::digest(answer, text, hexadecimal)?;
+            messages::digest(answer, text, hexadecimal)
         }
         "route" => {
             let (method, target) = two_fields(fields)?;
-            messages::route(answer, method, target)?;
+            messages::route(answer, method, target)
         }
-        "stream" => messages::stream(answer, fields)?,
-        "front" => fronts::front(answer, fields)?,
-        "played" => played::played(answer, fields)?,
-        "driven" => driven::driven(answer, fields)?,
+        "stream" => messages::stream(answer, fields),
+        "decide" => decisions::decision(answer, fields),
         _ => return Ok(false),
-    }
+    };
+    done?;
     Ok(true)
 }
 
-/// Answers a row of decisions, of a server, or of the keeper under it. Whether it knows the kind.
+/// Answers a row of a server. Whether it knows the kind.
 fn answer_server(answer: &mut Answer, kind: &str, fields: &[&str]) -> Result<bool, NoAnswer> {
-    match kind {
-        "decide" => decisions::decision(answer, fields)?,
-        "server" => server::server(answer, fields)?,
-        "server_in_memory" => server::server_in_memory(answer, fields)?,
-        "stored" => stored::stored(answer, fields)?,
-        "keeper" => keeper::keeper(answer, fields)?,
-        "keeper_in_memory" => keeper::keeper_in_memory(answer, fields)?,
+    let done = match kind {
+        "server" => run_server_row(answer, Manner::Messages, fields),
+        "server_in_memory" => run_messages_in_memory(answer, fields),
+        "front" => run_server_row(answer, Manner::FrontCalls, fields),
+        "played" => run_server_row(answer, Manner::Played, fields),
+        "driven" => run_server_row(answer, Manner::Driven, fields),
+        "tripped" => tripped::tripped(answer, fields),
+        "tripped_after" => {
+            let (calls, fields) = first_field_and_rest(fields)?;
+            run_server_row(answer, Manner::FailingAfter(number_of(calls)?), fields)
+        }
+        _ => return Ok(false),
+    };
+    done?;
+    Ok(true)
+}
+
+/// Answers a row of a keeper, or of a store under one. Whether it knows the kind.
+fn answer_keeper(answer: &mut Answer, kind: &str, fields: &[&str]) -> Result<bool, NoAnswer> {
+    let done = match kind {
+        "keeper" => run_over_both(answer, KeeperRow::Calls(fields)),
+        "keeper_in_memory" => run_in_memory(answer, KeeperRow::Calls(fields)),
         "keeper_with" => {
             let (domain, calls) = first_field_and_rest(fields)?;
-            keeper::keeper_with(answer, domain, calls)?;
+            keeper::keeper_with(answer, domain, calls)
         }
         "opened" => {
             let (beginning, statements) = first_field_and_rest(fields)?;
-            stores::opening(answer, beginning, statements)?;
+            stores::opening(answer, beginning, statements)
         }
-        _ => return Ok(false),
-    }
-    Ok(true)
-}
-
-/// Answers a row of what fails. Whether it knows the kind.
-fn answer_failing(answer: &mut Answer, kind: &str, fields: &[&str]) -> Result<bool, NoAnswer> {
-    match kind {
-        "tripped" => tripped::tripped(answer, fields)?,
-        "tripped_after" => {
-            let (calls, events) = first_field_and_rest(fields)?;
-            tripped::tripped_after(answer, calls, events)?;
-        }
+        "stored" => stored::stored(answer, fields),
         "stops" => {
-            let (file, events) = first_field_and_rest(fields)?;
-            stops::stops(answer, file, events)?;
+            let (file, fields) = first_field_and_rest(fields)?;
+            stops::stops(answer, file, fields)
         }
         "frozen" => {
-            let (file_and_calls, events) = first_field_and_rest(fields)?;
-            frozen::frozen(answer, file_and_calls, events)?;
+            let (file_and_calls, fields) = first_field_and_rest(fields)?;
+            frozen::frozen(answer, file_and_calls, fields)
         }
         _ => return Ok(false),
-    }
+    };
+    done?;
     Ok(true)
 }
 
@@ -192,13 +193,12 @@ pub fn answer_row(rt: &HostRuntime, answer: &mut Answer, fields: &[&str]) -> Res
     if *kind == "loopback" {
         return loopback::loopback(answer, rt, fields);
     }
-    let is_answered = answer_name(answer, kind, fields)?
-        || answer_value(answer, kind, fields)?
+    let is_answered = answer_value(answer, kind, fields)?
         || answer_function(answer, kind, fields)?
         || answer_text(answer, kind, fields)?
         || answer_message(answer, kind, fields)?
         || answer_server(answer, kind, fields)?
-        || answer_failing(answer, kind, fields)?;
+        || answer_keeper(answer, kind, fields)?;
     if is_answered {
         Ok(())
     } else {

@@ -1,21 +1,21 @@
 //! Rows of connections: what a client of this process receives from a server over a socket. Events
-//! are as in rows of a server: `made:BYTES`, `piece:BYTES`, which the client writes,
-//! `moment:SECONDS`, at which the server's clock stands from then on, and `close:`, which ends the
-//! connection and begins another. A connection has its ends in one thread, one after the other: the
-//! client connects, writes, and ends its writing side; then the server takes the connection,
-//! answers it and closes it; then the client reads.
+//! are as in rows of messages: `piece:BYTES`, which the client writes, `moment:SECONDS`, at which the
+//! server's clock stands from then on, and `close:`, which ends the connection and begins another. A
+//! connection has its ends in one thread, one after the other: the client connects, writes, and ends
+//! its writing side; then the server takes the connection, answers it and closes it; then the client
+//! reads.
 use crate::answer::Answer;
 use crate::clock::{StandingClock, moment_of};
 use crate::field::{bytes_of, word_and_text};
-use crate::front_calls::{close, open};
+use crate::front_calls::{close, drive, open};
 use crate::keepers::tables;
 use crate::no_answer::{NoAnswer, answered};
-use crate::server::{is_of_setup, server_made};
+use crate::setup::{Setup, server_made, setup_and_events};
 use std::io::{Read, Write};
 use std::net::{Ipv4Addr, Shutdown, TcpListener, TcpStream};
 use std::rt::HostRuntime;
 use xa_records::Records;
-use xa_server::{Driven, Front, drive};
+use xa_server::{Driven, Front};
 
 /// A front, where it takes connections, and what the client of the next one writes.
 #[derive(Drop)]
@@ -44,8 +44,8 @@ impl<R: Records + Drop> Sockets<R> {
 
     /// Has the server take the next connection, answer it and close it. How that has ended.
     fn serve_next(&mut self) -> Result<Driven, NoAnswer> {
-        let (stream, _peer) = self.listener.accept()?;
         let conn = open(&mut self.front)?;
+        let (stream, _peer) = self.listener.accept()?;
         let driven = drive(
             &mut self.front,
             conn,
@@ -70,45 +70,52 @@ impl<R: Records + Drop> Sockets<R> {
         Ok(())
     }
 
-    /// Runs the event of the field.
-    fn step(&mut self, answer: &mut Answer, field: &str) -> Result<(), NoAnswer> {
-        let (word, text) = word_and_text(field);
-        match word {
-            "piece" => {
-                let bytes = bytes_of(answer.alloc(), text)?;
-                self.written.extend_from_slice(&bytes)?;
+    /// Runs the events, one after another, and ends the last connection.
+    fn run_events(&mut self, answer: &mut Answer, events: &[&str]) -> Result<(), NoAnswer> {
+        for event in events {
+            let (word, text) = word_and_text(event);
+            match word {
+                "piece" => {
+                    let bytes = bytes_of(answer.alloc(), text)?;
+                    self.written.extend_from_slice(&bytes)?;
+                }
+                "close" => self.connection(answer)?,
+                "moment" => self.clock.moment = moment_of(text)?,
+                _ => return Err(NoAnswer::Malformed),
             }
-            "close" => self.connection(answer)?,
-            "moment" => self.clock.moment = moment_of(text)?,
-            _ if is_of_setup(word) => {}
-            _ => return Err(NoAnswer::Malformed),
         }
-        Ok(())
+        self.connection(answer)
     }
 }
 
-/// Runs the events over sockets of a server over a keeper of tables.
-fn connections(answer: &mut Answer, rt: &HostRuntime, events: &[&str]) -> Result<(), NoAnswer> {
-    let alloc = answer.alloc();
-    let server = server_made(answer, tables(alloc)?, events)?;
-    let clock = StandingClock {
-        moment: moment_of("0")?,
-        left: u64::MAX,
-    };
+/// Runs the events over sockets of a server over the keeper.
+fn run_socket_events<R: Records + Drop>(
+    answer: &mut Answer,
+    rt: &HostRuntime,
+    listener: TcpListener,
+    records: R,
+    setup: &Setup,
+    events: &[&str],
+) -> Result<(), NoAnswer> {
+    let server = server_made(answer, records, setup)?;
     let mut sockets = Sockets {
         rt: *rt,
-        front: Front::new(alloc, server)?,
-        listener: TcpListener::bind(rt, (Ipv4Addr::LOCALHOST, 0))?,
-        clock,
-        written: Vec::new(alloc),
+        front: Front::new(answer.alloc(), server)?,
+        listener,
+        clock: StandingClock {
+            moment: setup.moment,
+            left: u64::MAX,
+        },
+        written: Vec::new(answer.alloc()),
     };
-    for event in events {
-        sockets.step(answer, event)?;
-    }
-    sockets.connection(answer)
+    sockets.run_events(answer, events)
 }
 
-/// What clients receive when the events happen.
-pub fn loopback(answer: &mut Answer, rt: &HostRuntime, events: &[&str]) -> Result<(), NoAnswer> {
-    answered(connections(answer, rt, events))
+/// What clients receive when the events happen to a server over a keeper of tables, which takes
+/// connections at a free port.
+pub fn loopback(answer: &mut Answer, rt: &HostRuntime, fields: &[&str]) -> Result<(), NoAnswer> {
+    let listener = TcpListener::bind(rt, (Ipv4Addr::LOCALHOST, 0))?;
+    let (setup, events) = setup_and_events(answer.alloc(), fields)?;
+    let records = tables(answer.alloc())?;
+    answered(run_socket_events(answer, rt, listener, records, &setup, events))
 }

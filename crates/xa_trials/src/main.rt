@@ -21,7 +21,6 @@ mod combining;
 mod decisions;
 mod documents;
 mod driven;
-mod fronts;
 mod frozen;
 mod functions;
 mod keeper;
@@ -48,9 +47,11 @@ mod connections;
 mod failing_records;
 mod files;
 mod front_calls;
+mod keeper_rows;
 mod keepers;
 mod peer;
 mod scripts;
+mod setup;
 
 use answer::Answer;
 use kinds::answer_row;
@@ -83,8 +84,10 @@ fn answer_to(rt: &HostRuntime, words: &mut Words, line: &str) -> Answer {
         Ok(()) | Err(NoAnswer::Answered) => {}
         Err(NoAnswer::Memory) => answer.cut(),
         Err(NoAnswer::FieldCount) => answer.push_word("!FieldCount"),
-        Err(NoAnswer::Malformed | NoAnswer::Refused(_)) => answer.push_word("!Malformed"),
+        Err(NoAnswer::Malformed) => answer.push_word("!Malformed"),
+        Err(NoAnswer::NotOpened) => answer.push_word("!NotOpened"),
         Err(NoAnswer::Socket) => answer.push_word("!Socket"),
+        Err(NoAnswer::Refused(error)) => answer.push_shown("!", &error),
     }
     answer
 }

@@ -13,15 +13,14 @@ use xa_value::{Items, OrMemory};
 pub fn stream(answer: &mut Answer, pieces: &[&str]) -> Result<(), NoAnswer> {
     let mut session = Session::new(answer.alloc());
     for piece in pieces {
-        let bytes = bytes_of(answer.alloc(), piece)?;
-        session.feed(&bytes)?;
-        take_all(answer, &mut session)?;
+        take_piece(answer, &mut session, piece)?;
     }
     Ok(())
 }
 
-/// Takes the whole messages off the stream and adds each, and then why no message follows.
-fn take_all(answer: &mut Answer, session: &mut Session) -> Result<(), NoAnswer> {
+/// Takes in a piece, takes the whole messages off the stream and adds each, and then why no message follows.
+fn take_piece(answer: &mut Answer, session: &mut Session, piece: &str) -> Result<(), NoAnswer> {
+    session.feed(&bytes_of(answer.alloc(), piece)?)?;
     for _ in 0..u64::MAX {
         match session.next()? {
             Next::Message(message) => {

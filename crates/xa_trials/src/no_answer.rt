@@ -12,6 +12,8 @@ pub enum NoAnswer {
     FieldCount,
     /// The row is none of those that the program knows.
     Malformed,
+    /// A store isn't opened as a keeper's.
+    NotOpened,
     /// A socket of this machine failed.
     Socket,
     /// The answer is there already.

@@ -10,7 +10,7 @@ use std::mem;
 
 /// How calls of one kind go: how many bytes each gives or takes at most, which one fails, and which
 /// are interrupted. They are counted from 1 on.
-#[derive(Clone, Copy, Drop)]
+#[derive(Clone, Copy)]
 pub struct CallPlan {
     /// How many bytes each gives or takes at most.
     size: usize,

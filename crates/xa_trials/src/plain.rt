@@ -10,9 +10,11 @@ use xa_value::{DataType, Plain, Text, TextRef, Value};
 pub fn plain(answer: &mut Answer, name: &str, member: &str) -> Result<(), NoAnswer> {
     let data_type = type_named(name)?;
     let (kind, field) = member.split_once(':').ok_or(NoAnswer::Malformed)?;
-    let text = text_of(answer.alloc(), field)?;
     match kind {
-        "text" => push_both(answer, data_type, &Plain::Text(TextRef::new(text.as_str()))),
+        "text" => {
+            let text = text_of(answer.alloc(), field)?;
+            push_both(answer, data_type, &Plain::Text(TextRef::new(text.as_str())))
+        }
         "boolean" => push_both(answer, data_type, &Plain::Boolean(number_of(field)?)),
         "integer" => push_both(answer, data_type, &Plain::Integer(number_of(field)?)),
         _ => Err(NoAnswer::Malformed),

@@ -1,50 +1,39 @@
-//! Rows of events that are played: as rows of connections, of the calls of a front and of moments alone.
+//! Rows of events that are played, each as a list of its own: as rows of connections, of the calls of a front
+//! and of moments alone.
 use crate::answer::Answer;
 use crate::clock::moment_of;
 use crate::connections::FrontTrial;
 use crate::field::{bytes_of, word_and_text};
-use crate::keepers::{KeeperRow, Reopen, run_over_both};
+use crate::front_calls::play;
 use crate::no_answer::NoAnswer;
 use crate::runs::push_answer;
-use crate::server::is_of_setup;
+use crate::setup::Setup;
 use xa_records::Records;
 use xa_server::{Event, FrontError, Outcome};
-use xa_value::Moment;
 
-/// Plays the call that the word and the text behind it say, at the moment. No outcome where it is
-/// made already.
+/// Plays the call that the word and the text behind it say, alone.
 fn outcomes_of<R: Records + Drop>(
     trial: &mut FrontTrial<R>,
-    moment: Moment,
     word: &str,
     text: &str,
 ) -> Result<Vec<Outcome>, NoAnswer> {
     match word {
-        "begin" => Ok(trial.front.play(&[Event::Begin])?),
+        "begin" => play(&mut trial.front, &[Event::Begin]),
         "piece" => {
             let (number, field) = text.split_once(':').ok_or(NoAnswer::Malformed)?;
             let conn = trial.conn(number)?;
             let piece = bytes_of(trial.alloc, field)?;
-            Ok(trial.front.play(&[Event::Piece(conn, &piece)])?)
+            play(&mut trial.front, &[Event::Piece(conn, &piece)])
         }
         "answer" => {
             let conn = trial.conn(text)?;
-            Ok(trial.front.play(&[Event::Answer(conn, moment)])?)
+            play(&mut trial.front, &[Event::Answer(conn, trial.moment)])
         }
         "finish" => {
             let conn = trial.conn(text)?;
-            Ok(trial.front.play(&[Event::Finish(conn)])?)
+            play(&mut trial.front, &[Event::Finish(conn)])
         }
-        _ if is_of_setup(word) => Ok(Vec::new(trial.alloc)),
         _ => Err(NoAnswer::Malformed),
-    }
-}
-
-/// Adds why a call was refused.
-fn push_error(answer: &mut Answer, error: FrontError) {
-    match error {
-        FrontError::Memory => answer.cut(),
-        refusal => answer.push_shown("!", &refusal),
     }
 }
 
@@ -58,34 +47,39 @@ fn push_outcome<R: Records + Drop>(answer: &mut Answer, trial: &FrontTrial<R>, o
         Outcome::Begun(Err(error))
         | Outcome::Held(Err(error))
         | Outcome::Answered(Err(error))
-        | Outcome::Finished(Err(error)) => push_error(answer, error),
+        | Outcome::Finished(Err(error)) => match error {
+            FrontError::Memory => answer.cut(),
+            refusal => answer.push_shown("!", &refusal),
+        },
     }
 }
 
-/// A row of events that are played.
-#[derive(Drop)]
-struct PlayedRow<'a>(&'a [&'a str]);
-
-impl KeeperRow for PlayedRow<'_> {
-    fn run<R: Reopen + Drop>(&self, answer: &mut Answer, records: R) -> Result<(), NoAnswer> {
-        let mut trial = FrontTrial::new(answer, records, self.0)?;
-        let mut moment = trial.moment;
-        for event in self.0 {
-            let (word, text) = word_and_text(event);
-            if word == "moment" {
-                moment = moment_of(text)?;
-            } else {
-                for outcome in outcomes_of(&mut trial, moment, word, text)? {
-                    push_outcome(answer, &trial, outcome);
-                }
+/// Plays the events, one after another, and adds what each was answered.
+fn play_all<R: Records + Drop>(
+    answer: &mut Answer,
+    trial: &mut FrontTrial<R>,
+    events: &[&str],
+) -> Result<(), NoAnswer> {
+    for event in events {
+        let (word, text) = word_and_text(event);
+        if word == "moment" {
+            trial.moment = moment_of(text)?;
+        } else {
+            for outcome in outcomes_of(trial, word, text)? {
+                push_outcome(answer, trial, outcome);
             }
         }
-        Ok(())
     }
+    Ok(())
 }
 
-/// What a front answers to the events, which are played: over a keeper in memory, and over tables,
-/// which have to answer the same.
-pub fn played(answer: &mut Answer, events: &[&str]) -> Result<(), NoAnswer> {
-    run_over_both(answer, &PlayedRow(events))
+/// Plays the events on a front over a server over the keeper.
+pub fn run_played_events<R: Records + Drop>(
+    answer: &mut Answer,
+    records: R,
+    setup: &Setup,
+    events: &[&str],
+) -> Result<(), NoAnswer> {
+    let mut trial = FrontTrial::new(answer, records, setup)?;
+    play_all(answer, &mut trial, events)
 }

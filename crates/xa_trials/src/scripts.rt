@@ -21,18 +21,33 @@ pub fn server_over<R: Records + Drop>(
 
 /// A script as far as it is read.
 #[derive(Drop)]
-struct ScriptReader {
+pub struct ScriptReader {
     /// The stream.
     session: Session,
     /// The moment of what follows.
     moment: Moment,
     /// The messages, each with its moment.
-    messages: Vec<(Moment, Message)>,
+    pub messages: Vec<(Moment, Message)>,
 }
 
 impl ScriptReader {
-    /// Takes the whole messages off the stream, which has to want more then.
-    fn take_messages(&mut self) -> Result<(), NoAnswer> {
+    /// Nothing is read. What follows has that moment.
+    pub fn new(alloc: Global, moment: Moment) -> ScriptReader {
+        ScriptReader {
+            session: Session::new(alloc),
+            moment,
+            messages: Vec::new(alloc),
+        }
+    }
+
+    /// Takes in an event, and takes the whole messages off the stream, which has to want more then.
+    pub fn read(&mut self, alloc: Global, event: &str) -> Result<(), NoAnswer> {
+        let (word, text) = word_and_text(event);
+        match word {
+            "moment" => self.moment = moment_of(text)?,
+            "made" | "piece" => self.session.feed(&bytes_of(alloc, text)?)?,
+            _ => return Err(NoAnswer::Malformed),
+        }
         for _ in 0..u64::MAX {
             match self.session.next()? {
                 Next::Message(message) => self.messages.push((self.moment, message))?,
@@ -42,29 +57,11 @@ impl ScriptReader {
         }
         Ok(())
     }
-
-    /// Takes in an event.
-    fn read(&mut self, alloc: Global, event: &str) -> Result<(), NoAnswer> {
-        let (word, text) = word_and_text(event);
-        match word {
-            "moment" => self.moment = moment_of(text)?,
-            "made" | "piece" => {
-                self.session.feed(&bytes_of(alloc, text)?)?;
-                self.take_messages()?;
-            }
-            _ => return Err(NoAnswer::Malformed),
-        }
-        Ok(())
-    }
 }
 
 /// The messages of the script, each with its moment.
 pub fn messages_of(alloc: Global, events: &[&str]) -> Result<Vec<(Moment, Message)>, NoAnswer> {
-    let mut reader = ScriptReader {
-        session: Session::new(alloc),
-        moment: moment_of("0")?,
-        messages: Vec::new(alloc),
-    };
+    let mut reader = ScriptReader::new(alloc, moment_of("0")?);
     for event in events {
         reader.read(alloc, event)?;
     }

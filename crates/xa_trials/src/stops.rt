@@ -33,10 +33,16 @@ fn push_file(all: &mut Vec<u8>, file: &File) -> Result<(), NoAnswer> {
     Ok(())
 }
 
-/// Adds the bytes of both files.
-fn push_files(all: &mut Vec<u8>, files: &Files<File>) -> Result<(), NoAnswer> {
-    push_file(all, &files.log)?;
-    push_file(all, &files.db)
+/// Adds the bytes of both files, at both ends of a crash.
+fn push_files(
+    all: &mut Vec<u8>,
+    synced: &Files<File>,
+    written: &Files<File>,
+) -> Result<(), NoAnswer> {
+    push_file(all, &synced.log)?;
+    push_file(all, &synced.db)?;
+    push_file(all, &written.log)?;
+    push_file(all, &written.db)
 }
 
 /// A script that is run again and again, and what its stops have struck.
@@ -61,6 +67,18 @@ impl Stopping {
         Err(NoAnswer::Answered)
     }
 
+    /// Takes up behind the stop what a crash has left at both of its ends.
+    fn resume_both(
+        &self,
+        answer: &mut Answer,
+        synced: Files<File>,
+        written: Files<File>,
+        stop: Stop,
+    ) -> Result<(), NoAnswer> {
+        self.resume(answer, synced, stop)?;
+        self.resume(answer, written, stop)
+    }
+
     /// Takes a crash of the files, and takes up what it leaves at both of its ends. What a crash has left
     /// the last time isn't asked again.
     fn resume_after_crash(
@@ -72,14 +90,11 @@ impl Stopping {
         let alloc = answer.alloc();
         let (synced, written) = after_crash(alloc, files)?;
         let mut left = Vec::new(alloc);
-        push_files(&mut left, &synced)?;
-        push_files(&mut left, &written)?;
-        if self.sweep.has_left(stop.struck, left.as_slice()) {
+        push_files(&mut left, &synced, &written)?;
+        if !self.sweep.note(stop.struck, left) {
             return Ok(());
         }
-        self.sweep.note(stop.struck, left);
-        self.resume(answer, synced, stop)?;
-        self.resume(answer, written, stop)
+        self.resume_both(answer, synced, written, stop)
     }
 
     /// Runs the script with the file frozen behind so many calls, and goes on after the stop. Whether one
@@ -108,26 +123,31 @@ impl Stopping {
         }
         Ok(())
     }
+
+    /// Stops at each call, adds what was struck, and takes up the files that were never frozen.
+    fn run(&mut self, answer: &mut Answer) -> Result<(), NoAnswer> {
+        self.stop_at_each(answer)?;
+        self.sweep.push(answer);
+        let files = files_of(answer.alloc(), &self.script.files, self.frozen, u64::MAX)?;
+        let stop = Stop {
+            calls: u64::MAX,
+            struck: 0,
+        };
+        self.resume(answer, files, stop)
+    }
 }
 
 /// How many stops come where the file that the word names is frozen at each of its calls in turn, and
 /// which messages they strike. After each the rest of the script is answered as it has to be, and so is
 /// all of it where none comes.
-pub fn stops(answer: &mut Answer, word: &str, events: &[&str]) -> Result<(), NoAnswer> {
-    let alloc = answer.alloc();
-    let script = script_of(alloc, events)?;
-    let sweep = Sweep::new(alloc, script.messages.len())?;
+pub fn stops(answer: &mut Answer, word: &str, fields: &[&str]) -> Result<(), NoAnswer> {
+    let frozen = file_named(word)?;
+    let script = script_of(answer.alloc(), fields)?;
+    let sweep = Sweep::new(answer.alloc(), script.messages.len())?;
     let mut stopping = Stopping {
         script,
-        frozen: file_named(word)?,
+        frozen,
         sweep,
     };
-    stopping.stop_at_each(answer)?;
-    stopping.sweep.push(answer);
-    let files = files_of(alloc, &stopping.script.files, stopping.frozen, u64::MAX)?;
-    let stop = Stop {
-        calls: u64::MAX,
-        struck: 0,
-    };
-    stopping.resume(answer, files, stop)
+    stopping.run(answer)
 }

@@ -1,24 +1,20 @@
-//! Rows of servers over a store that was there: fields `sql:SQL` are statements, which are run in an
-//! empty store; then the keeper is opened over it, and the other fields are the events of a server.
+//! Rows of servers over a store that was there. First come fields `sql:SQL`, statements which are run in an
+//! empty store; then the keeper is opened over it, and the other fields are a row of a server.
 use crate::answer::Answer;
-use crate::keepers::{connection, run_statements};
+use crate::field::leading_and_rest;
+use crate::keepers::{connection_after, opened_keeper};
 use crate::no_answer::{NoAnswer, answered};
 use crate::server::run_server_events;
-use xa_store::SqlRecords;
+use crate::setup::setup_and_events;
 
 /// What the server answers to the events; or why the keeper isn't opened.
 pub fn stored(answer: &mut Answer, fields: &[&str]) -> Result<(), NoAnswer> {
     let alloc = answer.alloc();
-    let mut conn = connection(alloc)?;
-    let mut events = Vec::new(alloc);
-    for field in fields {
-        match field.strip_prefix("sql:") {
-            Some(sql) => run_statements(alloc, &mut conn, sql)?,
-            None => events.push(*field)?,
-        }
-    }
-    match SqlRecords::open(alloc, conn) {
-        Ok(records) => answered(run_server_events(answer, records, &events)),
+    let (statements, fields) = leading_and_rest(fields, "sql");
+    let (setup, events) = setup_and_events(alloc, fields)?;
+    let conn = connection_after(alloc, statements)?;
+    match opened_keeper(alloc, conn) {
+        Ok(records) => answered(run_server_events(answer, records, &setup, events)),
         Err((error, _)) => {
             answer.push_shown("!", &error);
             Ok(())

@@ -1,14 +1,11 @@
-//! Rows of a keeper that fails: a script of messages over keepers of which each fails at another
-//! call, and a server's row over a keeper that fails at one.
+//! Rows of a keeper that fails: a script of messages over keepers of which each fails at another call.
 use crate::answer::Answer;
 use crate::calls::{CALLS, Call};
 use crate::failing_records::FailingRecords;
-use crate::field::number_of;
 use crate::front_calls::serve;
-use crate::keepers::{KeeperRow, Reopen, run_over_both, tables};
+use crate::keepers::tables;
 use crate::no_answer::NoAnswer;
 use crate::scripts::{messages_of, server_over};
-use crate::server::run_server_events;
 use sqlite::MemStore;
 use std::alloc::Global;
 use xa_http::Message;
@@ -69,43 +66,58 @@ fn refusals<R: Records, S: Records>(
     Some(count)
 }
 
-/// Runs the script over a keeper whose call after so many others fails: as many messages are
-/// refused as calls have failed.
+/// What the messages show of a server over a keeper of which a call fails, beside one that is spared: as many
+/// messages are refused as calls have failed.
+fn verdict_of<R: Records + Drop>(
+    mut server: Server<FailingRecords<R>>,
+    spared: &mut Server<R>,
+    messages: &[(Moment, Message)],
+) -> Verdict {
+    let count = refusals(&mut server, spared, messages);
+    let records = server.into_records();
+    if count != Some(records.faults()) {
+        return Verdict::Differs;
+    }
+    match records.failed() {
+        Some(call) => Verdict::Failed(call),
+        None => Verdict::AllMade,
+    }
+}
+
+/// Runs the script over a keeper whose call after so many others fails, beside a server that is spared.
+fn run_beside<R: Begin + Drop>(
+    alloc: Global,
+    spared: &mut Server<R>,
+    messages: &[(Moment, Message)],
+    left: u64,
+) -> Result<Verdict, NoAnswer> {
+    let records = FailingRecords::new(R::begin(alloc)?, left);
+    let server = server_over(alloc, records)?;
+    Ok(verdict_of(server, spared, messages))
+}
+
+/// Runs the script over a keeper whose call after so many others fails.
 fn run_once<R: Begin + Drop>(
     alloc: Global,
     messages: &[(Moment, Message)],
     left: u64,
 ) -> Result<Verdict, NoAnswer> {
-    let mut server = server_over(alloc, FailingRecords::new(R::begin(alloc)?, left))?;
     let mut spared = server_over(alloc, R::begin(alloc)?)?;
-    let count = refusals(&mut server, &mut spared, messages);
-    let records = server.into_records();
-    if count != Some(records.faults()) {
-        return Ok(Verdict::Differs);
-    }
-    match records.failed() {
-        Some(call) => Ok(Verdict::Failed(call)),
-        None => Ok(Verdict::AllMade),
-    }
-}
-
-/// How often the call is among these.
-fn count_of(calls: &[Call], call: Call) -> usize {
-    let mut count = 0usize;
-    for other in calls {
-        if *other == call {
-            count = count.saturating_add(1);
-        }
-    }
-    count
+    run_beside(alloc, &mut spared, messages, left)
 }
 
 /// Adds how many calls failed in turn, and how many of each kind.
 fn push_calls(answer: &mut Answer, failed: &[Call]) {
     answer.push_shown("calls ", &failed.len());
     for call in &CALLS {
+        let mut count = 0usize;
+        for other in failed {
+            if *other == *call {
+                count = count.saturating_add(1);
+            }
+        }
         answer.push_shown("", call);
-        answer.append_shown(" ", &count_of(failed, *call));
+        answer.append_shown(" ", &count);
     }
 }
 
@@ -134,34 +146,16 @@ fn each_in_turn<R: Begin + Drop>(
 
 /// How many calls of the keeper the script makes, each of which failed in turn: over a keeper in
 /// memory, and over tables, to which the same has to come.
-pub fn tripped(answer: &mut Answer, events: &[&str]) -> Result<(), NoAnswer> {
-    let alloc = answer.alloc();
-    let messages = messages_of(alloc, events)?;
-    each_in_turn::<PlainRecords>(answer, &messages)?;
-    let mut other = Answer::new(alloc);
-    each_in_turn::<SqlRecords<MemStore>>(&mut other, &messages)?;
+fn each_over_both(answer: &mut Answer, messages: &[(Moment, Message)]) -> Result<(), NoAnswer> {
+    each_in_turn::<PlainRecords>(answer, messages)?;
+    let mut other = Answer::new(answer.alloc());
+    each_in_turn::<SqlRecords<MemStore>>(&mut other, messages)?;
     answer.compare(&other);
     Ok(())
 }
 
-/// A row of messages over a keeper of which one call fails.
-#[derive(Drop)]
-struct TrippedRow<'a> {
-    /// How many calls are made before the one that fails.
-    left: u64,
-    /// The events.
-    events: &'a [&'a str],
-}
-
-impl KeeperRow for TrippedRow<'_> {
-    fn run<R: Reopen + Drop>(&self, answer: &mut Answer, records: R) -> Result<(), NoAnswer> {
-        run_server_events(answer, FailingRecords::new(records, self.left), self.events)
-    }
-}
-
-/// What a server answers over a keeper whose call after so many others fails: one in memory, and
-/// one over tables, which has to answer the same.
-pub fn tripped_after(answer: &mut Answer, left: &str, events: &[&str]) -> Result<(), NoAnswer> {
-    let left = number_of(left)?;
-    run_over_both(answer, &TrippedRow { left, events })
+/// The same, of the script of these events.
+pub fn tripped(answer: &mut Answer, events: &[&str]) -> Result<(), NoAnswer> {
+    let messages = messages_of(answer.alloc(), events)?;
+    each_over_both(answer, &messages)
 }

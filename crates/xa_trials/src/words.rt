@@ -34,7 +34,7 @@ pub struct Words {
 }
 
 /// A repeated text: where it begins, and the numbers that it has, or only how often it stands there.
-#[derive(Clone, Copy, Drop)]
+#[derive(Clone, Copy)]
 struct Repeated {
     /// Where it begins.
     start: usize,
@@ -68,9 +68,12 @@ impl Words {
         }
     }
 
-    /// Defines the word by what stands in front of the first tab.
+    /// Defines the word that stands before the first tab by what stands behind it. A word is defined once.
     pub fn define(&mut self, definition: &str) -> Result<(), NoAnswer> {
         let (word, text) = definition.split_once('\t').unwrap_or((definition, ""));
+        if self.text(word).is_ok() {
+            return Err(NoAnswer::Malformed);
+        }
         self.words.push(Word {
             word: String::from_str(self.alloc, word)?,
             text: String::from_str(self.alloc, text)?,
@@ -96,11 +99,7 @@ impl Words {
             text: Escapes::new(self.alloc),
             repeated: Vec::new(self.alloc),
         };
-        for part in line.split('\\') {
-            if let Some((letter, rest)) = row.text.take(part, b"\\\\")? {
-                row.escape(part, letter, rest)?;
-            }
-        }
+        row.take(line)?;
         String::from_utf8(row.text.into_bytes())
             .ok()
             .ok_or(NoAnswer::Malformed)
@@ -108,6 +107,20 @@ impl Words {
 }
 
 impl Row<'_> {
+    /// Takes the line. Each repeated text has its end in it.
+    fn take(&mut self, line: &str) -> Result<(), NoAnswer> {
+        for part in line.split('\\') {
+            if let Some((letter, rest)) = self.text.take(part, b"\\\\")? {
+                self.escape(part, letter, rest)?;
+            }
+        }
+        if self.repeated.is_empty() {
+            Ok(())
+        } else {
+            Err(NoAnswer::Malformed)
+        }
+    }
+
     /// Takes the letter of an escape and the bytes after it, which are that part.
     fn escape(&mut self, part: &str, letter: u8, rest: &[u8]) -> Result<(), NoAnswer> {
         match letter {

@@ -34,8 +34,8 @@ from views import Decisions, Links
 
 
 # The kinds of rows, and of each how many there are to how many others.
-SHARES = {"values": 16, "expressions": 30, "requests": 15, "documents": 10, "links": 4, "decisions": 10, "servers": 1, "rooms": 1, "sockets": 1,
-          "fronts": 1, "drives": 1, "stores": 1, "bodies": 8, "records": 6, "limits": 2}
+SHARES = {"values": 16, "expressions": 30, "requests": 15, "documents": 10, "links": 4, "decisions": 10, "servers": 1,
+          "rooms": 1, "sockets": 1, "fronts": 1, "drives": 1, "stores": 1, "bodies": 8, "records": 6, "limits": 2}
 # One run of `rt try` answers at most 1 MiB, and gives up after ten minutes: this many rows a file, of this many bytes.
 ROWS_A_FILE, BYTES_A_FILE = 500, 1_500_000
 
@@ -51,10 +51,12 @@ class Rows:
         documents, decisions = Breaking(self), Decisions(self)
         exchanges = Exchanges(Commands(decisions, documents))
         mixing = Mixing(exchanges)
-        self.makers = {"values": self.of_values, "expressions": self.of_expressions, "requests": Bodies(self).next, "documents": documents.next,
-                       "links": Links(self).next, "decisions": decisions.next, "limits": Least(decisions).next, "servers": exchanges.next,
-                       "rooms": exchanges.rooms, "sockets": exchanges.sockets, "fronts": mixing.next, "drives": Drives(mixing).next, "stores": Storing(exchanges).next,
-                       "bodies": SmallBodies(self).next, "records": Keeping(self).next}
+        self.makers = {"values": self.of_values, "expressions": self.of_expressions, "requests": Bodies(self).next,
+                       "documents": documents.next, "links": Links(self).next, "decisions": decisions.next,
+                       "limits": Least(decisions).next, "servers": exchanges.next, "rooms": exchanges.rooms,
+                       "sockets": exchanges.sockets, "fronts": mixing.next, "drives": Drives(mixing).next,
+                       "stores": Storing(exchanges).next, "bodies": SmallBodies(self).next,
+                       "records": Keeping(self).next}
 
     def sound(self, data_type, name=""):
         """A text that reads, and that the named function is likely to take."""
@@ -94,7 +96,8 @@ class Rows:
 
     def moment(self):
         end = self.random.choice([0, -62_135_596_800, 253_402_300_799])
-        return ["moment", str(self.random.choice([end + self.random.randint(-2, 2), self.random.randint(-7 * 10**10, 3 * 10**11)]))]
+        near, anywhere = end + self.random.randint(-2, 2), self.random.randint(-7 * 10**10, 3 * 10**11)
+        return ["moment", str(self.random.choice([near, anywhere]))]
 
     def apply(self):
         name = self.random.choice(list(FUNCTIONS))
@@ -125,7 +128,8 @@ class Rows:
         if data_type == "time":
             pool += ["08:00:00Z", "09:00:00+01:00", "08:00:00", "07:00:00-01:00"]
         if data_type == "dateTime":
-            pool += ["2024-01-01T00:00:00Z", "2023-12-31T23:00:00-01:00", "2024-01-01T00:00:00", "2024-01-01T05:30:00+05:30"]
+            pool += ["2024-01-01T00:00:00Z", "2023-12-31T23:00:00-01:00", "2024-01-01T00:00:00",
+                     "2024-01-01T05:30:00+05:30"]
         return pool
 
     def bags(self):
@@ -148,7 +152,8 @@ class Rows:
     def inner(self, name):
         """A function of values that the higher-order function takes, and the types of its arguments."""
         while True:
-            inner = V1 + self.random.choice(["or", "and", "n-of"]) if self.texts.seldom(0.2) else self.random.choice(list(FUNCTIONS))
+            inner = (V1 + self.random.choice(["or", "and", "n-of"])
+                     if self.texts.seldom(0.2) else self.random.choice(list(FUNCTIONS)))
             types, gives = self.takes(inner), FUNCTIONS[inner][1]
             if (name == "map" or gives == "boolean") and (len(types) == 2 or types and not name.startswith("all-of-")):
                 return inner, types
@@ -160,19 +165,23 @@ class Rows:
         counts = self.random.choice([range(5), range(41)]) if len(types) < 3 or name != "any-of-any" else range(5)
         for place, data_type in enumerate(types):
             pool = [self.sound(data_type, inner) for _ in range(self.random.choice([1, 3, 3, 20]))]
-            is_bag = place == the_bag if name in ("any-of", "all-of", "map") else name != "any-of-any" or self.texts.seldom(0.6)
+            is_bag = (place == the_bag if name in ("any-of", "all-of", "map") else name != "any-of-any"
+                      or self.texts.seldom(0.6))
             given.append((data_type, self.some(pool, counts) if is_bag else pool[0]))
         return ["higher", uri, inner, *self.arguments(given)]
 
     def combine(self):
         """A combining algorithm over few or many children, some of whose targets aren't Match."""
         decisions = self.random.sample(DECISIONS, self.random.randint(1, len(DECISIONS)))
-        targets = self.random.choice([["Match"], ["Match", "NoMatch", "NoMatch", "NoMatch"], ["Match", "NoMatch", "NoMatch", "Indeterminate"]])
-        children = [f"{self.random.choice(decisions)}/{self.random.choice(targets)}" for _ in range(self.random.choice([0, 1, 2, 3, 5, 9]))]
+        targets = self.random.choice([["Match"], ["Match", "NoMatch", "NoMatch", "NoMatch"],
+                                      ["Match", "NoMatch", "NoMatch", "Indeterminate"]])
+        children = [f"{self.random.choice(decisions)}/{self.random.choice(targets)}"
+                    for _ in range(self.random.choice([0, 1, 2, 3, 5, 9]))]
         return ["combine", self.random.choice(ALGORITHMS), *(child.removesuffix("/Match") for child in children)]
 
     def of_values(self):
-        return self.random.choice([self.read, self.apply, self.bags, self.higher] * 3 + [self.compare, self.moment, self.combine])()
+        return self.random.choice([self.read, self.apply, self.bags, self.higher] * 3
+                                  + [self.compare, self.moment, self.combine])()
 
     def of_expressions(self):
         return self.random.choice([self.trees.evaluate] * 5 + [self.trees.target])()
@@ -213,14 +222,16 @@ def compare(answers, rows):
     differ = [it for it in zip(rows, wanted, answers) if it[1] != it[2]]
     for fields, by_model, found in differ[:20]:
         print(f"{line(fields)[:2000].rstrip()}\n    model    {by_model[:2000]}\n    program  {found[:2000]}")
-    faults = collections.Counter(field[:40] for by_model in wanted for field in by_model.split("\t") if re.fullmatch(r"![A-Z]\w+(\(.*\))?", field))
+    faults = collections.Counter(field[:40] for by_model in wanted
+                                 for field in by_model.split("\t") if re.fullmatch(r"![A-Z]\w+(\(.*\))?", field))
     kinds = collections.Counter(fields[0] for fields in rows)
     print(f"{len(answers)} of {len(rows)} rows answered, {len(differ)} otherwise than the model")
     print("rows: " + ", ".join(f"{kind} {count}" for kind, count in sorted(kinds.items())))
     print("refusals: " + ", ".join(f"{fault[1:]} {count}" for fault, count in sorted(faults.items())))
     differ_alone = sum(others for _, others in alone)
     if alone:
-        print(f"{sum(every for every, _ in alone)} connections in {len(alone)} rows, {differ_alone} answered otherwise than their streams in one piece")
+        print(f"{sum(every for every, _ in alone)} connections in {len(alone)} rows, "
+              f"{differ_alone} answered otherwise than their streams in one piece")
     return 0 if len(answers) == len(rows) and not differ and not differ_alone else 1
 
 

@@ -1,4 +1,5 @@
-"""Each domain alone: of a transcript the messages that name one domain, as a transcript of their own, and the replies to them among all others."""
+"""Each domain alone: of a transcript the messages that name one domain, as a transcript of their own, and the replies
+to them among all others."""
 from messages import Message
 from replays import Malformed, events
 from routes import owner
@@ -25,7 +26,8 @@ def owners(held):
 
 
 def alone(held, domain):
-    """The transcript of the domain's messages: the same bytes in the same order at the same moments, on one connection, which is closed behind a last one."""
+    """The transcript of the domain's messages: the same bytes in the same order at the same moments, on one
+    connection, which is closed behind a last one."""
     found = b""
     for event in all_events(held):
         if owner_of(event) == domain:
@@ -47,7 +49,8 @@ def replies_of(written):
 
 
 def told(held, written, domain):
-    """The replies to the domain's messages in what the program wrote to the transcript; None where it didn't answer each message."""
+    """The replies to the domain's messages in what the program wrote to the transcript; None where it didn't
+    answer each message."""
     found, replies = all_events(held), replies_of(written)
     if replies is None or len(replies) != len(found):
         return None

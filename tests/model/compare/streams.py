@@ -1,9 +1,9 @@
-"""Each connection alone: what came on it in one piece. The k-th reply that it gets among all others must be the reply to the k-th message of that stream, whatever the
-pieces of all connections and however they are mixed."""
+"""Each connection alone: what came on it in one piece. The k-th reply that it gets among all others must be the reply
+to the k-th message of that stream, whatever the pieces of all connections and however they are mixed."""
 from fronts import Answer, Connections, Front
 from messages import Fault, Message, Stream
 from replies import error_reply
-from servers import SETUP, set_up
+from servers import set_up, setup_and_events
 
 
 class Connection:
@@ -42,7 +42,8 @@ class Recorded(Front):
 
 
 def in_one_piece(held):
-    """The messages of a stream, and the fault behind them, if there is one; each with whether the stream has ended with it."""
+    """The messages of a stream, and the fault behind them, if there is one; each with whether the
+    stream has ended with it."""
     stream, found = Stream(), []
     stream.held = held
     while isinstance(it := stream.next(), (Message, Fault)):
@@ -55,7 +56,8 @@ def answers_in_order(server, front):
     streams = {id(it): iter(in_one_piece(it.held)) for it in front.connections}
     for connection, moment in front.order:
         found, is_last = next(streams[id(connection)], (None, False))
-        reply = server.answer(found, moment) if isinstance(found, Message) else error_reply(str(found)) if found else b""
+        reply = (server.answer(found, moment) if isinstance(found, Message) else error_reply(str(found))
+                 if found else b"")
         yield connection, Answer(reply, is_last)
 
 
@@ -63,10 +65,9 @@ def differing(fields):
     """How many connections a row has, and how many of them are answered otherwise than their stream in one piece."""
     made = Connections(set_up(fields))
     made.front = Recorded(made.front.server)
-    for field in fields:
+    for field in setup_and_events(fields)[1]:
         word, _, text = field.partition(":")
-        if word not in SETUP:
-            made.happen(word, text)
+        made.happen(word, text)
     wanted = {id(it): [] for it in made.front.connections}
     for connection, answer in answers_in_order(set_up(fields), made.front):
         wanted[id(connection)].append(answer)

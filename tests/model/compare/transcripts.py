@@ -1,9 +1,12 @@
-"""Makes random transcripts for the program pdpd, and compares what it writes to them with what the model does, and to each domain's messages alone.
+"""Makes random transcripts for the program pdpd, and compares what it writes to them with what the model does, and to
+each domain's messages alone.
 
-usage: transcripts.py make FOLDER SEED COUNT       writes the transcripts to FOLDER/made, and to FOLDER/alone, for each of them and each domain that its
-                                                   messages name, a transcript of these messages alone
-       transcripts.py compare FOLDER               compares: the program wrote what stands in FOLDER/written and FOLDER/written_alone, each time behind
-                                                   a line `== NAME`, and ended with the status in a line `case=NAME .. status=STATUS` of FOLDER/said
+usage: transcripts.py make FOLDER SEED COUNT       writes the transcripts to FOLDER/made, and to FOLDER/alone, for
+                                                   each of them and each domain that its messages name, a transcript
+                                                   of these messages alone
+       transcripts.py compare FOLDER               compares: the program wrote what stands in FOLDER/written and
+                                                   FOLDER/written_alone, each time behind a line `== NAME`, and ended
+                                                   with the status in a line `case=NAME .. status=STATUS` of FOLDER/said
        transcripts.py count SEED COUNT             counts what the model alone answers
 """
 import collections
@@ -26,8 +29,9 @@ from servers import OPERATOR_TOKEN, ROOTS, path
 from views import Decisions
 
 MESSAGES = 40
-BAD_HEADINGS = [b"64 0 1", b"0 0 1048577", b"0  0 1", b"0 0 1 ", b" 0 0 1", b"0 +0 1", b"-1 0 1", b"0 0 -1", b"0 0", b"", b"0 0 1 1", b"x 0 1",
-                b"0 0x1 1", b"0\t0 1", b"0 253402300800 1", b"0 -62135596801 1", b"0 0 " + b"0" * 61, b"0 0 1\r"]
+BAD_HEADINGS = [b"64 0 1", b"0 0 1048577", b"0  0 1", b"0 0 1 ", b" 0 0 1", b"0 +0 1", b"-1 0 1", b"0 0 -1", b"0 0",
+                b"", b"0 0 1 1", b"x 0 1", b"0 0x1 1", b"0\t0 1", b"0 253402300800 1", b"0 -62135596801 1",
+                b"0 0 " + b"0" * 61, b"0 0 1\r"]
 
 
 class Transcripts:
@@ -38,7 +42,8 @@ class Transcripts:
         self.commands = Commands(Decisions(rows), Breaking(rows))
         self.exchanges = Exchanges(self.commands)
         self.random, self.one_of, self.seldom = rows.random, rows.random.choice, rows.texts.seldom
-        # the entries of a transcript so far, the connections and the server behind them, and each connection's pieces that are to come
+        # the entries of a transcript so far, the connections and the server behind them, and each connection's
+        # pieces that are to come
         self.entries, self.connections, self.server, self.pieces = [], None, None, {}
 
     def number(self, number):
@@ -92,7 +97,8 @@ class Transcripts:
         """A domain that is made, asked, removed, and made and asked again."""
         found, body = [], self.commands.request()
         for _ in range(3):
-            found += self.opening(name) + [self.ask(name, body), self.known(self.exchanges.plain(self.commands.of("remove", name)))]
+            found += (self.opening(name)
+                      + [self.ask(name, body), self.known(self.exchanges.plain(self.commands.of("remove", name)))])
         return found[:-1]
 
     def alike(self, name, text):
@@ -103,11 +109,13 @@ class Transcripts:
         for command, body in ways:
             asking = self.commands.of(command, name)
             if command == "activate":
-                asking = asking._replace(path=path("domains", name, "pap", KIND_NAMES[key[0]], key[1], ".".join(map(str, key[2])), "active"))
+                asking = asking._replace(path=path("domains", name, "pap", KIND_NAMES[key[0]], key[1],
+                                                   ".".join(map(str, key[2])), "active"))
             yield self.known(self.exchanges.plain(asking._replace(body=body)))
 
     def turns(self, connection):
-        """Domains that decide by texts which are mostly equal, asked the same in turn, again and again at some moments, with a change of one of them now and then."""
+        """Domains that decide by texts which are mostly equal, asked the same in turn, again and again at some
+        moments, with a change of one of them now and then."""
         names, body = self.commands.names, self.commands.request()
         text = self.commands.decisions.drafts.text(self.commands.draft(names[0])).encode()
         for _ in range(self.one_of([2, 3, 4])):
@@ -117,20 +125,24 @@ class Transcripts:
                     self.send(connection, self.alike(name, text))
             for _ in range(self.one_of([1, 2])):
                 self.send(connection, [self.ask(name, body) for name in self.random.sample(names, len(names))])
-            name, change = self.one_of(names), self.one_of(["upload", "activate", "deactivate", "delete", "root", "source", "put", "drop", "remove"])
-            self.send(connection, [self.known(self.exchanges.plain(self.commands.of(change, name))), self.ask(name, body)])
+            name, change = self.one_of(names), self.one_of(["upload", "activate", "deactivate", "delete", "root",
+                                                            "source", "put", "drop", "remove"])
+            self.send(connection,
+                      [self.known(self.exchanges.plain(self.commands.of(change, name))), self.ask(name, body)])
 
     def burst(self):
-        """Many messages at once: such as make a domain anew; or ask several the same; or some documents, or as many documents or tokens as there may be, or nearly, or
-        one more."""
-        connection, name, kind = self.one_of(list(self.pieces)), self.one_of(list(self.server.states) or self.commands.names), self.random.random()
+        """Many messages at once: such as make a domain anew; or ask several the same; or some documents, or as many
+        documents or tokens as there may be, or nearly, or one more."""
+        connection, name, kind = (self.one_of(list(self.pieces)),
+                                  self.one_of(list(self.server.states) or self.commands.names), self.random.random())
         self.mix(0)
         self.add(connection, b"")
         if kind < 0.2:
             return self.send(connection, self.rebuilding(name))
         if kind < 0.75:
             return self.turns(connection)
-        many = self.commands.many_tokens(name) if kind < 0.85 else self.commands.many_documents(name, 12 if kind < 0.97 else self.one_of([1023, 1024, 1025]))
+        many = (self.commands.many_tokens(name) if kind < 0.85
+                else self.commands.many_documents(name, 12 if kind < 0.97 else self.one_of([1023, 1024, 1025])))
         return self.send(connection, map(self.exchanges.plain, many))
 
     def broken(self, entries):
@@ -140,7 +152,8 @@ class Transcripts:
         if self.seldom(0.4):
             return before + entry[:self.random.randrange(len(entry))]
         line, rest = entry.split(b"\n", 1)
-        return before + self.one_of([self.one_of(BAD_HEADINGS) + b"\n" + rest, line + b"\n" + rest[:-1] + b"x" + rest[-1:], b"\n" + entry])
+        return before + self.one_of([self.one_of(BAD_HEADINGS) + b"\n" + rest,
+                                     line + b"\n" + rest[:-1] + b"x" + rest[-1:], b"\n" + entry])
 
     def next(self):
         self.commands.begin(Server(OPERATOR_TOKEN), self.random.sample(NAMES, 3))
@@ -203,7 +216,8 @@ def compare_with_model(folder, found):
         written, by_program = found.get(path.name, b""), ended.get(path.name)
         if (written, by_program) != (by_model, str(status)):
             differ += 1
-            print(f"{path.name}: ended with {by_program}, by the model with {status}; wrote {len(written)} bytes, by the model {len(by_model)}")
+            print(f"{path.name}: ended with {by_program}, by the model with {status}; wrote {len(written)} bytes, "
+                  f"by the model {len(by_model)}")
     return counts, differ
 
 
@@ -224,7 +238,8 @@ def compare(folder):
     counts, differ = compare_with_model(folder, found)
     differ_alone = compare_alone(folder, found)
     transcripts, domains = (len(list((folder / name).iterdir())) for name in ("made", "alone"))
-    print(f"{transcripts} transcripts, {differ} otherwise than by the model; {domains} domains alone, {differ_alone} told otherwise")
+    print(f"{transcripts} transcripts, {differ} otherwise than by the model; {domains} domains alone, "
+          f"{differ_alone} told otherwise")
     print(shown(counts))
     return 1 if differ or differ_alone else 0
 

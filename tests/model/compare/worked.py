@@ -1,4 +1,5 @@
-"""Worked examples of all routes, answered by the model: one conversation after another, each with a server that has no domain yet.
+"""Worked examples of all routes, answered by the model: one conversation after another, each with a server
+that has no domain yet.
 
 usage: worked.py
 """
@@ -10,20 +11,26 @@ from messages import Stream
 from replies import error_reply, reply
 from servers import OPERATOR_TOKEN
 
-DONE, CREATED, UNAUTHORIZED = reply(200, b"{}"), reply(201, b"{}"), error_reply("Unauthorized", "WWW-Authenticate: Bearer\r\n")
+DONE, CREATED, UNAUTHORIZED = (reply(200, b"{}"), reply(201, b"{}"),
+                               error_reply("Unauthorized", "WWW-Authenticate: Bearer\r\n"))
 ADMIN, OPERATOR = b"acme-token-1", OPERATOR_TOKEN
-POLICY = (b'{"Policy":{"PolicyId":"urn:p","Version":"1.0","RuleCombiningAlgId":"urn:oasis:names:tc:xacml:3.0:rule-combining-algorithm:deny-overrides",'
+POLICY = (b'{"Policy":{"PolicyId":"urn:p","Version":"1.0",'
+          b'"RuleCombiningAlgId":"urn:oasis:names:tc:xacml:3.0:rule-combining-algorithm:deny-overrides",'
           b'"Rule":[{"RuleId":"r","Effect":"Permit"}]}}')
-CURRENT_TIME, TIME_IN_RANGE = '"urn:oasis:names:tc:xacml:1.0:environment:current-time"', '"urn:oasis:names:tc:xacml:2.0:function:time-in-range"'
-SUBJECT, SUBJECTS = "urn:oasis:names:tc:xacml:1.0:subject:subject-id", "urn:oasis:names:tc:xacml:1.0:subject-category:access-subject"
-FIRST, DENY_UNLESS = "1.0:policy-combining-algorithm:first-applicable", "3.0:policy-combining-algorithm:deny-unless-permit"
-ROOT, ACTIVE = b'{"PolicyIdReference":{"Id":"urn:p"}}', "/pap/policy/urn:p/1.0/active"
+CURRENT_TIME, TIME_IN_RANGE = ('"urn:oasis:names:tc:xacml:1.0:environment:current-time"',
+                               '"urn:oasis:names:tc:xacml:2.0:function:time-in-range"')
+SUBJECT, SUBJECTS = ("urn:oasis:names:tc:xacml:1.0:subject:subject-id",
+                     "urn:oasis:names:tc:xacml:1.0:subject-category:access-subject")
+FIRST, DENY_UNLESS = ("1.0:policy-combining-algorithm:first-applicable",
+                      "3.0:policy-combining-algorithm:deny-unless-permit")
+ROOT = b'{"PolicyIdReference":{"Id":"urn:p"}}'
 NOTHING = b'{"Request":{}}'
 
 
 def decided(decision, status="ok"):
     """The reply to an ask with one result and nothing else."""
-    body = f'{{"Response":[{{"Decision":"{decision}","Status":{{"StatusCode":{{"Value":"urn:oasis:names:tc:xacml:1.0:status:{status}"}}}}}}]}}'
+    body = (f'{{"Response":[{{"Decision":"{decision}",'
+            f'"Status":{{"StatusCode":{{"Value":"urn:oasis:names:tc:xacml:1.0:status:{status}"}}}}}}]}}')
     return reply(200, body.encode(), "xacml+json")
 
 
@@ -71,28 +78,36 @@ class Conversation:
 
 def targeted(must_be_present):
     """The policy with a target on the subject's id."""
-    designator = f'{{"Category":"AccessSubject","AttributeId":"{SUBJECT}","DataType":"string","MustBePresent":{must_be_present}}}'
-    match = '{"MatchId":"urn:oasis:names:tc:xacml:1.0:function:string-equal","AttributeValue":{"DataType":"string","Value":"alice"},"AttributeDesignator":%s}'
-    return POLICY.replace(b'"Permit"', b'"Permit","Target":{"AnyOf":[{"AllOf":[{"Match":[%b]}]}]}' % (match % designator).encode())
+    designator = (f'{{"Category":"AccessSubject","AttributeId":"{SUBJECT}","DataType":"string",'
+                  f'"MustBePresent":{must_be_present}}}')
+    match = ('{"MatchId":"urn:oasis:names:tc:xacml:1.0:function:string-equal",'
+             '"AttributeValue":{"DataType":"string","Value":"alice"},"AttributeDesignator":%s}')
+    return POLICY.replace(b'"Permit"',
+                          b'"Permit","Target":{"AnyOf":[{"AllOf":[{"Match":[%b]}]}]}' % (match % designator).encode())
 
 
 def returned(issuer=""):
     """The policy with an obligation that returns the roles of the subject."""
-    designator = f'{{"Category":"AccessSubject","AttributeId":"urn:role","DataType":"string","MustBePresent":false{issuer}}}'
+    designator = ('{"Category":"AccessSubject","AttributeId":"urn:role","DataType":"string",'
+                  f'"MustBePresent":false{issuer}}}')
     assignment = f'{{"AttributeId":"urn:a","Expression":{{"AttributeDesignator":{designator}}}}}'
-    duty = f'"ObligationExpressions":[{{"ObligationId":"urn:o","FulfillOn":"Permit","AttributeAssignmentExpression":[{assignment}]}}]'
+    duty = ('"ObligationExpressions":[{"ObligationId":"urn:o","FulfillOn":"Permit",'
+            f'"AttributeAssignmentExpression":[{assignment}]}}]')
     return POLICY[:-2] + b"," + duty.encode() + b"}}"
 
 
 def roles(texts):
     """The reply to an ask whose obligation returns these roles."""
-    each = [f'{{"AttributeId":"urn:a","DataType":"http://www.w3.org/2001/XMLSchema#string","Value":"{text}"}}' for text in texts]
+    each = [f'{{"AttributeId":"urn:a","DataType":"http://www.w3.org/2001/XMLSchema#string","Value":"{text}"}}'
+            for text in texts]
     assignment = f'"AttributeAssignment":[{",".join(each)}],' if each else ""
-    return reply(200, PERMIT.split(b"\r\n\r\n")[1].replace(b'"Status"', f'"Obligations":[{{{assignment}"Id":"urn:o"}}],"Status"'.encode(), 1), "xacml+json")
+    obligations = f'"Obligations":[{{{assignment}"Id":"urn:o"}}],'.encode()
+    return reply(200, PERMIT.split(b"\r\n\r\n")[1].replace(b'"Status"', obligations + b'"Status"', 1), "xacml+json")
 
 
 def policy_set(algorithm, reference, name="urn:s"):
-    held = f'"PolicySetId":"{name}","Version":"1.0","PolicyCombiningAlgId":"urn:oasis:names:tc:xacml:{algorithm}","Children":[{reference}]'
+    held = (f'"PolicySetId":"{name}","Version":"1.0",'
+            f'"PolicyCombiningAlgId":"urn:oasis:names:tc:xacml:{algorithm}","Children":[{reference}]')
     return f'{{"PolicySet":{{{held}}}}}'.encode()
 
 
@@ -139,7 +154,8 @@ def missing_attributes(it):
 def greatest_versions(it):
     it.make()
     for version, effect in (("1.9", "Permit"), ("1.10", "Deny"), ("2.0", "Permit")):
-        text = POLICY.replace(b"urn:p", b"urn:q").replace(b'"1.0"', f'"{version}"'.encode()).replace(b"Permit", effect.encode())
+        text = POLICY.replace(b"urn:p", b"urn:q").replace(b'"1.0"', f'"{version}"'.encode())
+        text = text.replace(b"Permit", effect.encode())
         it.say(CREATED, "POST /domains/acme/pap/policies", body=text)
     it.say(DONE, "PUT /domains/acme/pap/policy/urn:q/1.9/active")
     it.say(DONE, "PUT /domains/acme/pap/policy/urn:q/1.10/active")
@@ -150,7 +166,8 @@ def greatest_versions(it):
 
 def source(it):
     row = f'{{"Category":"{SUBJECTS}","Entity":"alice","AttributeId":"urn:role","DataType":"string","Value":"staff"}}'
-    shown = f'{{"AttributeId":"urn:role","Category":"{SUBJECTS}","DataType":"http://www.w3.org/2001/XMLSchema#string","Entity":"alice","Value":"staff"}}'
+    shown = (f'{{"AttributeId":"urn:role","Category":"{SUBJECTS}",'
+             '"DataType":"http://www.w3.org/2001/XMLSchema#string","Entity":"alice","Value":"staff"}')
     alice = f'{{"AttributeId":"{SUBJECT}","Value":"alice"}}'
     guest = f'{alice},{{"AttributeId":"urn:role","Value":"guest"}}'
     for name, text in (("acme", returned()), ("beta", returned(',"Issuer":"hr"'))):
@@ -165,19 +182,24 @@ def source(it):
 def issuers(it):
     """Rows of two kinds: a designator without issuer sees both, one with an issuer the rows by that one."""
     row = f'{{"Category":"{SUBJECTS}","Entity":"alice","AttributeId":"urn:role","DataType":"string"'
-    boss = (b'{"Row":[{"AttributeId":"urn:role","Category":"urn:oasis:names:tc:xacml:1.0:subject-category:access-subject",'
+    boss = (b'{"Row":[{"AttributeId":"urn:role",'
+            b'"Category":"urn:oasis:names:tc:xacml:1.0:subject-category:access-subject",'
             b'"DataType":"http://www.w3.org/2001/XMLSchema#string","Entity":"alice","Issuer":"hr","Value":"boss"}]}')
     alice = f'{{"AttributeId":"{SUBJECT}","Value":"alice"}}'
     guest = f'{alice},{{"AttributeId":"urn:role","Value":"guest"}}'
-    for name, issuer, plain, other in (("acme", "", ("staff", "boss"), ("guest",)), ("beta", ',"Issuer":"hr"', ("boss",), ("boss",)), ("gamma", ',"Issuer":"it"', (), ())):
+    for name, issuer, plain, other in (("acme", "", ("staff", "boss"), ("guest",)),
+                                       ("beta", ',"Issuer":"hr"', ("boss",), ("boss",)),
+                                       ("gamma", ',"Issuer":"it"', (), ())):
         it.permit(name, text=returned(issuer))
-        it.say(DONE, f"PUT /domains/{name}/pip", body=f'{{"Row":[{row},"Value":"staff"}},{row},"Issuer":"hr","Value":"boss"}}]}}'.encode())
+        it.say(DONE, f"PUT /domains/{name}/pip",
+               body=f'{{"Row":[{row},"Value":"staff"}},{row},"Issuer":"hr","Value":"boss"}}]}}'.encode())
         for asked, values in ((alice, plain), (guest, other)):
             it.ask(roles(values), f'{{"Request":{{"AccessSubject":{{"Attribute":[{asked}]}}}}}}'.encode(), domain=name)
     it.say(DONE, "PUT /domains/acme/pip", body=f'{{"Row":[{row},"Issuer":"hr","Value":"boss"}}]}}'.encode())
     it.say(reply(200, boss), "GET /domains/acme/pip")
     it.say(DONE, "PUT /domains/acme/pip", body=boss)
-    it.say(error_reply("BadValue"), "PUT /domains/acme/pip", body=f'{{"Row":[{row},"Issuer":null,"Value":"boss"}}]}}'.encode())
+    it.say(error_reply("BadValue"), "PUT /domains/acme/pip",
+           body=f'{{"Row":[{row},"Issuer":null,"Value":"boss"}}]}}'.encode())
     it.say(reply(200, boss), "GET /domains/acme/pip")
 
 
@@ -207,9 +229,12 @@ def domain_made_anew(it):
 
 
 def moments(it):
-    clock = f'{{"AttributeDesignator":{{"Category":"Environment","AttributeId":{CURRENT_TIME},"DataType":"time","MustBePresent":true}}}}'
-    one = f'{{"Apply":{{"FunctionId":"urn:oasis:names:tc:xacml:1.0:function:time-one-and-only","Expression":[{clock}]}}}}'
-    ends = ",".join(f'{{"AttributeValue":{{"DataType":"time","Value":"{text}"}}}}' for text in ("22:00:00Z", "06:00:00Z"))
+    clock = (f'{{"AttributeDesignator":{{"Category":"Environment","AttributeId":{CURRENT_TIME},'
+             '"DataType":"time","MustBePresent":true}}')
+    one = ('{"Apply":{"FunctionId":"urn:oasis:names:tc:xacml:1.0:function:time-one-and-only",'
+           f'"Expression":[{clock}]}}}}')
+    ends = ",".join(f'{{"AttributeValue":{{"DataType":"time","Value":"{text}"}}}}'
+                    for text in ("22:00:00Z", "06:00:00Z"))
     expression = f'"Condition":{{"Apply":{{"FunctionId":{TIME_IN_RANGE},"Expression":[{one},{ends}]}}}}'
     it.permit(text=POLICY.replace(b'"Permit"', b'"Permit",' + expression.encode()))
     it.ask(PERMIT, moment=82800)
@@ -264,7 +289,8 @@ def listings(it):
         it.say(CREATED, f"PUT /operator/domains/{name}", OPERATOR)
     it.say(reply(200, b'{"Domain":["a","b"]}'), "GET /operator/domains", OPERATOR)
     it.permit()
-    it.say(reply(200, b'{"Policy":[{"Active":true,"Id":"urn:p","Kind":"policy","Version":"1.0"}]}'), "GET /domains/acme/pap/policies")
+    it.say(reply(200, b'{"Policy":[{"Active":true,"Id":"urn:p","Kind":"policy","Version":"1.0"}]}'),
+           "GET /domains/acme/pap/policies")
     it.say(reply(200, POLICY), "GET /domains/acme/pap/policy/urn:p/1.0")
     it.say(DONE, "DELETE /domains/acme/pap/policy/urn:p/1.0/active")
     it.say(DONE, "DELETE /domains/acme/pap/policy/urn:p/1.0")
@@ -274,8 +300,9 @@ def listings(it):
     it.say(UNAUTHORIZED, "GET /domains/acme/pip")
 
 
-CONVERSATIONS = [first_decision, tokens, same_and_other_text, roots, missing_attributes, greatest_versions, source, issuers, two_domains, other_version,
-                 domain_made_anew, moments, circles, bodies_of_asks, most_documents, still_active, bodies_of_routes, listings]
+CONVERSATIONS = [first_decision, tokens, same_and_other_text, roots, missing_attributes, greatest_versions, source,
+                 issuers, two_domains, other_version, domain_made_anew, moments, circles, bodies_of_asks,
+                 most_documents, still_active, bodies_of_routes, listings]
 
 
 def main():

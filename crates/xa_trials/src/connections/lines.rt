@@ -1,6 +1,8 @@
 //! The connections of a front: what waits for each, and what it was answered.
+use crate::answer::Answer;
 use crate::front_calls::{answer_next, close, feed, open};
 use crate::no_answer::NoAnswer;
+use crate::runs::Runs;
 use std::alloc::Global;
 use xa_records::Records;
 use xa_server::{Conn, Front};
@@ -44,12 +46,12 @@ impl Output {
     }
 }
 
-/// All connections of the front, by their numbers. None is open then.
-pub fn lines_of<R: Records + Drop>(
+/// Adds all connections of the front, by their numbers. None is open then.
+pub fn add_lines<R: Records + Drop>(
     alloc: Global,
     front: &mut Front<R>,
-) -> Result<Vec<Line>, NoAnswer> {
-    let mut lines = Vec::new(alloc);
+    lines: &mut Vec<Line>,
+) -> Result<(), NoAnswer> {
     for _ in 0..CONNECTIONS {
         lines.push(Line {
             conn: open(front)?,
@@ -58,10 +60,30 @@ pub fn lines_of<R: Records + Drop>(
             output: Output::new(alloc),
         })?;
     }
-    for line in &lines {
+    for line in lines.iter() {
         close(front, line.conn)?;
     }
-    Ok(lines)
+    Ok(())
+}
+
+/// Asks for all answers that there are, and adds them. Whether the connection has ended with the last, if
+/// there were some.
+pub fn push_all<R: Records + Drop>(
+    front: &mut Front<R>,
+    conn: Conn,
+    moment: Moment,
+    answer: &mut Answer,
+    runs: &mut Runs,
+) -> Result<Option<bool>, NoAnswer> {
+    let mut is_last = None;
+    for _ in 0..u64::MAX {
+        let Some(given) = answer_next(front, conn, moment)? else {
+            return Ok(is_last);
+        };
+        runs.push(answer, given.reply.bytes(), false)?;
+        is_last = Some(given.last);
+    }
+    Ok(is_last)
 }
 
 /// Asks for all answers that there are.

@@ -1,8 +1,8 @@
 //! Changes that a row asks of a keeper of records.
 use crate::answer::Answer;
 use crate::bodies::rows_of;
-use crate::field::bytes_of;
-use crate::keeper::{KeeperCall, first_word_and_rest};
+use crate::field::{bytes_of, first_word_and_rest};
+use crate::keeper::KeeperCall;
 use crate::no_answer::NoAnswer;
 use crate::references::{key_in, key_of, root_of};
 use xa_notation::Role;

@@ -1,14 +1,14 @@
 //! Whether the rest of a script is answered as it has to be by a server over what a stop has left.
 use crate::files::{File, keeper_of};
-use crate::front_calls::serve;
+use crate::front_calls::{run, serve};
 use crate::no_answer::NoAnswer;
 use crate::scripts::server_over;
 use crate::stops::script::Script;
 use sqlite::{Alter, Files};
 use std::alloc::Global;
 use xa_http::Message;
-use xa_records::{PlainRecords, Records};
-use xa_server::Server;
+use xa_records::PlainRecords;
+use xa_server::{Reply, Server};
 use xa_store::SqlRecords;
 use xa_value::Moment;
 
@@ -19,50 +19,49 @@ fn serve_all(server: &mut Server<PlainRecords>, messages: &[(Moment, Message)], 
     }
 }
 
-/// A server over the keeper in memory, which has answered those of before and so many of the messages.
-fn server_after(
+/// The messages behind that one.
+fn messages_behind(script: &Script, struck: usize) -> &[(Moment, Message)] {
+    script.messages.get(struck..).unwrap_or(&[])
+}
+
+/// The replies to the messages behind that one, of a server over a keeper in memory that has answered those
+/// of before and so many of the messages.
+fn replies_behind(
     alloc: Global,
     script: &Script,
+    struck: usize,
     count: usize,
-) -> Result<Server<PlainRecords>, NoAnswer> {
+) -> Result<Vec<Reply>, NoAnswer> {
     let mut server = server_over(alloc, PlainRecords::new(alloc))?;
     serve_all(&mut server, &script.made, usize::MAX);
     serve_all(&mut server, &script.messages, count);
-    Ok(server)
+    run(&mut server, messages_behind(script, struck))
 }
 
-/// Whether the server answers the messages as one of the two others does.
-fn is_as_one_of<R: Records>(
-    server: &mut Server<R>,
-    first: &mut Server<PlainRecords>,
-    second: &mut Server<PlainRecords>,
-    messages: &[(Moment, Message)],
-) -> bool {
-    let (mut is_first, mut is_second) = (true, true);
-    for (moment, message) in messages {
-        let reply = serve(server, *moment, message);
-        if serve(first, *moment, message).bytes() != reply.bytes() {
-            is_first = false;
-        }
-        if serve(second, *moment, message).bytes() != reply.bytes() {
-            is_second = false;
+/// Whether the replies are of the same bytes, one by one.
+fn are_alike(left: &[Reply], right: &[Reply]) -> bool {
+    for (left, right) in left.iter().zip(right) {
+        if left.bytes() != right.bytes() {
+            return false;
         }
     }
-    is_first || is_second
+    left.len() == right.len()
 }
 
-/// Whether the server answers the messages behind that one as if it had never come, or as if it had been
-/// answered.
-fn goes_on<R: Records>(
+/// Whether the messages behind that one were answered as if it had never come, or as if it had been answered.
+fn are_right(
     alloc: Global,
-    server: &mut Server<R>,
     script: &Script,
     struck: usize,
+    replies: &[Reply],
 ) -> Result<bool, NoAnswer> {
-    let mut without = server_after(alloc, script, struck.saturating_sub(1))?;
-    let mut with = server_after(alloc, script, struck)?;
-    let messages = script.messages.get(struck..).unwrap_or(&[]);
-    Ok(is_as_one_of(server, &mut without, &mut with, messages))
+    for count in [struck.saturating_sub(1), struck] {
+        let others = replies_behind(alloc, script, struck, count)?;
+        if are_alike(replies, &others) {
+            return Ok(true);
+        }
+    }
+    Ok(false)
 }
 
 /// Whether a server over the keeper goes on behind that message.
@@ -73,7 +72,8 @@ fn keeper_goes_on<S: Alter + Drop>(
     struck: usize,
 ) -> Result<bool, NoAnswer> {
     let mut server = server_over(alloc, records)?;
-    goes_on(alloc, &mut server, script, struck)
+    let replies = run(&mut server, messages_behind(script, struck))?;
+    are_right(alloc, script, struck, &replies)
 }
 
 /// Whether the store in the files is opened, and a server over it goes on behind that message.

@@ -1,11 +1,12 @@
-//! Scripts of stops: what the store holds before the first message, and the messages. Fields `sql:SQL`
-//! are statements, which are run in an empty store before a keeper is opened over it; fields
-//! `made:BYTES` are messages by which a keeper comes to hold the same.
-use crate::field::word_and_text;
+//! Scripts of stops: what the store holds before the first message, and the messages. First come fields
+//! `sql:SQL`, statements which are run in an empty store before a keeper is opened over it, and then
+//! fields `made:BYTES`, messages by which a keeper comes to hold the same.
+use crate::field::leading_and_rest;
 use crate::files::{File, files_under, new_files};
+use crate::keepers::run_all;
 use crate::no_answer::NoAnswer;
 use crate::scripts::messages_of;
-use crate::stores::{empty_store, run_all};
+use crate::stores::empty_store;
 use sqlite::Files;
 use std::alloc::Global;
 use xa_http::Message;
@@ -34,20 +35,11 @@ fn files_after(alloc: Global, statements: &[&str]) -> Result<Files<File>, NoAnsw
 
 /// The script of these fields.
 pub fn script_of(alloc: Global, fields: &[&str]) -> Result<Script, NoAnswer> {
-    let mut statements = Vec::new(alloc);
-    let mut made = Vec::new(alloc);
-    let mut events = Vec::new(alloc);
-    for field in fields {
-        let (word, text) = word_and_text(field);
-        match word {
-            "sql" => statements.push(text)?,
-            "made" => made.push(*field)?,
-            _ => events.push(*field)?,
-        }
-    }
+    let (statements, rest) = leading_and_rest(fields, "sql");
+    let (made, events) = leading_and_rest(rest, "made");
     Ok(Script {
-        files: files_after(alloc, &statements)?,
-        made: messages_of(alloc, &made)?,
-        messages: messages_of(alloc, &events)?,
+        files: files_after(alloc, statements)?,
+        made: messages_of(alloc, made)?,
+        messages: messages_of(alloc, events)?,
     })
 }

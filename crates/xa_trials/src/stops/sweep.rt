@@ -33,28 +33,23 @@ impl Sweep {
         }
     }
 
-    /// Whether a crash left the same the last time, behind the same message.
-    pub fn has_left(&self, struck: usize, left: &[u8]) -> bool {
-        self.struck == struck && self.left.as_slice() == left
-    }
-
-    /// Notes what a crash has left behind that message.
-    pub fn note(&mut self, struck: usize, left: Vec<u8>) {
+    /// Notes what a crash has left behind that message. Whether the last one left something else, or
+    /// behind another.
+    pub fn note(&mut self, struck: usize, left: Vec<u8>) -> bool {
+        let is_new = self.struck != struck || self.left.as_slice() != left.as_slice();
         self.struck = struck;
         self.left = left;
-    }
-
-    /// How many stops there were.
-    fn stops(&self) -> u64 {
-        self.counts
-            .iter()
-            .fold(0u64, |stops, count| stops.saturating_add(*count))
+        is_new
     }
 
     /// Adds how many stops there were, and how many have struck each message, as `NUMBER COUNT`; 0 is
     /// before the first.
     pub fn push(&self, answer: &mut Answer) {
-        answer.push_shown("stops ", &self.stops());
+        let stops = self
+            .counts
+            .iter()
+            .fold(0u64, |stops, count| stops.saturating_add(*count));
+        answer.push_shown("stops ", &stops);
         for (number, count) in self.counts.iter().enumerate() {
             answer.push_shown("", &number);
             answer.append_shown(" ", count);

@@ -13,7 +13,8 @@ FIRST = "urn:oasis:names:tc:xacml:1.0:policy-combining-algorithm:first-applicabl
 
 
 def policy(name, version="1.0"):
-    return {"Policy": {"PolicyId": name, "Version": version, "RuleCombiningAlgId": BEGINNING + "rule-combining-algorithm:deny-overrides",
+    return {"Policy": {"PolicyId": name, "Version": version,
+                       "RuleCombiningAlgId": BEGINNING + "rule-combining-algorithm:deny-overrides",
                        "Rule": [{"RuleId": "r", "Effect": "Permit"}]}}
 
 
@@ -44,7 +45,8 @@ class Links:
         self.drafts = Drafts(rows)
 
     def reference(self):
-        return {self.one_of(["PolicyIdReference", "PolicySetIdReference", "PolicySetIdReference"]): self.drafts.reference()}
+        return {self.one_of(["PolicyIdReference", "PolicySetIdReference",
+                             "PolicySetIdReference"]): self.drafts.reference()}
 
     def children(self, depth):
         found = []
@@ -60,17 +62,20 @@ class Links:
         for _ in range(self.random.randint(0, 9)):
             name, version = self.one_of(self.drafts.ids), self.one_of(VERSIONS)
             found.append(policy(name, version) if self.seldom(0.3) else policy_set(name, self.children(2), version))
-        return found, self.root([place for draft in found for place in [key_of(draft)] if self.seldom(0.4) or place[0] == "set"])
+        return found, self.root([place for draft in found
+                                 for place in [key_of(draft)] if self.seldom(0.4) or place[0] == "set"])
 
     def root(self, keys):
         kind, name = self.one_of(keys) if keys and self.seldom(0.95) else ("set", self.one_of(self.drafts.ids))
-        return f"{kind}|{name}|{self.one_of([''] * 15 + PATTERNS)}|{self.one_of([''] * 60 + VERSIONS)}|{self.one_of([''] * 60 + VERSIONS)}"
+        bounds = [''] * 60 + VERSIONS
+        return f"{kind}|{name}|{self.one_of([''] * 15 + PATTERNS)}|{self.one_of(bounds)}|{self.one_of(bounds)}"
 
     def chain(self):
         """About as many sets one after another as may be on a path, and at the end a policy, a circle, or nothing."""
         count = self.one_of([3, 15, 16, 17, 18])
         found = [policy_set(f"urn:{place}", [to_set(f"urn:{place + 1}")]) for place in range(count - 1)]
-        last = self.one_of([[{"PolicyIdReference": {"Id": "urn:end"}}], [to_set("urn:0")], [to_set(f"urn:{count - 1}")], [policy("urn:x")], []])
+        last = self.one_of([[{"PolicyIdReference": {"Id": "urn:end"}}], [to_set("urn:0")], [to_set(f"urn:{count - 1}")],
+                            [policy("urn:x")], []])
         if self.seldom(0.3):
             last.append(policy_set("urn:y", [to_set(f"urn:{self.random.randrange(count)}")]))
         found += [policy_set(f"urn:{count - 1}", last), policy("urn:end")]
@@ -94,40 +99,49 @@ class Links:
 
     def version(self):
         """One of some hundred versions, many of which begin alike, and some of which are written in two ways."""
-        numbers = [self.one_of([1, 1, 2, 10]), *(self.one_of([0, 1, 2, 9, 10, 100]) for _ in range(self.one_of([0, 1, 1, 2, 6])))]
+        numbers = [self.one_of([1, 1, 2, 10]),
+                   *(self.one_of([0, 1, 2, 9, 10, 100]) for _ in range(self.one_of([0, 1, 1, 2, 6])))]
         return ".".join(self.one_of(["", "", "", "0"]) + str(number) for number in numbers)
 
     def pattern(self):
-        return ".".join(self.one_of([part] * 3 + ["*"]) for part in self.version().split(".")) + self.one_of(["", "", ".+"])
+        return (".".join(self.one_of([part] * 3 + ["*"]) for part in self.version().split("."))
+                + self.one_of(["", "", ".+"]))
 
     def many(self):
         """More references than are looked up one after another, to documents of few ids and many versions."""
         ids = ["urn:p", "urn:q", "urn:pp"]
-        keys = {("set" if self.seldom(0.2) else "policy", self.one_of(ids), self.version()) for _ in range(self.one_of([2, 9, 30, 60]))}
+        keys = {("set" if self.seldom(0.2) else "policy", self.one_of(ids), self.version())
+                for _ in range(self.one_of([2, 9, 30, 60]))}
 
         def reference(kind):
-            bounds = {name: make() for name, make, chance in (("Version", self.pattern, 0.7), ("EarliestVersion", self.version, 0.2), ("LatestVersion", self.version, 0.3))
-                      if self.seldom(chance)}
-            return {"PolicySetIdReference" if kind == "set" else "PolicyIdReference": {"Id": self.one_of(ids), **bounds}}
+            bounds = {name: make()
+                      for name, make, chance in (("Version", self.pattern, 0.7), ("EarliestVersion", self.version, 0.2),
+                                                 ("LatestVersion", self.version, 0.3)) if self.seldom(chance)}
+            word = "PolicySetIdReference" if kind == "set" else "PolicyIdReference"
+            return {word: {"Id": self.one_of(ids), **bounds}}
 
         algorithms = ["deny-overrides", "permit-overrides", "deny-unless-permit", "permit-unless-deny"]
         found = []
         for kind, name, version in sorted(keys):
-            draft = policy_set(name, [reference(self.one_of(["set", "policy"])) for _ in range(self.one_of([0, 1, 3]))], version) if kind == "set" else policy(name, version)
+            draft = policy_set(name, [reference(self.one_of(["set", "policy"])) for _ in range(self.one_of([0, 1, 3]))],
+                               version) if kind == "set" else policy(name, version)
             if kind == "policy":
-                draft["Policy"]["RuleCombiningAlgId"] = BEGINNING + "rule-combining-algorithm:" + self.one_of(algorithms)
+                draft["Policy"]["RuleCombiningAlgId"] = (BEGINNING + "rule-combining-algorithm:"
+                                                         + self.one_of(algorithms))
             found.append(draft)
         self.random.shuffle(found)
         children = [reference(self.one_of(["policy"] * 4 + ["set"])) for _ in range(self.one_of([23, 24, 25, 40, 90]))]
         return [policy_set("urn:root", children), *found], "set|urn:root|||"
 
     def next(self):
-        found, root = self.one_of([self.graph] * 60 + [self.chain] * 30 + [self.doubling] * 5 + [self.wide] + [self.many] * 10)()
+        found, root = self.one_of([self.graph] * 60 + [self.chain] * 30 + [self.doubling] * 5 + [self.wide]
+                                  + [self.many] * 10)()
         return ["link", root, *(encoded(self.drafts.text(draft)) for draft in found)]
 
 
 class Decisions:
-    """Rows of decisions, by documents that name attributes which the request, the source or the clock have, or by such that combine much."""
+    """Rows of decisions, by documents that name attributes which the request, the source or the clock have, or by
+    such that combine much."""
 
     def __init__(self, rows):
         self.rows, self.random, self.one_of, self.seldom = rows, rows.random, rows.random.choice, rows.texts.seldom
@@ -171,7 +185,8 @@ class Decisions:
                     ids.append(f"id{len(ids)}")
                     held["Id"] = ids[-1]
                 in_array = category not in SHORT or self.seldom(0.4)
-                found.setdefault("Category" if in_array else SHORT[category], []).append({"CategoryId": category, **held} if in_array else held)
+                objects = found.setdefault("Category" if in_array else SHORT[category], [])
+                objects.append({"CategoryId": category, **held} if in_array else held)
         if "Category" in found:
             self.random.shuffle(found["Category"])
         return found
@@ -180,7 +195,8 @@ class Decisions:
         ids = []
         found = self.objects(ids)
         if ids and self.seldom(0.2):
-            named = [[self.one_of(ids + ["none"] * self.seldom(0.1)) for _ in range(self.one_of([0, 1, 2, 3]))] for _ in range(self.one_of([1, 2, 3]))]
+            named = [[self.one_of(ids + ["none"] * self.seldom(0.1)) for _ in range(self.one_of([0, 1, 2, 3]))]
+                     for _ in range(self.one_of([1, 2, 3]))]
             found["MultiRequests"] = {"RequestReference": [{"ReferenceId": held} for held in named]}
         if self.seldom(0.02):
             found["CombinedDecision"] = self.seldom(0.5)

@@ -1,4 +1,5 @@
-"""Random attributes of a request, of a source and of nobody, near to one another, so that designators find some and miss others narrowly.
+"""Random attributes of a request, of a source and of nobody, near to one another, so that designators find some
+and miss others narrowly.
 
 A place is a data type, a category, an id and an issuer or None; an attribute is a place and the texts of its values.
 """
@@ -7,7 +8,8 @@ from identifiers import NAMESPACE, SHORTHANDS
 from rows import encoded, text_of
 from values import TYPES
 
-CATEGORIES = [SHORTHANDS[name] for name in ("AccessSubject", "Resource", "Action", "Environment", "Codebase")] + ["urn:c"]
+CATEGORIES = ([SHORTHANDS[name] for name in ("AccessSubject", "Resource", "Action", "Environment", "Codebase")]
+              + ["urn:c"])
 # the categories whose entity an attribute names, with its id
 NAMED = {SHORTHANDS["AccessSubject"]: IDS + "subject:subject-id", SHORTHANDS["Codebase"]: IDS + "subject:subject-id",
          SHORTHANDS["Resource"]: IDS + "resource:resource-id", SHORTHANDS["Action"]: IDS + "action:action-id"}
@@ -17,7 +19,8 @@ TRUE = ("boolean", "d", "e", None), ["true"]
 
 
 class World:
-    """The attributes of a row: those of its request and of its source, and places of all that its documents may name."""
+    """The attributes of a row: those of its request and of its source, and places of all that its
+    documents may name."""
 
     def __init__(self, rows):
         self.rows, self.random, self.one_of, self.seldom = rows, rows.random, rows.random.choice, rows.texts.seldom
@@ -34,13 +37,16 @@ class World:
     def place(self):
         category = self.one_of(CATEGORIES)
         data_type = self.one_of([*TYPES, "string", "string", "integer", "boolean"])
-        return data_type, category, self.one_of(["urn:a", "urn:b", NAMED.get(category, "urn:a")]), self.one_of([None, None, "i"])
+        return (data_type, category, self.one_of(["urn:a", "urn:b", NAMED.get(category, "urn:a")]),
+                self.one_of([None, None, "i"]))
 
     def varied(self, place):
         """The place with one part changed."""
         data_type, category, name, issuer = place
-        return self.one_of([(self.one_of(TYPES), category, name, issuer), (data_type, self.one_of(CATEGORIES), name, issuer),
-                            (data_type, category, self.one_of(["urn:a", "urn:b", "urn:A"]), issuer), (data_type, category, name, self.one_of([None, "i", "j", ""]))])
+        return self.one_of([(self.one_of(TYPES), category, name, issuer),
+                            (data_type, self.one_of(CATEGORIES), name, issuer),
+                            (data_type, category, self.one_of(["urn:a", "urn:b", "urn:A"]), issuer),
+                            (data_type, category, name, self.one_of([None, "i", "j", ""]))])
 
     def issuer_near(self, issuer):
         """The issuer of a row, mostly that one or none."""
@@ -72,8 +78,10 @@ class World:
 
     def clocks(self):
         """Places of what the clock gives, and of what it nearly does."""
-        found = [(data_type, ENVIRONMENT, name, self.one_of([None] * 4 + ["i"])) for name, data_type in sorted(CLOCK) if self.seldom(0.3)]
-        return found + [self.one_of([self.varied(place), (self.one_of(["date", "time", "dateTime"]), *place[1:])]) for place in found if self.seldom(0.3)]
+        found = [(data_type, ENVIRONMENT, name, self.one_of([None] * 4 + ["i"]))
+                 for name, data_type in sorted(CLOCK) if self.seldom(0.3)]
+        return found + [self.one_of([self.varied(place), (self.one_of(["date", "time", "dateTime"]), *place[1:])])
+                        for place in found if self.seldom(0.3)]
 
     def source(self):
         """The fields of the source's rows, most of them of the entities that the request names."""
@@ -82,7 +90,8 @@ class World:
             by = "" if issuer is None else f"|{issuer}"
             for text in texts:
                 usual = self.entities[category] if category in NAMED else ""
-                fields.append(f"row:{category}|{usual if self.seldom(0.7) else self.one_of(ENTITIES)}|{name}|{data_type}{by}={text}")
+                entity = usual if self.seldom(0.7) else self.one_of(ENTITIES)
+                fields.append(f"row:{category}|{entity}|{name}|{data_type}{by}={text}")
         return fields
 
     def attribute(self, place, texts):
@@ -100,4 +109,5 @@ class World:
 
     def attributes(self, category):
         """The attributes that the request gives in the category, now and then without one."""
-        return [self.attribute(place, texts) for place, texts in self.given if place[1] == category and self.seldom(0.9)]
+        return [self.attribute(place, texts)
+                for place, texts in self.given if place[1] == category and self.seldom(0.9)]

@@ -6,18 +6,20 @@ from functions import BAG_FUNCTIONS, BAG_SIGNATURES, DURATIONS, FUNCTIONS, HIGHE
 from rows import encoded
 from values import TYPES
 
-UNKNOWN = ["urn:x", V1 + "any-of", V1 + "map", V3 + "string-bag", V1 + "String-equal", V1 + "not ", V2 + "string-equal", V3 + "or", "or",
-           V1 + "dayTimeDuration-equal", V3 + "any-of-all", V1 + "string-equal-ignore-case", "", "é"]
+UNKNOWN = ["urn:x", V1 + "any-of", V1 + "map", V3 + "string-bag", V1 + "String-equal", V1 + "not ", V2 + "string-equal",
+           V3 + "or", "or", V1 + "dayTimeDuration-equal", V3 + "any-of-all", V1 + "string-equal-ignore-case", "", "é"]
 BY_RESULT = {}
 for uri, (_, gives, _) in FUNCTIONS.items():
     BY_RESULT.setdefault(gives, []).append(uri)
-IN_MATCHES = {(a, b): [uri for uri, (takes, gives, _) in FUNCTIONS.items() if gives == "boolean" and fits(takes, [a, b])]
+IN_MATCHES = {(a, b): [uri for uri, (takes, gives, _) in FUNCTIONS.items()
+                       if gives == "boolean" and fits(takes, [a, b])]
               for a in TYPES for b in TYPES}
 # Booleans that have none of the values, each for another reason.
 AT_FAULT = [(V3 + "boolean-from-string", ["string:x"]), (V1 + "boolean-one-and-only", ["some:boolean|c|none"]),
             (V1 + "integer-equal", [(V1 + "integer-divide", ["integer:1", "integer:0"]), "integer:1"])]
 # Matches at fault, where the boolean attribute e of d is there.
-MATCHES_AT_FAULT = [(V1 + "string-equal", ["string:x", "some:string|c|none"]), (V1 + "n-of", ["integer:2", "some:boolean|d|e"])]
+MATCHES_AT_FAULT = [(V1 + "string-equal", ["string:x", "some:string|c|none"]),
+                    (V1 + "n-of", ["integer:2", "some:boolean|d|e"])]
 PAIRS = [pair for pair, found in IN_MATCHES.items() if found]
 
 
@@ -43,7 +45,8 @@ class Trees:
         """Another row: the fields of its attributes."""
         self.attributes, self.variables, fields = [], [], []
         for _ in range(self.one_of([0, 1, 2, 4])):
-            place = self.one_of(TYPES), self.one_of(["c", "d"]), self.one_of(["a", "b"]), self.one_of([None, None, "i", "j"])
+            place = (self.one_of(TYPES), self.one_of(["c", "d"]), self.one_of(["a", "b"]),
+                     self.one_of([None, None, "i", "j"]))
             texts = [encoded(self.rows.sound(place[0])) for _ in range(self.one_of([1, 1, 2, 3]))]
             self.attributes.append((place, texts))
             fields += [f"has:{self.written(*place)}={text}" for text in texts]
@@ -58,7 +61,8 @@ class Trees:
         known = [place for place, _ in self.attributes if place[0] == data_type]
         if not known or self.seldom(0.1):
             word = "any:" if self.seldom(0.8) else word
-            return word + self.written(data_type, self.one_of(["c", "d"]), self.one_of(["a", "b"]), self.one_of([None, "i", "k"]))
+            return word + self.written(data_type, self.one_of(["c", "d"]), self.one_of(["a", "b"]),
+                                       self.one_of([None, "i", "k"]))
         place = self.one_of(known)
         return word + self.written(*place[:3], self.one_of([None, place[3]]))
 
@@ -90,7 +94,8 @@ class Trees:
     def children(self, kinds, depth, name):
         """Expressions of the kinds, of which one is deep."""
         deep = self.random.randrange(len(kinds)) if kinds else 0
-        return [self.tree(kind, depth - 1 if place == deep else self.one_of([0, 0, 0, 0, 1, 2]), name) for place, kind in enumerate(kinds)]
+        return [self.tree(kind, depth - 1 if place == deep else self.one_of([0, 0, 0, 0, 1, 2]), name)
+                for place, kind in enumerate(kinds)]
 
     def function_tree(self, kind, depth):
         uri = self.one_of(BY_RESULT[kind])
@@ -106,11 +111,13 @@ class Trees:
     def bag_apply(self, verb, data_type, depth):
         kinds = []
         for kind in BAG_SIGNATURES[verb][0]:
-            kinds += [kind.replace("T", data_type).rstrip("*")] * (self.one_of([0, 1, 2, 3]) if kind.endswith("*") else 1)
+            kinds += ([kind.replace("T", data_type).rstrip("*")]
+                      * (self.one_of([0, 1, 2, 3]) if kind.endswith("*") else 1))
         return bag_uri(self.one_of, verb, data_type), self.children(kinds, depth, verb)
 
     def asked_of_bags(self, _, depth):
-        return self.bag_apply(self.one_of(["is-in", "at-least-one-member-of", "subset", "set-equals"]), self.rows.texts.data_type(), depth)
+        return self.bag_apply(self.one_of(["is-in", "at-least-one-member-of", "subset", "set-equals"]),
+                              self.rows.texts.data_type(), depth)
 
     def bag_tree(self, data_type, depth):
         if data_type in BY_RESULT and self.seldom(0.3):
@@ -125,7 +132,8 @@ class Trees:
         name, count = self.one_of(["or", "and", "n-of", "n-of"]), self.one_of([1, 2, 3, 4])
         children = [self.one_of(["boolean:true", "boolean:false", self.one_of(AT_FAULT)]) for _ in range(count)]
         children[self.random.randrange(count)] = self.tree("boolean", depth - 1)
-        first = [self.tree("integer", depth - 1) if self.seldom(0.1) else f"integer:{self.random.randint(-1, count + 1)}"]
+        first = [self.tree("integer", depth - 1)
+                 if self.seldom(0.1) else f"integer:{self.random.randint(-1, count + 1)}"]
         return V1 + name, first * (name == "n-of") + children
 
     def higher_tree(self, _, depth):
@@ -136,13 +144,15 @@ class Trees:
         verb, the_bag = HIGHER_ORDER[uri], self.random.randrange(len(types))
         kinds = []
         for place, data_type in enumerate(types):
-            is_bag = place == the_bag if verb in ("any-of", "all-of", "map") else verb != "any-of-any" or self.seldom(0.6)
+            is_bag = (place == the_bag if verb in ("any-of", "all-of", "map") else verb != "any-of-any"
+                      or self.seldom(0.6))
             kinds.append(("bag " if is_bag else "") + data_type)
         return uri, [f"function:{inner}", *self.children(kinds, depth, inner)]
 
     def loose_higher(self):
         """A higher-order function of any function of values, and of values and bags where that one takes values."""
-        uri, inner = self.one_of(list(HIGHER_ORDER)), self.one_of([*FUNCTIONS, *[V1 + name for name in ("or", "and", "n-of", "not")] * 5])
+        uri, inner = (self.one_of(list(HIGHER_ORDER)),
+                      self.one_of([*FUNCTIONS, *[V1 + name for name in ("or", "and", "n-of", "not")] * 5]))
         kinds = [self.one_of(["", "bag "]) + data_type for data_type in self.rows.takes(inner)]
         if self.seldom(0.2):
             place = self.random.randrange(len(kinds) + 1)
@@ -166,11 +176,13 @@ class Trees:
         if not path:
             return change(tree)
         name, children = tree
-        return name, [self.changed(child, path[1:], change) if place == path[0] else child for place, child in enumerate(children)]
+        return name, [self.changed(child, path[1:], change) if place == path[0] else child
+                      for place, child in enumerate(children)]
 
     def name(self):
         data_type = self.rows.texts.data_type()
-        return self.one_of([self.one_of(list(FUNCTIONS)), self.one_of(list(HIGHER_ORDER)), encoded(self.one_of(UNKNOWN)),
+        return self.one_of([self.one_of(list(FUNCTIONS)), self.one_of(list(HIGHER_ORDER)),
+                            encoded(self.one_of(UNKNOWN)),
                             bag_uri(self.one_of, self.one_of(list(BAG_FUNCTIONS)), data_type)])
 
     def slip(self, tree):
@@ -184,7 +196,8 @@ class Trees:
         if self.seldom(0.1):
             return "variable:" + self.one_of(["u", "v", "w", "x", "y", "", "\\xc3\\xa9"])
         if self.seldom(0.2):
-            tree = self.one_of([tree, (self.name(), []), (V3 + "any-of", ["integer:1"]), "function:" + self.name(), self.loose_higher()])
+            tree = self.one_of([tree, (self.name(), []), (V3 + "any-of", ["integer:1"]), "function:" + self.name(),
+                                self.loose_higher()])
             for _ in range(self.one_of([1, 2, 5, 21, 22, 23, 24])):
                 tree = self.one_of([V1 + "and", V1 + "or", V1 + "not"]), [tree]
             return tree
@@ -193,12 +206,15 @@ class Trees:
         name, children = tree
         place = self.random.randrange(len(children) + 1)
         return self.one_of([
-            (self.name(), children), (name, children[:place] + children[place + 1:]), (name, children[:place] + children[place - 1:]),
+            (self.name(), children), (name, children[:place] + children[place + 1:]),
+            (name, children[:place] + children[place - 1:]),
             (name, self.random.sample(children, len(children))), (name, []),
         ])
 
     def expression(self, kind, faults):
-        tree = self.loose_higher() if faults and self.seldom(0.15) else self.tree(kind, self.one_of([1, 2, 2, 2, 3, 3, 3, 4, 4, 5, 6, 8, self.one_of([12, 22, 23, 24, 25, 26])]))
+        tree = (self.loose_higher() if faults and self.seldom(0.15) else
+                self.tree(kind, self.one_of([1, 2, 2, 2, 3, 3, 3, 4, 4, 5, 6, 8,
+                                             self.one_of([12, 22, 23, 24, 25, 26])])))
         for _ in range(faults - self.seldom(0.2) if faults else 0):
             tree = self.changed(tree, self.one_of(self.places(tree)), self.slip)
         return tree
@@ -230,6 +246,7 @@ class Trees:
         fields = self.begin() + ["has:boolean|d|e=true"]
         for _ in range(self.one_of([0, 1, 1, 2, 3])):
             for _ in range(self.one_of([1, 1, 2, 3])):
-                fields += [field for _ in range(self.one_of([1, 1, 2, 3])) for field in fields_of(self.match(0.2), "<", ">")] + ["|"]
+                fields += [field for _ in range(self.one_of([1, 1, 2, 3]))
+                           for field in fields_of(self.match(0.2), "<", ">")] + ["|"]
             fields.append(";")
         return ["target", *fields]

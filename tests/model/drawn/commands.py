@@ -1,4 +1,5 @@
-"""Random messages to a server: what is asked for, by whom, and with which body; mostly what fits the states of the domains, which are known."""
+"""Random messages to a server: what is asked for, by whom, and with which body; mostly what fits the states of the
+domains, which are known."""
 import collections
 
 from drafts import PATTERNS, written
@@ -16,8 +17,23 @@ WRONG_NAMES = [b"Acme", b"%ff", b"a" * 33, b"a%2fb", b"-a", b"%c3%a9", b"a_b"]
 WRONG_KINDS = [b"set", b"Policy", b"policies", b"root", b"policyset%00", b"%ff"]
 WRONG_VERSIONS = [b"1.x", b"0000000001", b"1.2.3.4.5.6.7.8.9", b"+", b"1.", b"v1", b"%ff", b"\xd9\xa1"]
 # what is asked for of a domain that has all that it needs, and how often
-SHARES = {"decide": 50, "upload": 12, "activate": 7, "deactivate": 4, "delete": 5, "document": 3, "list": 2, "root": 4, "source": 5, "rows": 2,
-          "put": 3, "drop": 2, "remove": 2, "create": 1, "domains": 1}
+SHARES = {
+    "decide": 50,
+    "upload": 12,
+    "activate": 7,
+    "deactivate": 4,
+    "delete": 5,
+    "document": 3,
+    "list": 2,
+    "root": 4,
+    "source": 5,
+    "rows": 2,
+    "put": 3,
+    "drop": 2,
+    "remove": 2,
+    "create": 1,
+    "domains": 1,
+}
 # what is asked for of a domain that is absent, and how often
 OF_ABSENT = {"create": 4, "decide": 2, "put": 2, "remove": 2, "drop": 1, "domains": 1, "list": 1}
 # a message: its method and the path, which are sound, a token or None, and the body
@@ -38,7 +54,8 @@ class Commands:
         rows = decisions.rows
         self.rows, self.random, self.one_of, self.seldom = rows, rows.random, rows.random.choice, rows.texts.seldom
         self.decisions, self.breaking, self.bodies, self.marks = decisions, breaking, SmallBodies(rows), Marks(rows)
-        # the bodies that were to be decided on, the texts that were to be kept, a token that was to be taken away, a message that is to come next
+        # the bodies that were to be decided on, the texts that were to be kept, a token that was to be taken away, a
+        # message that is to come next
         self.server, self.names, self.said, self.texts, self.dropped, self.coming = None, [], [], [], TOKENS[0], None
 
     def begin(self, server, names):
@@ -59,7 +76,8 @@ class Commands:
         return [token for token in TOKENS if state is not None and state.tokens.get(digest(token)) in roles]
 
     def token(self, name, *roles):
-        """Mostly a token that the domain has with one of the roles; now and then one with another, or another domain's."""
+        """Mostly a token that the domain has with one of the roles; now and then one with another,
+        or another domain's."""
         state = self.state(name)
         sound, others = self.tokens_with(state, roles), self.tokens_with(state, {"Ask", "Admin"} - set(roles))
         if others and self.seldom(0.15 if sound else 0.7):
@@ -108,7 +126,8 @@ class Commands:
         """The path of a document."""
         key = self.key(name, is_active)
         if key is None:
-            kind, held, version = self.one_of(["policy", "policyset"]), self.marks.id(), self.one_of(["1.0", "1", "2", "7.7"])
+            kind, held, version = (self.one_of(["policy", "policyset"]), self.marks.id(),
+                                   self.one_of(["1.0", "1", "2", "7.7"]))
         else:
             kind, held, version = KIND_NAMES[key.kind], key.id, version_shown(key)
         version = "0" + version if self.seldom(0.1) else version
@@ -129,15 +148,18 @@ class Commands:
         self.rows.trees.attributes = self.decisions.world.known
         state = self.state(name)
         keys = list(state.documents) if state is not None else []
-        return self.one_of([self.marks.policy] * 6 + [self.decisions.sound] * 4 + [lambda: self.marks.policy_set(keys)] * 2)()
+        return self.one_of([self.marks.policy] * 6 + [self.decisions.sound] * 4
+                           + [lambda: self.marks.policy_set(keys)] * 2)()
 
     def stored(self, names):
         return [stored.text for name in names if self.state(name) for stored in self.state(name).documents.values()]
 
     def text(self, name):
-        """A document's text: another one, one that is stored here or was to be kept anywhere, one like such a one, or one with a slip."""
+        """A document's text: another one, one that is stored here or was to be kept anywhere, one like such a one,
+        or one with a slip."""
         here, elsewhere = self.stored([name]), self.stored([it for it in self.names if it != name])
-        for found, chance, make in ((here, 0.08, bytes), (self.texts, 0.12, bytes), (here, 0.1, self.like), (elsewhere, 0.15, self.like)):
+        for found, chance, make in ((here, 0.08, bytes), (self.texts, 0.12, bytes), (here, 0.1, self.like),
+                                    (elsewhere, 0.15, self.like)):
             if found and self.seldom(chance):
                 return make(self.one_of(found))
         if self.seldom(0.08):
@@ -156,7 +178,8 @@ class Commands:
             return {}
         key = self.key(name, True)
         kind, held = key[:2] if key is not None else ("policy", "urn:none")
-        version = {"Version": self.one_of([version_shown(key), *PATTERNS])} if key is not None and self.seldom(0.12) else {}
+        version = ({"Version": self.one_of([version_shown(key), *PATTERNS])} if key is not None
+                   and self.seldom(0.12) else {})
         return {ROOTS[kind]: {"Id": held, **version}}
 
     def source(self):
@@ -169,7 +192,8 @@ class Commands:
         if self.said and self.seldom(0.55):
             return self.one_of(self.said[-3:])
         text = written(self.marks.request()) if self.seldom(0.45) else self.decisions.body()
-        text = self.one_of(["", "[]", "{", '{"Request":{"CombinedDecision":true}}', "\ufeff{}"]) if self.seldom(0.03) else text
+        text = (self.one_of(["", "[]", "{", '{"Request":{"CombinedDecision":true}}', "\ufeff{}"])
+                if self.seldom(0.03) else text)
         self.said.append(text.encode())
         return self.said[-1]
 
@@ -198,8 +222,10 @@ class Commands:
         if command == "drop":
             self.dropped = token
         if command == "put":
-            draft["Role"] = "admin" if not self.tokens_with(state, ("Admin",)) else self.one_of(["ask", "ask", "ask", "admin"])
-        return Asking(b"POST" if command == "put" else b"DELETE", self.of_operator(name, b"tokens"), self.operator(), self.body(draft))
+            draft["Role"] = ("admin" if not self.tokens_with(state, ("Admin",))
+                             else self.one_of(["ask", "ask", "ask", "admin"]))
+        return Asking(b"POST" if command == "put" else b"DELETE", self.of_operator(name, b"tokens"), self.operator(),
+                      self.body(draft))
 
     def of_admin(self, command, name):
         """The method and the path of what is for those with the role admin."""
@@ -210,8 +236,10 @@ class Commands:
         if command == "root":
             return b"PUT", self.domain(name, b"pap", b"root")
         if command in ("activate", "deactivate"):
-            return b"PUT" if command == "activate" else b"DELETE", self.document(name, command == "deactivate", b"active")
-        return b"GET" if command == "document" else b"DELETE", self.document(name, None if command == "document" or self.seldom(0.3) else False)
+            return (b"PUT" if command == "activate" else b"DELETE",
+                    self.document(name, command == "deactivate", b"active"))
+        return (b"GET" if command == "document" else b"DELETE",
+                self.document(name, None if command == "document" or self.seldom(0.3) else False))
 
     def body_of(self, command, name):
         if command == "upload":
@@ -263,7 +291,8 @@ class Commands:
         """As many tokens as the domain may have, or nearly, or one more."""
         count = self.one_of([30, 31, 32, 33, 34])
         drafts = [{"Role": self.one_of(["ask", "admin"]), "Token": f"one-of-many-{place}"} for place in range(count)]
-        return [Asking(b"POST", self.of_operator(name, b"tokens"), OPERATOR_TOKEN, written(draft).encode()) for draft in drafts]
+        return [Asking(b"POST", self.of_operator(name, b"tokens"), OPERATOR_TOKEN, written(draft).encode())
+                for draft in drafts]
 
     def many_documents(self, name, count):
         """So many documents of a few ids, and what the domain then has."""

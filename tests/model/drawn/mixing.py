@@ -1,4 +1,5 @@
-"""Random lists of events of up to 64 connections: their streams cut anywhere and mixed, numbers that are used again, heads that never end, more bytes than are held."""
+"""Random lists of events of up to 64 connections: their streams cut anywhere and mixed, numbers that are used again,
+heads that never end, more bytes than are held."""
 from commands import NAMES
 from fronts import MOST_HELD, MOST_OPEN, Connections
 from machines import Server
@@ -7,10 +8,12 @@ from rows import encoded, shortened
 from servers import OPERATOR_TOKEN, TurnedAway, set_up
 
 MESSAGES, EVENTS = 16, 180
-SHORT = [b"GET / HTTP/1.1\r\n\r\n", b"GET / HTTP/1.0\r\n\r\n", b"PUT /x HTTP/1.1\r\nConnection: close\r\n\r\n", b"POST / HTTP/1.1\r\nContent-Length: 3\r\n\r\nabc", b":",
-         b"\r\nGET /domains/acme/pdp HTTP/1.1\r\n\r\n", b"POST / HTTP/1.1\r\nTransfer-Encoding: chunked\r\n\r\n", b"G\xff / HTTP/1.1\r\n\r\n"]
+SHORT = [b"GET / HTTP/1.1\r\n\r\n", b"GET / HTTP/1.0\r\n\r\n", b"PUT /x HTTP/1.1\r\nConnection: close\r\n\r\n",
+         b"POST / HTTP/1.1\r\nContent-Length: 3\r\n\r\nabc", b":", b"\r\nGET /domains/acme/pdp HTTP/1.1\r\n\r\n",
+         b"POST / HTTP/1.1\r\nTransfer-Encoding: chunked\r\n\r\n", b"G\xff / HTTP/1.1\r\n\r\n"]
 # beginnings of heads, each with a byte that may follow for ever
-ENDLESS = [(b"GET /", b"a"), (b"GET / HTTP/1.1\r\nX:", b" "), (b"GET / HTTP/1.1\r\nX: ", b"\xff"), (b"", b"\n"), (b"", b"M"), (b"GET / HTTP/1.1\r\n", b"X:y\n")]
+ENDLESS = [(b"GET /", b"a"), (b"GET / HTTP/1.1\r\nX:", b" "), (b"GET / HTTP/1.1\r\nX: ", b"\xff"), (b"", b"\n"),
+           (b"", b"M"), (b"GET / HTTP/1.1\r\n", b"X:y\n")]
 
 
 class Mixing:
@@ -60,7 +63,8 @@ class Mixing:
         """Some bytes that come on a connection: messages, mostly, in a row."""
         if self.seldom(0.08):
             start, more = self.one_of(ENDLESS)
-            return start + more * (self.one_of([20, MAX_HEAD - len(start) - 1, MAX_HEAD - len(start), MAX_HEAD]) // len(more))
+            return (start + more
+                    * (self.one_of([20, MAX_HEAD - len(start) - 1, MAX_HEAD - len(start), MAX_HEAD]) // len(more)))
         return b"".join(self.message() for _ in range(self.one_of([1, 1, 2, 3])))
 
     def message(self):
@@ -136,7 +140,8 @@ class Mixing:
 
 
 class Drives:
-    """Random rows of connections that are driven: with short reads and writes, and with calls that are interrupted or fail."""
+    """Random rows of connections that are driven: with short reads and writes, and with calls that are
+    interrupted or fail."""
 
     def __init__(self, mixing):
         self.mixing, self.random, self.one_of, self.seldom = mixing, mixing.random, mixing.one_of, mixing.seldom
@@ -144,7 +149,8 @@ class Drives:
     def calls(self, word, size):
         """Fields that say of the calls how they go."""
         first = self.random.randint(1, 6)
-        chances = [(f"size {size}", 0.4), (f"interrupted {first}-{first + self.random.randrange(4)}", 0.2), (f"fails {self.random.randint(1, 5)}", 0.25)]
+        chances = [(f"size {size}", 0.4), (f"interrupted {first}-{first + self.random.randrange(4)}", 0.2),
+                   (f"fails {self.random.randint(1, 5)}", 0.25)]
         return [f"{word}:{text}" for text, chance in chances if self.seldom(chance)]
 
     def drive(self, number):
@@ -164,5 +170,6 @@ class Drives:
         for _ in range(self.one_of([1, 2, 4, 6])):
             number = self.random.randrange(count)
             fields += [f"piece:{number}:{shortened(self.mixing.stream())}"] * self.seldom(0.2)
-            fields += self.drive(number) + [f"answers:{number}"] * self.seldom(0.2) + [f"finish:{number}", "begin:"] * self.seldom(0.2)
+            fields += (self.drive(number) + [f"answers:{number}"] * self.seldom(0.2) + [f"finish:{number}", "begin:"]
+                       * self.seldom(0.2))
         return ["driven", *fields]

@@ -1,4 +1,5 @@
-"""Random rows of decisions, each by a server whose limit of work is the least one with which it decides, and again by one whose limit is a unit less."""
+"""Random rows of decisions, each by a server whose limit of work is the least one with which it decides, and again by
+one whose limit is a unit less."""
 from json_texts import NotJson
 from machines import view
 from messages import Stream
@@ -13,11 +14,13 @@ NO_LIMIT, TOKEN = 2**64 - 1, "token-of-all"
 def message(body):
     """The bytes of an ask."""
     held = decoded(encoded(body))
-    return b"POST /domains/acme/pdp HTTP/1.1\r\nAuthorization: Bearer %b\r\nContent-Length: %d\r\n\r\n%b" % (TOKEN.encode(), len(held), held)
+    return (b"POST /domains/acme/pdp HTTP/1.1\r\nAuthorization: Bearer %b\r\nContent-Length: %d\r\n\r\n%b"
+            % (TOKEN.encode(), len(held), held))
 
 
 def units(fields, moment, asked):
-    """What the ask takes of the server that the fields make; none where they make no such server, or the ask is no JSON."""
+    """What the ask takes of the server that the fields make; none where they make no such server, or
+    the ask is no JSON."""
     stream = Stream()
     stream.held = asked
     try:
@@ -47,5 +50,6 @@ class Least:
         while not count:
             fields, moment, asked = self.domain(), self.decisions.moment(0.7), message(self.decisions.body())
             count = units(fields, int(moment[0].removeprefix("moment:")) if moment else 0, asked)
-        found, self.below = (["server", f"limit:{limit}", *fields, *moment, "piece:" + encoded(asked)] for limit in (count, count - 1))
+        found, self.below = (["server", f"limit:{limit}", *fields, *moment, "piece:" + encoded(asked)]
+                             for limit in (count, count - 1))
         return found

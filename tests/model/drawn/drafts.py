@@ -1,6 +1,7 @@
 """Random policy documents in JSON, sound ones and such as are broken in a place or two.
 
-A draft is what `json` makes of JSON, but that a Raw is a number's text, and Pairs are an object's members, a name of them twice maybe.
+A draft is what `json` makes of JSON, but that a Raw is a number's text, and Pairs are an object's members, a
+name of them twice maybe.
 """
 import json
 
@@ -77,7 +78,8 @@ class Drafts:
     def expression(self, tree):
         """The expression of a tree of fields."""
         if not isinstance(tree, str):
-            return {"Apply": {"FunctionId": text_of(tree[0]), **self.described(), **self.unless_empty("Expression", [self.expression(held) for held in tree[1]])}}
+            return {"Apply": {"FunctionId": text_of(tree[0]), **self.described(),
+                              **self.unless_empty("Expression", [self.expression(held) for held in tree[1]])}}
         word, text = tree.split(":", 1)
         if word in ("any", "some"):
             return {"AttributeDesignator": self.designator(leaf(word, text)[1])}
@@ -129,10 +131,13 @@ class Drafts:
     def duties(self, chance):
         """Members with obligations and advice, or none."""
         found = {}
-        for array, name, effect in (("ObligationExpressions", "ObligationId", "FulfillOn"), ("AdviceExpressions", "AdviceId", "AppliesTo")):
+        for array, name, effect in (("ObligationExpressions", "ObligationId", "FulfillOn"),
+                                    ("AdviceExpressions", "AdviceId", "AppliesTo")):
             if self.seldom(chance):
-                found[array] = self.some(lambda: {name: self.one_of(["urn:o", "urn:\t\"o", ""]), effect: self.one_of(EFFECTS),
-                                                  **self.unless_empty("AttributeAssignmentExpression", self.some(self.assignment, [0, 1, 1, 2]))}, [0, 1, 1, 2])
+                duty = lambda: {
+                    name: self.one_of(["urn:o", "urn:\t\"o", ""]), effect: self.one_of(EFFECTS),
+                    **self.unless_empty("AttributeAssignmentExpression", self.some(self.assignment, [0, 1, 1, 2]))}
+                found[array] = self.some(duty, [0, 1, 1, 2])
         return found
 
     def condition(self):
@@ -143,8 +148,8 @@ class Drafts:
         return {"Condition": self.tree_of("boolean", [1, 2, 2, 2, 3, 3, 4])}
 
     def rule(self):
-        return {"RuleId": self.one_of(["r", ""]), "Effect": self.one_of(EFFECTS), **self.described(), **self.target(0.25), **self.condition(),
-                **self.duties(0.4)}
+        return {"RuleId": self.one_of(["r", ""]), "Effect": self.one_of(EFFECTS), **self.described(),
+                **self.target(0.25), **self.condition(), **self.duties(0.4)}
 
     def variables(self):
         """The members of the variables, which the expressions behind them may name."""
@@ -164,18 +169,21 @@ class Drafts:
     def policy(self):
         self.trees.variables = []
         target = self.target(0.2)
-        return {**self.key("PolicyId"), "RuleCombiningAlgId": self.algorithm(RULE_ALGORITHMS), **self.described(), **target, **self.variables(),
-                **self.unless_empty("Rule", self.some(self.rule, [0, 1, 1, 2, 2, 3, 4])), **self.duties(0.4)}
+        return {**self.key("PolicyId"), "RuleCombiningAlgId": self.algorithm(RULE_ALGORITHMS), **self.described(),
+                **target, **self.variables(), **self.unless_empty("Rule", self.some(self.rule, [0, 1, 1, 2, 2, 3, 4])),
+                **self.duties(0.4)}
 
     def reference(self):
         found = {"Id": self.one_of([*self.ids, *self.ids, "urn:none"])}
-        for name, texts, chance in (("Version", PATTERNS, 0.3), ("EarliestVersion", VERSIONS, 0.1), ("LatestVersion", VERSIONS, 0.1)):
+        for name, texts, chance in (("Version", PATTERNS, 0.3), ("EarliestVersion", VERSIONS, 0.1),
+                                    ("LatestVersion", VERSIONS, 0.1)):
             if self.seldom(chance):
                 found[name] = self.one_of(texts)
         return found
 
     def child(self, depth):
-        name = self.one_of(["Policy"] * 6 + ["PolicySet"] * 3 * (depth > 1) + ["PolicyIdReference", "PolicySetIdReference"] * self.seldom(self.referring))
+        name = self.one_of(["Policy"] * 6 + ["PolicySet"] * 3 * (depth > 1)
+                           + ["PolicyIdReference", "PolicySetIdReference"] * self.seldom(self.referring))
         if name == "Policy":
             return {name: self.policy()}
         return {name: self.policy_set(depth - 1) if name == "PolicySet" else self.reference()}
@@ -184,8 +192,8 @@ class Drafts:
         """A set in which sets stand about so deep."""
         children = self.some(lambda: self.child(depth), [0, 1, 2, 2, 3, 4] if depth > 1 else [0, 1, 2, 3])
         self.trees.variables = []
-        return {**self.key("PolicySetId"), "PolicyCombiningAlgId": self.algorithm(POLICY_ALGORITHMS), **self.described(), **self.target(0.2),
-                **self.unless_empty("Children", children), **self.duties(0.4)}
+        return {**self.key("PolicySetId"), "PolicyCombiningAlgId": self.algorithm(POLICY_ALGORITHMS),
+                **self.described(), **self.target(0.2), **self.unless_empty("Children", children), **self.duties(0.4)}
 
     def document(self):
         if self.seldom(0.5):

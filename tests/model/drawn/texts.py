@@ -1,16 +1,20 @@
-"""Random texts of each data type: well-formed ones, at the ends of ranges too, and for `loose` also ones that are nearly so."""
+"""Random texts of each data type: well-formed ones, at the ends of ranges too, and for `loose` also ones
+that are nearly so."""
 import base64
 import random
 
 from values import TYPES, WHITE_SPACE, days_in
 
-LETTERS = ["a", "b", "ab", "é", "€", "😀", " ", "\t", "\n", "\r", "\u00a0", "\u000b", "\u000c", "A", "0", "-", "/", "Z", "\u0000", "ß"]
+LETTERS = ["a", "b", "ab", "é", "€", "😀", " ", "\t", "\n", "\r", "\u00a0", "\u000b", "\u000c", "A", "0", "-", "/", "Z",
+           "\u0000", "ß"]
 ZONES = ["", "", "Z", "+00:00", "-00:00", "+14:00", "-14:00", "+05:30", "-11:45"]
 LOOSE_ZONES = ["+14:01", "-14:01", "+05:60", "+1:00", "z", "+15:00"]
-NUMBERS = ["0", "-0", "+0", "1", "-1", "2", "-2", "7", "9223372036854775807", "-9223372036854775808", "4611686018427387904", "3037000500",
-           "00012", "+5"]
-LOOSE_NUMBERS = ["9223372036854775808", "-9223372036854775809", "", "+", "-", "--1", "1.0", "1e3", "0x1", "\u0661", "9" * 26]
-COUNTS = ["0", "1", "59", "60", "61", "23", "24", "25", "007", "3652500", "3652499", "315576000000", "87660000", "5259600000"]
+NUMBERS = ["0", "-0", "+0", "1", "-1", "2", "-2", "7", "9223372036854775807", "-9223372036854775808",
+           "4611686018427387904", "3037000500", "00012", "+5"]
+LOOSE_NUMBERS = ["9223372036854775808", "-9223372036854775809", "", "+", "-", "--1", "1.0", "1e3", "0x1",
+                 "\u0661", "9" * 26]
+COUNTS = ["0", "1", "59", "60", "61", "23", "24", "25", "007", "3652500", "3652499", "315576000000", "87660000",
+          "5259600000"]
 LOOSE_COUNTS = ["", "9" * 20, "0" * 25 + "1"]
 SLIPS = ["\u00a0", "\u000b", "x", " ", "-", ":", ".", "T", "+", "0", "Z", "P", "S", "="]
 
@@ -39,11 +43,13 @@ class Texts:
         month = self.random.randint(1, 12)
         day = self.one_of([1, days_in(year, month), self.random.randint(1, 28)])
         if loose and self.seldom(0.2):
-            year, month, day = self.one_of([(0, month, day), (year, 0, day), (year, 13, day), (year, month, 0), (year, 2, 30), (year, 4, 31)])
+            year, month, day = self.one_of([(0, month, day), (year, 0, day), (year, 13, day), (year, month, 0),
+                                            (year, 2, 30), (year, 4, 31)])
         return f"{year:04}-{month:02}-{day:02}"
 
     def clock(self, loose):
-        hour, minute, second = self.one_of([(0, 0, 0), (23, 59, 59)] + [tuple(map(self.random.randrange, (24, 60, 60)))] * 4)
+        hour, minute, second = self.one_of([(0, 0, 0), (23, 59, 59)]
+                                           + [tuple(map(self.random.randrange, (24, 60, 60)))] * 4)
         if loose and self.seldom(0.2):
             hour, minute, second = self.one_of([(24, 0, 0), (23, 60, 0), (23, 59, 60)])
         fraction = self.one_of(["", "", "." + self.digits(9), ".000000000", ".100"])
@@ -57,7 +63,8 @@ class Texts:
     def day_time(self, loose):
         seconds = self.part(self.one_of(["S", "." + self.digits(10 if loose else 9) + "S"]), loose)
         clock = self.part("H", loose) + self.part("M", loose) + seconds
-        return self.one_of(["", "-"]) + "P" + self.part("D", loose) + ("T" + clock if clock or loose and self.seldom(0.1) else "")
+        return (self.one_of(["", "-"]) + "P" + self.part("D", loose)
+                + ("T" + clock if clock or loose and self.seldom(0.1) else ""))
 
     def year_month(self, loose):
         return self.one_of(["", "-"]) + "P" + self.part("Y", loose, 0.7) + self.part("M", loose, 0.7)
@@ -90,7 +97,8 @@ class Texts:
             "dateTime": lambda loose: self.date(loose) + "T" + self.clock(loose) + self.zone(loose),
             "dayTimeDuration": self.day_time,
             "yearMonthDuration": self.year_month,
-            "hexBinary": lambda loose: "".join(self.one_of("0189abcdefABCDEF") for _ in range(2 * self.random.randrange(5))),
+            "hexBinary": lambda loose: "".join(self.one_of("0189abcdefABCDEF")
+                                               for _ in range(2 * self.random.randrange(5))),
             "base64Binary": self.base64,
         }
         text = make[data_type](loose)

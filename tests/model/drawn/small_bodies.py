@@ -1,25 +1,32 @@
-"""Random rows of the bodies of routes: tokens, roots and rows of a source of attributes, sound ones and such as are broken in a place or two."""
-import json
+"""Random rows of the bodies of routes: tokens, roots and rows of a source of attributes, sound ones and such as are
+broken in a place or two."""
 
 from breaking import ALGORITHM
 from drafts import Pairs, Raw, written
 from identifiers import NAMESPACE, SHORTHANDS
 from rows import encoded
 
-WRONG = [None, True, False, "", "x", [], {}, [None], [{}], {"a": 1}, Raw("5"), Raw("-0"), Raw("7.5"), Raw("9223372036854775808"), Raw("1e2")]
+WRONG = [None, True, False, "", "x", [], {}, [None], [{}], {"a": 1}, Raw("5"), Raw("-0"), Raw("7.5"),
+         Raw("9223372036854775808"), Raw("1e2")]
 NO_JSON = ["", "{", "{}x", '{"Token":1e400}', '{"Role":"\\ud800"}', "{'Token':1}", '{"Row":[],}', "\ufeff{}", "[NaN]"]
-NAMES = ["Role", "Token", "Row", "Category", "Entity", "AttributeId", "DataType", "Value", "Issuer", "PolicyIdReference", "PolicySetIdReference",
-         "Id", "Version", "EarliestVersion", "LatestVersion", "X", "role", ""]
+NAMES = ["Role", "Token", "Row", "Category", "Entity", "AttributeId", "DataType", "Value",
+         "Issuer", "PolicyIdReference", "PolicySetIdReference", "Id", "Version", "EarliestVersion", "LatestVersion",
+         "X", "role", ""]
 # what may stand, or nearly, as the value of the member of each name
 AIMED = {
     "Role": ["ask", "admin", "Ask", "ADMIN", "", "ask ", "root"],
-    "Token": ["a" * 7, "a" * 8, "a" * 64, "a" * 65, "!~!~!~!~", "acme token", "acme-token\x7f", "acme-token\u0000", "é" * 8, "\u00a0" * 8, "12345678"],
-    "Version": ["1", "01.02", "000000001", "0000000001", "1.2.3.4.5.6.7.8", "1.2.3.4.5.6.7.8.9", "1.+", "+", "*", "*.+", "+.1", "1.", ""],
-    "EarliestVersion": ["1", "01.02", "000000001", "0000000001", "1.+", "*", "1.", ""], "LatestVersion": ["1", "2.0", "999999999", "1000000000", "+", "1..2"],
-    "Id": ["", "urn:p", "é|\n", "a" * 513], "Category": ["Action", "action", "", *SHORTHANDS.values()], "Entity": ["", "alice", "\u0001\"\\/\u007f"],
+    "Token": ["a" * 7, "a" * 8, "a" * 64, "a" * 65, "!~!~!~!~", "acme token", "acme-token\x7f", "acme-token\u0000",
+              "é" * 8, "\u00a0" * 8, "12345678"],
+    "Version": ["1", "01.02", "000000001", "0000000001", "1.2.3.4.5.6.7.8", "1.2.3.4.5.6.7.8.9", "1.+", "+", "*", "*.+",
+                "+.1", "1.", ""],
+    "EarliestVersion": ["1", "01.02", "000000001", "0000000001", "1.+", "*", "1.", ""],
+    "LatestVersion": ["1", "2.0", "999999999", "1000000000", "+", "1..2"],
+    "Id": ["", "urn:p", "é|\n", "a" * 513], "Category": ["Action", "action", "", *SHORTHANDS.values()],
+    "Entity": ["", "alice", "\u0001\"\\/\u007f"],
     "Issuer": ["", "hr", "\u0001\"\\/\u007f"],
     "DataType": ["double", "", "String", NAMESPACE, NAMESPACE + "string", "integer", "time"],
-    "Value": [True, "x", "", "7", Raw("7"), Raw("-9223372036854775809"), Raw("18446744073709551615"), "12:00:00", "true", []],
+    "Value": [True, "x", "", "7", Raw("7"), Raw("-9223372036854775809"), Raw("18446744073709551615"), "12:00:00",
+              "true", []],
 }
 
 
@@ -37,13 +44,15 @@ class SmallBodies:
 
     def reference(self):
         found = {"Id": self.one_of(["urn:p", "urn:q", "", "é"])}
-        for name, texts in (("Version", ["1.+", "*", "1.02", "+"]), ("EarliestVersion", ["1", "01.2"]), ("LatestVersion", ["2.0", "3"])):
+        for name, texts in (("Version", ["1.+", "*", "1.02", "+"]), ("EarliestVersion", ["1", "01.2"]),
+                            ("LatestVersion", ["2.0", "3"])):
             if self.seldom(0.4):
                 found[name] = self.one_of(texts)
         return found
 
     def root(self):
-        return {self.one_of(["PolicyIdReference", "PolicySetIdReference"]): self.reference()} if self.seldom(0.9) else {}
+        return ({self.one_of(["PolicyIdReference", "PolicySetIdReference"]): self.reference()}
+                if self.seldom(0.9) else {})
 
     def source_row(self):
         data_type = self.rows.texts.data_type()
@@ -52,8 +61,9 @@ class SmallBodies:
         if data_type == "integer" and self.seldom(0.6):
             held = Raw(self.one_of(["0", "7", "-1", "9223372036854775807", "-9223372036854775808"]))
         issuer = {"Issuer": self.one_of(["", "hr", "é\n\"\\"])} if self.seldom(0.4) else {}
-        return {"Category": self.one_of(["urn:c", "", "é", *SHORTHANDS, *SHORTHANDS.values()]), "Entity": self.one_of(["", "alice", "é\n\"\\"]),
-                "AttributeId": self.one_of(["urn:a", "urn:b", ""]), "DataType": self.one_of(["", NAMESPACE]) + data_type, "Value": held, **issuer}
+        return {"Category": self.one_of(["urn:c", "", "é", *SHORTHANDS, *SHORTHANDS.values()]),
+                "Entity": self.one_of(["", "alice", "é\n\"\\"]), "AttributeId": self.one_of(["urn:a", "urn:b", ""]),
+                "DataType": self.one_of(["", NAMESPACE]) + data_type, "Value": held, **issuer}
 
     def rows_body(self):
         return {"Row": [self.source_row() for _ in range(self.one_of([0, 1, 1, 2, 3]))]}
@@ -69,7 +79,8 @@ class SmallBodies:
     def in_object(self, held):
         """The object with a member fewer, more, of another name, or twice."""
         name, other = self.one_of([*held, self.one_of(NAMES)]), self.one_of(NAMES)
-        return self.one_of([{its: inner for its, inner in held.items() if its != name}, {**held, other: self.one_of(WRONG)},
+        return self.one_of([{its: inner for its, inner in held.items() if its != name},
+                            {**held, other: self.one_of(WRONG)},
                             {other if its == name else its: inner for its, inner in held.items()},
                             Pairs([(name, self.one_of([held.get(name), *WRONG])), *held.items()]),
                             Pairs([*held.items(), (name, self.one_of([held.get(name), *WRONG]))])])
@@ -87,7 +98,8 @@ class SmallBodies:
     def shuffled(self, held):
         if isinstance(held, dict):
             return {name: self.shuffled(held[name]) for name in self.random.sample(list(held), len(held))}
-        return [self.shuffled(item) for item in held] if isinstance(held, list) and not isinstance(held, Pairs) else held
+        return ([self.shuffled(item) for item in held] if isinstance(held, list)
+                and not isinstance(held, Pairs) else held)
 
     def text(self, draft):
         if self.seldom(0.03):
@@ -97,9 +109,11 @@ class SmallBodies:
         text = written(self.shuffled(draft), self.one_of(["", "", " "]), self.seldom(0.5))
         if self.seldom(0.03):
             place = self.random.randrange(len(text) + 1)
-            text = text[:place] + self.one_of(["", ",", '"', "}", "]", " ", "\\", "x"]) + text[place + self.random.randrange(2):]
+            text = (text[:place] + self.one_of(["", ",", '"', "}", "]", " ", "\\", "x"])
+                    + text[place + self.random.randrange(2):])
         return text
 
     def next(self):
-        kind, make = self.one_of([("new_token", self.new_token), ("old_token", self.old_token), ("root", self.root), ("rows", self.rows_body)])
+        kind, make = self.one_of([("new_token", self.new_token), ("old_token", self.old_token), ("root", self.root),
+                                  ("rows", self.rows_body)])
         return [kind, encoded(self.text(make()))]

@@ -1,4 +1,5 @@
-"""Random documents and source rows that tell themselves apart: what a decision returns shows which of them made it, and by which rows and moment."""
+"""Random documents and source rows that tell themselves apart: what a decision returns shows which of them made it,
+and by which rows and moment."""
 from drafts import EFFECTS, PATTERNS
 from identifiers import SHORTHANDS
 
@@ -15,7 +16,8 @@ ISSUERS = ["hr", "it", ""]
 
 
 def designator(category, attribute_id, data_type, **issuer):
-    return {"AttributeDesignator": {"Category": category, "AttributeId": attribute_id, "DataType": data_type, "MustBePresent": False, **issuer}}
+    return {"AttributeDesignator": {"Category": category, "AttributeId": attribute_id, "DataType": data_type,
+                                    "MustBePresent": False, **issuer}}
 
 
 class Marks:
@@ -38,11 +40,16 @@ class Marks:
 
     def assignments(self):
         """What the subject's roles are, also those by an issuer, and when it is asked; each now and then."""
-        found = [{"AttributeId": "urn:roles", "Expression": designator("AccessSubject", "urn:role", "string", **self.issuer(0.3))}] * self.seldom(0.4)
-        return found + [{"AttributeId": "urn:now", "Expression": designator("Environment", NOW, "dateTime", **self.issuer(0.1))}] * self.seldom(0.3)
+        found = [{"AttributeId": "urn:roles",
+                  "Expression": designator("AccessSubject", "urn:role", "string",
+                                           **self.issuer(0.3))}] * self.seldom(0.4)
+        return found + [{"AttributeId": "urn:now",
+                         "Expression": designator("Environment", NOW, "dateTime",
+                                                  **self.issuer(0.1))}] * self.seldom(0.3)
 
     def duties(self, effect):
-        return {"ObligationExpressions": [{"ObligationId": self.mark(), "FulfillOn": effect, "AttributeAssignmentExpression": self.assignments()}]}
+        return {"ObligationExpressions": [{"ObligationId": self.mark(), "FulfillOn": effect,
+                                           "AttributeAssignmentExpression": self.assignments()}]}
 
     def policy(self):
         effect = self.one_of(EFFECTS)
@@ -53,15 +60,19 @@ class Marks:
         """A set that refers to documents of these keys, or to some that may come."""
         children = []
         for _ in range(self.one_of([1, 1, 2, 3])):
-            kind, name = self.one_of(keys)[:2] if keys and self.seldom(0.8) else (self.one_of(["policy", "set"]), self.id())
+            kind, name = (self.one_of(keys)[:2] if keys
+                          and self.seldom(0.8) else (self.one_of(["policy", "set"]), self.id()))
             version = {"Version": self.one_of(PATTERNS)} if self.seldom(0.3) else {}
-            children.append({"PolicyIdReference" if kind == "policy" else "PolicySetIdReference": {"Id": name, **version}})
-        return {"PolicySet": {"PolicySetId": self.id(), "Version": self.one_of(VERSIONS), "PolicyCombiningAlgId": self.one_of(POLICIES), "Children": children,
+            word = "PolicyIdReference" if kind == "policy" else "PolicySetIdReference"
+            children.append({word: {"Id": name, **version}})
+        return {"PolicySet": {"PolicySetId": self.id(), "Version": self.one_of(VERSIONS),
+                              "PolicyCombiningAlgId": self.one_of(POLICIES), "Children": children,
                               **self.duties(self.one_of(EFFECTS))}}
 
     def row(self):
-        return {"Category": self.one_of(["AccessSubject", SHORTHANDS["AccessSubject"]]), "Entity": self.one_of([*PEOPLE, ""]), "AttributeId": "urn:role",
-                "DataType": "string", "Value": self.mark(), **self.issuer(0.4)}
+        return {"Category": self.one_of(["AccessSubject", SHORTHANDS["AccessSubject"]]),
+                "Entity": self.one_of([*PEOPLE, ""]), "AttributeId": "urn:role", "DataType": "string",
+                "Value": self.mark(), **self.issuer(0.4)}
 
     def source(self):
         """The rows of a source, now and then as many as there may be, or one more."""
@@ -74,4 +85,5 @@ class Marks:
         attribute = {"AttributeId": SUBJECT_ID, "Value": self.one_of(PEOPLE)}
         role = [{"AttributeId": "urn:role", "Value": "guest", **self.issuer(0.5)}] * self.seldom(0.1)
         identified = {"ReturnPolicyIdList": self.seldom(0.9)} if self.seldom(0.4) else {}
-        return {"Request": {**({"AccessSubject": {"Attribute": [attribute, *role]}} if self.seldom(0.6) else {}), **identified}}
+        return {"Request": {**({"AccessSubject": {"Attribute": [attribute, *role]}} if self.seldom(0.6) else {}),
+                            **identified}}

@@ -9,8 +9,8 @@ PLAIN_MATCHES = [(V1 + "boolean-equal", [f"boolean:{held}", "any:boolean|d|e"]) 
 
 
 class Combinations(Drafts):
-    """Documents whose targets and conditions are true, false or at fault. They are told apart by their versions, mostly, and their obligations and advice by
-    their ids."""
+    """Documents whose targets and conditions are true, false or at fault. They are told apart by their versions,
+    mostly, and their obligations and advice by their ids."""
 
     def __init__(self, rows):
         super().__init__(rows)
@@ -39,11 +39,13 @@ class Combinations(Drafts):
         self.count += 1
         found = {name: f"{self.count}", effect: self.one_of(EFFECTS)}
         if self.seldom(0.2):
-            found["AttributeAssignmentExpression"] = [{"AttributeId": "a", "Expression": self.expression(self.one_of(["boolean:true", *AT_FAULT]))}]
+            expression = self.expression(self.one_of(["boolean:true", *AT_FAULT]))
+            found["AttributeAssignmentExpression"] = [{"AttributeId": "a", "Expression": expression}]
         return found
 
     def duties(self, chance):
-        return {**self.unless_empty("ObligationExpressions", [self.duty("ObligationId", "FulfillOn")] * self.seldom(chance)),
+        return {**self.unless_empty("ObligationExpressions",
+                                    [self.duty("ObligationId", "FulfillOn")] * self.seldom(chance)),
                 **self.unless_empty("AdviceExpressions", [self.duty("AdviceId", "AppliesTo")] * self.seldom(chance))}
 
     def variables(self):
@@ -63,5 +65,7 @@ class Findings(Drafts):
 
     def document(self):
         assignments = self.some(self.assignment, [2, 4, 6, 8])
-        return {"Policy": {**self.key("PolicyId"), "RuleCombiningAlgId": self.one_of(list(RULE_ALGORITHMS)), "Rule": [{"RuleId": "r", "Effect": "Permit"}],
-                           "ObligationExpressions": [{"ObligationId": "o", "FulfillOn": "Permit", "AttributeAssignmentExpression": assignments}]}}
+        return {"Policy": {**self.key("PolicyId"), "RuleCombiningAlgId": self.one_of(list(RULE_ALGORITHMS)),
+                           "Rule": [{"RuleId": "r", "Effect": "Permit"}],
+                           "ObligationExpressions": [{"ObligationId": "o", "FulfillOn": "Permit",
+                                                      "AttributeAssignmentExpression": assignments}]}}

@@ -1,4 +1,5 @@
-"""Random messages in bytes, and random servers to which they go: mostly sound ones, in pieces, with slips in heads, targets, fields and bodies."""
+"""Random messages in bytes, and random servers to which they go: mostly sound ones, in pieces, with slips in heads,
+targets, fields and bodies."""
 from commands import NAMES, TOKENS, alter
 from machines import Server
 from messages import Message, Stream
@@ -9,34 +10,40 @@ from views import distinct
 NO_TOKENS = [b"a" * 7, b"a" * 65, b"acme token 1", b"acme-token-\xe9", b""]
 NO_SCHEMES = [b"Basic ", b"Bearer\t", b"Bearer"]
 METHODS = [b"GET", b"PUT", b"POST", b"DELETE", b"post", b"PATCH", b"HEAD", b"OPTIONS", b"M!#$%&'*+-.^_`|~", b"P(ST"]
-PATHS = [b"/", b"*", b"/nowhere", b"/domains", b"/domains/acme", b"/domains//pdp", b"/domains/acme/pdp/", b"/domains/acme/pdp/x",
-         b"//domains/acme/pdp", b"/domains/acme/%70dp", b"/%64omains/acme/pdp", b"/domains/acme%2Fpdp", b"/domains/acme/pdp%3Fx",
-         b"/domains/%zz/pdp", b"/domains/%ff/pdp", b"/domains/acme+/pdp", b"/domains/./pdp", b"/domains/../domains/acme/pdp",
-         b"/domains/acme/PDP", b"/domains/acme/pdp#x", b"/domains/\xc3\xa9/pdp", b"/domains/\xff/pdp", b"domains/acme/pdp",
-         b"/operator", b"/operator/domains/", b"/operator/domains//tokens", b"/operator/domains/acme/tokens/x", b"/operator/domains/acme/pdp",
-         b"/operator/domains/Acme", b"/operator/domains/Acme/tokens", b"/operator/domains/%ff", b"/operator/domains/" + b"a" * 33, b"/operator/domains/a%2fb",
-         b"/domains/acme/pap", b"/domains/acme/pap/", b"/domains/acme/pap/policies/", b"/domains/acme/pap/policies/x", b"/domains/acme/pap/policies/x/1.0",
-         b"/domains/acme/pap/root/x/1.0", b"/domains/acme/pap/policy", b"/domains/acme/pap/policy/urn:p", b"/domains/acme/pap/policy//1.0",
-         b"/domains/acme/pap/policy/urn:p/1.0/", b"/domains/acme/pap/policy/urn:p/1.0/Active", b"/domains/acme/pap/policy/urn:p/1.0/active/x",
-         b"/domains/acme/pap/%70olicy/urn%3ap/1%2e0", b"/domains/acme/pap/policy/a/b/1.0", b"/domains/Acme/pap/root", b"/domains/acme/root",
-         b"/domains/acme/pip/x"]
+PATHS = [b"/", b"*", b"/nowhere", b"/domains", b"/domains/acme", b"/domains//pdp", b"/domains/acme/pdp/",
+         b"/domains/acme/pdp/x", b"//domains/acme/pdp", b"/domains/acme/%70dp", b"/%64omains/acme/pdp",
+         b"/domains/acme%2Fpdp", b"/domains/acme/pdp%3Fx", b"/domains/%zz/pdp", b"/domains/%ff/pdp",
+         b"/domains/acme+/pdp", b"/domains/./pdp", b"/domains/../domains/acme/pdp", b"/domains/acme/PDP",
+         b"/domains/acme/pdp#x", b"/domains/\xc3\xa9/pdp", b"/domains/\xff/pdp", b"domains/acme/pdp", b"/operator",
+         b"/operator/domains/", b"/operator/domains//tokens", b"/operator/domains/acme/tokens/x",
+         b"/operator/domains/acme/pdp", b"/operator/domains/Acme", b"/operator/domains/Acme/tokens",
+         b"/operator/domains/%ff", b"/operator/domains/" + b"a" * 33, b"/operator/domains/a%2fb", b"/domains/acme/pap",
+         b"/domains/acme/pap/", b"/domains/acme/pap/policies/", b"/domains/acme/pap/policies/x",
+         b"/domains/acme/pap/policies/x/1.0", b"/domains/acme/pap/root/x/1.0", b"/domains/acme/pap/policy",
+         b"/domains/acme/pap/policy/urn:p", b"/domains/acme/pap/policy//1.0", b"/domains/acme/pap/policy/urn:p/1.0/",
+         b"/domains/acme/pap/policy/urn:p/1.0/Active", b"/domains/acme/pap/policy/urn:p/1.0/active/x",
+         b"/domains/acme/pap/%70olicy/urn%3ap/1%2e0", b"/domains/acme/pap/policy/a/b/1.0", b"/domains/Acme/pap/root",
+         b"/domains/acme/root", b"/domains/acme/pip/x"]
 # what stands before a path, and behind it
 BEFORE = [b"http://h", b"http://h:8080", b"http://", b"http://u@h"]
 BEFORE_NONE = [b"HTTP://h", b"https://h", b"http://h?x", b"/", b"x"]
 BEHIND = [b"?", b"?x=/y", b"?x?y", b"?/domains/beta/pdp", b"?%ff"]
 BEHIND_NONE = [b"?\xff", b"/", b"//", b"/x"]
-VERSIONS = [b" HTTP/1.1\n", b" HTTP/1.0\r\n", b" HTTP/1.2\r\n", b" http/1.1\r\n", b"  HTTP/1.1\r\n", b" HTTP/1.1 \r\n", b"\r\n"]
-FIELD_LINES = [b"Host: h\r\n", b"X:\t a \r\n", b"Accept: */*\n", b"a:\r\n", b"x-content-length: 1\r\n", b"X: \xff\x80\r\n",
-               b"Expect: 100-continue\r\n", b"Authorization2: x\r\n", b"Connection: keep-alive\r\n", b"X: a,close\r\n"]
+VERSIONS = [b" HTTP/1.1\n", b" HTTP/1.0\r\n", b" HTTP/1.2\r\n", b" http/1.1\r\n", b"  HTTP/1.1\r\n",
+            b" HTTP/1.1 \r\n", b"\r\n"]
+FIELD_LINES = [b"Host: h\r\n", b"X:\t a \r\n", b"Accept: */*\n", b"a:\r\n", b"x-content-length: 1\r\n",
+               b"X: \xff\x80\r\n", b"Expect: 100-continue\r\n", b"Authorization2: x\r\n", b"Connection: keep-alive\r\n",
+               b"X: a,close\r\n"]
 CLOSING_LINES = [b"Connection: close\r\n", b"connection: a,\tCLOSE \r\n", b"CONNECTION:close,\r\n"]
 MEDIA_LINES = [b"Content-Type: application/json\r\n", b"Content-Type: application/json; a=b\r\n",
                b"content-type:application/XACML+json\r\n", b"Content-Type: application/json ;x\r\n"]
-NO_MEDIA_LINES = [b"Content-Type: text/plain\r\n", b"Content-Type:\r\n", b"Content-Type: application/jsonx\r\n", b"Content-Type: application/xacml+xml\r\n"]
+NO_MEDIA_LINES = [b"Content-Type: text/plain\r\n", b"Content-Type:\r\n", b"Content-Type: application/jsonx\r\n",
+                  b"Content-Type: application/xacml+xml\r\n"]
 FAULTY_LINES = [b"Content-Length: 3\r\n", b"Content-Length: \r\n", b"Content-Length: 1x\r\n", b"Content-Length: +1\r\n",
                 b"Content-Length: 1, 1\r\n", b"Content-Length: 524289\r\n", b"Content-Length: 000524289\r\n",
-                b"Content-Length: " + b"9" * 27 + b"\r\n", b"Transfer-Encoding: chunked\r\n", b"transfer-encoding:\r\n", b"a b: c\r\n",
-                b": x\r\n", b"a\r\n", b"a:\x00\r\n", b"a:\x7f\r\n", b" a: b\r\n", b"a: b\r\r\n", b"a: b\rc\r\n", b"X: y\r\n" * 62,
-                b"X: y\r\n" * 65]
+                b"Content-Length: " + b"9" * 27 + b"\r\n", b"Transfer-Encoding: chunked\r\n", b"transfer-encoding:\r\n",
+                b"a b: c\r\n", b": x\r\n", b"a\r\n", b"a:\x00\r\n", b"a:\x7f\r\n", b" a: b\r\n", b"a: b\r\r\n",
+                b"a: b\rc\r\n", b"X: y\r\n" * 62, b"X: y\r\n" * 65]
 # how many messages a row of a server has
 MESSAGES = 20
 # how many views a server has room for, where a row says that; 128 is as many as any has
@@ -49,7 +56,8 @@ class Exchanges:
     """Random messages in bytes, and rows of servers and of streams."""
 
     def __init__(self, commands):
-        self.commands, self.random, self.one_of, self.seldom = commands, commands.random, commands.one_of, commands.seldom
+        self.commands, self.random, self.one_of, self.seldom = (commands, commands.random, commands.one_of,
+                                                                commands.seldom)
         # rows of one server with other rooms for views that are still to come
         self.in_rooms = []
 
@@ -57,7 +65,8 @@ class Exchanges:
 
     def slipped(self, held):
         place = self.random.randint(0, len(held))
-        return held[:place] + self.one_of([b"", b" ", b"x", b"\xff", b"\"", b"\\", b"}", b":", b"\r\n"]) + held[place + self.random.randrange(2):]
+        return (held[:place] + self.one_of([b"", b" ", b"x", b"\xff", b"\"", b"\\", b"}", b":", b"\r\n"])
+                + held[place + self.random.randrange(2):])
 
     def target(self, path):
         if self.seldom(0.025):
@@ -69,8 +78,10 @@ class Exchanges:
     def authorization(self, token):
         """Fields with the token, mostly one that shows it."""
         token = self.one_of(NO_TOKENS) if self.seldom(0.007) else token
-        scheme = self.one_of(NO_SCHEMES) if self.seldom(0.007) else self.one_of([b"Bearer "] * 9 + [b"bearer  ", b"BEARER ", b" Bearer "])
-        line = self.one_of([b"Authorization: ", b"authorization:"]) + scheme + token + self.one_of([b"\r\n", b" \r\n", b"\n"])
+        scheme = (self.one_of(NO_SCHEMES)
+                  if self.seldom(0.007) else self.one_of([b"Bearer "] * 9 + [b"bearer  ", b"BEARER ", b" Bearer "]))
+        line = (self.one_of([b"Authorization: ", b"authorization:"]) + scheme + token
+                + self.one_of([b"\r\n", b" \r\n", b"\n"]))
         return [line] * (self.one_of([0, 2]) if self.seldom(0.01) else 1)
 
     def lengths(self, length):
@@ -82,14 +93,16 @@ class Exchanges:
 
     def head(self, asking, length):
         lines = (self.lengths(length) if length or self.seldom(0.3) else []) + self.authorization(asking.token)
-        for more, chance in ((FIELD_LINES, 0.3), (MEDIA_LINES, 0.3), (NO_MEDIA_LINES, 0.02), (CLOSING_LINES, 0.03), (FAULTY_LINES, 0.01)):
+        for more, chance in ((FIELD_LINES, 0.3), (MEDIA_LINES, 0.3), (NO_MEDIA_LINES, 0.02), (CLOSING_LINES, 0.03),
+                             (FAULTY_LINES, 0.01)):
             lines += [self.one_of(more)] * self.seldom(chance)
         self.random.shuffle(lines)
         if self.seldom(0.003):
             lines.append(b"X: " + b"a" * self.one_of([15_900, 16_384]) + b"\r\n")
         method = self.one_of(METHODS) if self.seldom(0.03) else asking.method
         version = self.one_of(VERSIONS) if self.seldom(0.012) else b" HTTP/1.1\r\n"
-        return method + b" " + self.target(asking.path) + version + b"".join(lines) + self.one_of([b"\r\n"] * 9 + [b"\n"])
+        return (method + b" " + self.target(asking.path) + version + b"".join(lines)
+                + self.one_of([b"\r\n"] * 9 + [b"\n"]))
 
     def message(self):
         asking = self.commands.next()
@@ -114,7 +127,8 @@ class Exchanges:
         decisions = self.commands.decisions
         active = decisions.active()
         active = distinct(active) if self.seldom(0.97) else active
-        fields = [self.one_of(["document:"] * 7 + ["inactive:"]) + encoded(decisions.drafts.text(draft)) for draft in active]
+        fields = [self.one_of(["document:"] * 7 + ["inactive:"]) + encoded(decisions.drafts.text(draft))
+                  for draft in active]
         fields += ["document:" + encoded(self.commands.breaking.text())] * self.seldom(0.03)
         return fields + decisions.root(active) + decisions.world.source()
 
@@ -123,7 +137,8 @@ class Exchanges:
         fields = []
         for name in names:
             tokens = self.random.sample(TOKENS, self.random.randint(1, 3))
-            fields += ["domain:" + name] + [self.one_of(["ask:", "admin:"]) + encoded(token) for token in tokens] + (self.view() if with_views else [])
+            fields += (["domain:" + name] + [self.one_of(["ask:", "admin:"]) + encoded(token) for token in tokens]
+                       + (self.view() if with_views else []))
         return fields
 
     def domains(self):
@@ -169,7 +184,8 @@ class Exchanges:
     def stream(self):
         """A row of a stream alone."""
         self.begin()
-        return ["stream", *map(encoded, self.pieces(b"".join(self.message() for _ in range(self.one_of([1, 1, 2, 3])))))]
+        return ["stream",
+                *map(encoded, self.pieces(b"".join(self.message() for _ in range(self.one_of([1, 1, 2, 3])))))]
 
     def rooms(self):
         """The next row of a server that has room for so many views: the same messages for each of the rooms in turn."""
@@ -179,9 +195,11 @@ class Exchanges:
         return self.in_rooms.pop()
 
     def sockets(self):
-        """A row of a server's messages over sockets; of the server alone where a connection has more bytes than are sure to fit into the buffers."""
+        """A row of a server's messages over sockets; of the server alone where a connection has more bytes than are
+        sure to fit into the buffers."""
         kind, *fields = self.server()
-        fields = ["close:" if field == "restart:" else field for field in fields if field.partition(":")[0] not in COUNTS]
+        fields = ["close:" if field == "restart:" else field
+                  for field in fields if field.partition(":")[0] not in COUNTS]
         written = " ".join(fields).split(" close: ")
         fits = all(len(held) < BUFFERED for held in written + loopback(*fields))
         return ["loopback" if fits else kind, *fields]

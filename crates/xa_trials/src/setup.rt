@@ -1,0 +1,125 @@
+//! What stands in rows of a server before the first event, and the server that it makes: `made:BYTES`,
+//! messages that have to succeed and aren't answered, and what is set of the server.
+//! `views:COUNT` says for how many views it has room, where that isn't 128, and `room:BYTES` how many bytes
+//! the views that are kept may take. `reply:BYTES` limits the body of each response, and `reading:BYTES` the
+//! texts that are read for each message. `limit:UNITS` limits the work for each message of the events.
+use crate::answer::Answer;
+use crate::clock::moment_of;
+use crate::field::{number_of, word_and_text};
+use crate::front_calls::run;
+use crate::no_answer::NoAnswer;
+use crate::scripts::{ScriptReader, server_over};
+use std::alloc::Global;
+use xa_http::Message;
+use xa_records::Records;
+use xa_server::Server;
+use xa_value::Moment;
+
+/// What is set of a server, and the messages that come to it before the first event.
+#[derive(Drop)]
+pub struct Setup {
+    /// For how many views it has room.
+    views: Option<usize>,
+    /// How many bytes the views that are kept may take.
+    room: Option<usize>,
+    /// The limit of each response's body, in bytes.
+    reply: Option<u64>,
+    /// The limit of the texts that are read for each message, in bytes.
+    reading: Option<u64>,
+    /// The limit of work for each message of the events, in units.
+    limit: Option<u64>,
+    /// The messages.
+    made: ScriptReader,
+    /// Their moment, which is that of the first event too.
+    pub moment: Moment,
+}
+
+impl Setup {
+    /// Takes in what the field says, where that may stand before the first event. Whether it may.
+    fn take(&mut self, alloc: Global, field: &str) -> Result<bool, NoAnswer> {
+        let (word, text) = word_and_text(field);
+        match word {
+            "views" => self.views = Some(number_of(text)?),
+            "room" => self.room = Some(number_of(text)?),
+            "reply" => self.reply = Some(number_of(text)?),
+            "reading" => self.reading = Some(number_of(text)?),
+            "limit" => self.limit = Some(number_of(text)?),
+            "made" => self.made.read(alloc, field)?,
+            _ => return Ok(false),
+        }
+        Ok(true)
+    }
+
+    /// The server with all that is set of it before the messages.
+    fn set<R: Records + Drop>(&self, mut server: Server<R>) -> Server<R> {
+        if let Some(most) = self.views {
+            server = server.with_views(most);
+        }
+        if let Some(bytes) = self.room {
+            server = server.with_room(bytes);
+        }
+        if let Some(bytes) = self.reply {
+            server = server.with_reply_limit(bytes);
+        }
+        if let Some(bytes) = self.reading {
+            server = server.with_reading(bytes);
+        }
+        server
+    }
+}
+
+/// What stands in the fields before the first event, and the events.
+pub fn setup_and_events<'a>(
+    alloc: Global,
+    fields: &'a [&'a str],
+) -> Result<(Setup, &'a [&'a str]), NoAnswer> {
+    let moment = moment_of("0")?;
+    let mut setup = Setup {
+        views: None,
+        room: None,
+        reply: None,
+        reading: None,
+        limit: None,
+        made: ScriptReader::new(alloc, moment),
+        moment,
+    };
+    let mut count = 0usize;
+    for field in fields {
+        if !setup.take(alloc, field)? {
+            break;
+        }
+        count = count.saturating_add(1);
+    }
+    Ok((setup, fields.get(count..).unwrap_or(&[])))
+}
+
+/// Sends the messages. The first reply that is no success is the row's whole answer.
+fn make<R: Records + Drop>(
+    answer: &mut Answer,
+    server: &mut Server<R>,
+    messages: &[(Moment, Message)],
+) -> Result<(), NoAnswer> {
+    let replies = run(server, messages)?;
+    for reply in &replies {
+        let bytes = reply.bytes();
+        if !bytes.starts_with(b"HTTP/1.1 200 ") && !bytes.starts_with(b"HTTP/1.1 201 ") {
+            answer.push_field("", bytes);
+            return Err(NoAnswer::Answered);
+        }
+    }
+    Ok(())
+}
+
+/// A server over the keeper, as it is set up.
+pub fn server_made<R: Records + Drop>(
+    answer: &mut Answer,
+    records: R,
+    setup: &Setup,
+) -> Result<Server<R>, NoAnswer> {
+    let mut server = setup.set(server_over(answer.alloc(), records)?);
+    make(answer, &mut server, &setup.made.messages)?;
+    match setup.limit {
+        Some(units) => Ok(server.with_limit(units)),
+        None => Ok(server),
+    }
+}
