@@ -40,7 +40,7 @@ check: ## proves a crate, over what earlier checks kept
 api: pdpd ## proves and builds pdpd, and sends it every example of the API reference (docs/guide/API.md, docs/guide/openapi.yaml)
 	tests/api.py
 
-memory: ## refuses pdpd and xa_trials each of their allocations in turn, as `make test` does too; compiles a few lines of C with cc
+memory: ## refuses pdpd and xa_trials each allocation of a script in turn, as `make test` does too; compiles a few lines of C with cc
 	tests/memory.py
 
 edits: ## tries the further wrong bodies in edits/NAME, each of which the prover must reject

@@ -1,14 +1,18 @@
 #!/usr/bin/env python3
-"""What an ask takes through the proved pdpd, in microseconds of processor time: one whose response is kept, and ordinary ones that are worked out.
+"""What an ask takes through the proved pdpd, in microseconds of processor time: one whose response is kept, and
+ordinary ones that are worked out.
 
 Usage: bench/asks.py [PDPD]     PDPD: the built program (build/pdpd, which `make pdpd` makes)
-       bench/asks.py PDPD --instructions     instructions in place of times, in some minutes (valgrind, Debian's package); and those of asks with
-                                             many values, by policies of so many matches on them that are all false
+       bench/asks.py PDPD --instructions     instructions in place of times, in some minutes (valgrind, Debian's
+                                             package); and those of asks with many values, by policies of so many
+                                             matches on them that are all false
 
-A domain has one policy, of ten rules with a match each, of which the last permits. A request has three attributes. The same bytes again and again are worked
-out once; 1,000 requests in turn are more than are kept, so that each is worked out. Each kind is sent so many times and twice as many: the difference is
-what the messages take. Then the same by a policy of one rule with 10 and with 150 alternatives of a match each, of which the last is true: the difference is what
-140 matches take that look at a text and find another. Times are the best of three runs; on a disturbed machine they say little.
+A domain has one policy, of ten rules with a match each, of which the last permits. A request has three attributes.
+The same bytes again and again are worked out once; 1,000 requests in turn are more than are kept, so that each is
+worked out. Each kind is sent so many times and twice as many: the difference is what the messages take. Then the same
+by a policy of one rule with 10 and with 150 alternatives of a match each, of which the last is true: the difference
+is what 140 matches take that look at a text and find another. Times are the best of three runs; on a disturbed
+machine they say little.
 """
 import sys
 
@@ -22,13 +26,15 @@ VALUES, MATCHES, LARGE_ASKS = (255, 256, 1000), (8, 16, 17, 30, 60, 150), 600
 
 
 def kinds():
-    designator = {"AttributeDesignator": {"Category": "Environment", "AttributeId": CLOCK, "DataType": "time", "MustBePresent": False}}
+    designator = {"AttributeDesignator": {"Category": "Environment", "AttributeId": CLOCK, "DataType": "time",
+                                          "MustBePresent": False}}
     clock = policy(VariableDefinition=[{"VariableId": "v", "Expression": designator}])
     return {
         "a wrong token, 401": (domain("acme", policy()), [ask("acme", 0, "wrong-token-1")]),
         "kept: the same bytes again": (domain("acme", policy()), [ask("acme", 0)]),
         "kept: 500 requests in turn": (domain("acme", policy()), [ask("acme", number) for number in range(500)]),
-        "worked out: 1,000 requests in turn": (domain("acme", policy()), [ask("acme", number) for number in range(1000)]),
+        "worked out: 1,000 requests in turn": (domain("acme", policy()),
+                                               [ask("acme", number) for number in range(1000)]),
         "worked out: a policy that names the clock": (domain("acme", clock), [ask("acme", 0)]),
     }
 
@@ -58,7 +64,8 @@ def by_instructions():
     print("values, by matches" + "".join(f"{count:12}" for count in MATCHES))
     for values in VALUES:
         asks = [ask_with_values("acme", number, values) for number in range(LARGE_ASKS)]
-        print(f"{values:18}" + "".join(f"{instructions_of_each(domain('acme', alternatives(count)), asks):12,.0f}" for count in MATCHES))
+        print(f"{values:18}" + "".join(f"{instructions_of_each(domain('acme', alternatives(count)), asks):12,.0f}"
+                                       for count in MATCHES))
 
 
 def main():

@@ -3,11 +3,12 @@
 
 Usage: bench/casbin.py [PDPD]     PDPD: the built program (build/pdpd, which `make pdpd` makes)
 
-Both decide by 10, 50 or 150 rules with one comparison each, of which the last permits; 1,000 different subjects ask in turn, which are more decisions than pdpd keeps. pdpd takes
-each ask as an HTTP message with a request of the JSON Profile, checks its token, and writes an HTTP reply. casbin (Enforce of an Enforcer without a cache) gets its
-three words from a small JSON object, and its decision is written as one; there is no HTTP on its side. It needs Debian's packages golang-go and
-golang-github-casbin-casbin-dev, and leaves nothing behind. Each figure is the median of nine rounds, in each of which both programs start and decide
-so many times, one after the other.
+Both decide by 10, 50 or 150 rules with one comparison each, of which the last permits; 1,000 different subjects ask in
+turn, which are more decisions than pdpd keeps. pdpd takes each ask as an HTTP message with a request of the JSON
+Profile, checks its token, and writes an HTTP reply. casbin (Enforce of an Enforcer without a cache) gets its three
+words from a small JSON object, and its decision is written as one; there is no HTTP on its side. It needs Debian's
+packages golang-go and golang-github-casbin-casbin-dev, and leaves nothing behind. Each figure is the median of nine
+rounds, in each of which both programs start and decide so many times, one after the other.
 """
 import os
 import resource
@@ -18,7 +19,8 @@ import tempfile
 
 sys.dont_write_bytecode = True
 from asking import ask, domain, policy  # noqa: E402
-from transcripts import OPERATOR, PROGRAM, transcript  # noqa: E402
+from sent import OPERATOR  # noqa: E402
+from transcripts import PROGRAM, transcript  # noqa: E402
 
 # how many rules, and how many decisions are measured
 KINDS = ((10, 100_000), (50, 40_000), (150, 20_000))
@@ -89,7 +91,8 @@ def built(folder):
 def spent(words, folder, given=subprocess.DEVNULL):
     """Processor seconds of the program. casbin's has one processor, so that no collector runs beside it unseen."""
     before = resource.getrusage(resource.RUSAGE_CHILDREN)
-    subprocess.run(words, cwd=folder, stdin=given, stdout=subprocess.DEVNULL, check=True, env={**os.environ, "GOMAXPROCS": "1"})
+    subprocess.run(words, cwd=folder, stdin=given, stdout=subprocess.DEVNULL, check=True,
+                   env={**os.environ, "GOMAXPROCS": "1"})
     after = resource.getrusage(resource.RUSAGE_CHILDREN)
     return after.ru_utime - before.ru_utime + after.ru_stime - before.ru_stime
 
@@ -118,7 +121,8 @@ def main():
             rounds = [(asked(folder, rules, count), enforced(program, folder, rules, count)) for _ in range(ROUNDS)]
             ours, theirs = (statistics.median(each) for each in zip(*rounds))
             ratios = sorted(theirs / ours for ours, theirs in rounds)
-            print(f"{rules:5}{ours:22.2f}{theirs:10.2f}{statistics.median(ratios):10.1f} times ({ratios[0]:.1f} to {ratios[-1]:.1f})", flush=True)
+            print(f"{rules:5}{ours:22.2f}{theirs:10.2f}{statistics.median(ratios):10.1f} times ({ratios[0]:.1f} to "
+                  f"{ratios[-1]:.1f})", flush=True)
 
 
 if __name__ == "__main__":

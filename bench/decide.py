@@ -1,12 +1,16 @@
 #!/usr/bin/env python3
-"""Decisions on large requests, by 999 policies of 10 designators each: nanoseconds a designator, and what the rest of a decision takes.
+"""Decisions on large requests, by 999 policies of 10 designators each: nanoseconds a designator, and what the
+rest of a decision takes.
 
-Usage: bench/decide.py [XA_TRIALS]     XA_TRIALS: the built program; without it the proved one, which is proved and built first where it isn't yet
-       bench/decide.py --instructions [XA_TRIALS]     instructions in place of times, in some minutes (valgrind, Debian's package)
+Usage: bench/decide.py [XA_TRIALS]     XA_TRIALS: the built program; without it the proved one, which is proved and
+                                       built first where it isn't yet
+       bench/decide.py --instructions [XA_TRIALS]     instructions in place of times, in some minutes
+                                                      (valgrind, Debian's package)
 
-The program xa_trials answers `decide` rows, each with 1,000 documents. A request with 64 individual requests asks each designator 63 times more than
-the same request with one, and links no more: so the difference of their times is what designators cost, with the match that each stands in. Times are
-processor time, the best of five runs; on a disturbed machine they say little. Instructions are the same on any machine.
+The program xa_trials answers `decide` rows, each with 1,000 documents. A request with 64 individual requests asks each
+designator 63 times more than the same request with one, and links no more: so the difference of their times is what
+designators cost, with the match that each stands in. Times are processor time, the best of five runs; on a disturbed
+machine they say little. Instructions are the same on any machine.
 """
 import json
 import pathlib
@@ -36,27 +40,32 @@ def attribute_id(number):
 
 
 def policy(place, one_id, named, designators):
-    """A policy of this many matches that are all false, each of another attribute, or all of one id, by an issuer each where they are named."""
+    """A policy of this many matches that are all false, each of another attribute, or all of one id, by an issuer each
+    where they are named."""
     alternatives = []
     for i in range(designators):
-        designator = {"Category": "Resource", "AttributeId": attribute_id(0 if one_id else (place * DESIGNATORS + i) * 7),
-                      "DataType": "string", "MustBePresent": False}
+        designator = {"Category": "Resource",
+                      "AttributeId": attribute_id(0 if one_id else (place * DESIGNATORS + i) * 7), "DataType": "string",
+                      "MustBePresent": False}
         if named:
             designator["Issuer"] = f"i{(place * DESIGNATORS + i) * 7 % ATTRIBUTES}"
         alternatives.append({"Match": [{"MatchId": "urn:oasis:names:tc:xacml:1.0:function:string-equal",
-                                        "AttributeValue": {"DataType": "string", "Value": "none"}, "AttributeDesignator": designator}]})
+                                        "AttributeValue": {"DataType": "string", "Value": "none"},
+                                        "AttributeDesignator": designator}]})
     target = {"Target": {"AnyOf": [{"AllOf": alternatives}]}} if alternatives else {}
     return {"Policy": {"PolicyId": f"p{place}", "Version": "1", "RuleCombiningAlgId": ALGORITHM % "rule", **target}}
 
 
 def view(one_id=False, named=False, rows=0, issued=0, designators=DESIGNATORS):
-    """The fields of a row for the set of all policies, and this many rows of the source, of an entity that no request names; and this many of one attribute of the resource,
-    each of another issuer."""
+    """The fields of a row for the set of all policies, and this many rows of the source, of an entity that no request
+    names; and this many of one attribute of the resource, each of another issuer."""
     root = {"PolicySet": {"PolicySetId": "root", "Version": "1", "PolicyCombiningAlgId": ALGORITHM % "policy",
                           "Children": [{"PolicyIdReference": {"Id": f"p{place}"}} for place in range(POLICIES)]}}
-    fields = ["active:" + json.dumps(policy(place, one_id, named, designators), separators=(",", ":")) for place in range(POLICIES)]
+    fields = ["active:" + json.dumps(policy(place, one_id, named, designators), separators=(",", ":"))
+              for place in range(POLICIES)]
     fields += ["active:" + json.dumps(root, separators=(",", ":")), "root:set|root|||"]
-    return fields + [f"row:{RESOURCE}|somebody else|{attribute_id(i)}|string=row" for i in range(rows)] + [f"row:{RESOURCE}|{RESOURCE_NAME}|{attribute_id(0)}|string|i{i}=row" for i in range(issued)]
+    return (fields + [f"row:{RESOURCE}|somebody else|{attribute_id(i)}|string=row" for i in range(rows)]
+            + [f"row:{RESOURCE}|{RESOURCE_NAME}|{attribute_id(0)}|string|i{i}=row" for i in range(issued)])
 
 
 def ids(count):
@@ -76,13 +85,15 @@ def without_values(count):
 
 def names(count):
     """The attribute that names the resource, with this many values."""
-    return [{"AttributeId": "urn:oasis:names:tc:xacml:1.0:resource:resource-id", "Value": [f"record {i}" for i in range(count)]}]
+    return [{"AttributeId": "urn:oasis:names:tc:xacml:1.0:resource:resource-id",
+             "Value": [f"record {i}" for i in range(count)]}]
 
 
 def request(attributes, individuals):
     """A request that has these attributes of the resource, with this many individual requests of it."""
     return json.dumps({"Request": {"Category": [{"CategoryId": "Resource", "Id": "r", "Attribute": attributes}],
-                                   "MultiRequests": {"RequestReference": [{"ReferenceId": ["r"]}] * individuals}}}, separators=(",", ":"))
+                                   "MultiRequests": {"RequestReference": [{"ReferenceId": ["r"]}] * individuals}}},
+                      separators=(",", ":"))
 
 
 def seconds(fields, body):
@@ -108,7 +119,8 @@ def instructions(fields, body):
     with tempfile.NamedTemporaryFile("w+") as rows, tempfile.NamedTemporaryFile("r") as log:
         rows.write("\t".join(as_read(["decide", *fields, body])) + "\n")
         rows.flush()
-        command = ["valgrind", "--tool=cachegrind", "--cache-sim=no", "--cachegrind-out-file=/dev/null", f"--log-file={log.name}", PROGRAM]
+        command = ["valgrind", "--tool=cachegrind", "--cache-sim=no", "--cachegrind-out-file=/dev/null",
+                   f"--log-file={log.name}", PROGRAM]
         with open(rows.name, encoding="ascii") as given:
             subprocess.run(command, stdin=given, stdout=subprocess.DEVNULL, check=True)
         return int(re.search(r"I +refs: +([0-9,]+)", log.read())[1].replace(",", ""))
@@ -116,7 +128,8 @@ def instructions(fields, body):
 
 def main():
     if not WORDS:
-        subprocess.run(["rt", "run"], cwd=CRATE, stdin=subprocess.DEVNULL, stdout=subprocess.DEVNULL, stderr=subprocess.DEVNULL, check=True)
+        subprocess.run(["rt", "run"], cwd=CRATE, stdin=subprocess.DEVNULL, stdout=subprocess.DEVNULL,
+                       stderr=subprocess.DEVNULL, check=True)
     cases = [("no designators", view(designators=0), ids(3)),
              ("3 attributes", view(), ids(3)),
              ("3 attributes, of which each match looks at one", view(one_id=True), ids(3)),
@@ -125,8 +138,10 @@ def main():
              ("5,000 attributes of one id, none with a value", view(one_id=True), without_values(ATTRIBUTES)),
              ("4,096 rows of the source, none of the entity, no attribute", view(rows=ROWS), []),
              ("the same, and 5,000 names of the resource", view(rows=ROWS), names(ATTRIBUTES)),
-             ("4,096 rows of one key and as many issuers, by an issuer", view(one_id=True, named=True, issued=ROWS), names(1))]
-    heads = ("1 individual, 10^6", "64, 10^6", "for a designator") if BY_INSTRUCTIONS else ("1 individual, ms", "64, ms", "ns for a designator")
+             ("4,096 rows of one key and as many issuers, by an issuer",
+              view(one_id=True, named=True, issued=ROWS), names(1))]
+    heads = (("1 individual, 10^6", "64, 10^6", "for a designator")
+             if BY_INSTRUCTIONS else ("1 individual, ms", "64, ms", "ns for a designator"))
     print(f"{'instructions' if BY_INSTRUCTIONS else '':<60} {heads[0]:>18} {heads[1]:>9} {heads[2]:>20}", flush=True)
     measured, scale, unit = (instructions, 1e-6, 1) if BY_INSTRUCTIONS else (seconds, 1000, 1e9)
     alone = 0

@@ -32,7 +32,8 @@ def ward(operator, name):
     """Makes a domain of the ward's example, and gives its ask."""
     token, at, read = f"{name}-token-1", f"/domains/{name}", lambda file: (WARD / file).read_text()
     root = json.dumps({"PolicyIdReference": {"Id": "urn:example:ward:records"}})
-    for data in (operator.creates(name), operator.message("POST", f"/{name}/tokens", json.dumps({"Role": "admin", "Token": token})),
+    for data in (operator.creates(name),
+                 operator.message("POST", f"/{name}/tokens", json.dumps({"Role": "admin", "Token": token})),
                  message("POST", f"{at}/pap/policies", token, read("policy.json")),
                  message("PUT", f"{at}/pap/policy/urn:example:ward:records/1.0/active", token),
                  message("PUT", f"{at}/pap/root", token, root), message("PUT", f"{at}/pip", token, read("rows.json"))):
@@ -54,7 +55,8 @@ http {{ access_log off; default_type application/xacml+json; client_body_temp_pa
   fastcgi_temp_path {folder}/f; uwsgi_temp_path {folder}/u; scgi_temp_path {folder}/s;
   server {{ listen 127.0.0.1:7100; location / {{ return 200 '{REPLY}'; }} }} }}
 """)
-    return subprocess.Popen(["nginx", "-c", f"{folder}/nginx.conf", "-p", str(folder)], stdout=subprocess.DEVNULL, stderr=subprocess.DEVNULL)
+    return subprocess.Popen(["nginx", "-c", f"{folder}/nginx.conf", "-p", str(folder)], stdout=subprocess.DEVNULL,
+                            stderr=subprocess.DEVNULL)
 
 
 def domains_over(made, count):

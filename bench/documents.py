@@ -1,14 +1,14 @@
 #!/usr/bin/env python3
-"""Policy documents: how long one takes to read, beside the time that `serde_json` alone takes for the same text, and the
-memory that each of the two takes.
+"""Policy documents: how long one takes to read, beside the time that `serde_json` alone takes for the same text, and
+the memory that each of the two takes.
 
 Usage: bench/documents.py
 
-Proves and builds the program below over a copy of xa_notation and what it stands on, and gives it documents of 1, 8 and 64 KiB
-of rules with targets, conditions and obligations, and documents of shapes that would show work which grows faster than the text, each at
-8 and at 64 KiB: what is read in time in proportion to its bytes takes as many nanoseconds a byte at both. Times are the best of
-five measurements of 2,000,000 bytes at least. Peak memory is what GNU time reads where the text is read once, less
-that of a program that reads none.
+Proves and builds the program below over a copy of xa_notation and what it stands on, and gives it documents of 1, 8
+and 64 KiB of rules with targets, conditions and obligations, and documents of shapes that would show work which grows
+faster than the text, each at 8 and at 64 KiB: what is read in time in proportion to its bytes takes as many
+nanoseconds a byte at both. Times are the best of five measurements of 2,000,000 bytes at least. Peak memory is what
+GNU time reads where the text is read once, less that of a program that reads none.
 """
 import json
 import os
@@ -128,11 +128,11 @@ def usual_rule(number):
     match = {"MatchId": F1 + "string-equal", **text_literal(f"role-{number}"),
              "AttributeDesignator": designator("AccessSubject", "urn:example:role")}
     action = {"AttributeDesignator": designator("Action", "urn:oasis:names:tc:xacml:1.0:action:action-id")}
-    return {"RuleId": f"rule-{number}", "Effect": "Permit",
-            "Target": {"AnyOf": [{"AllOf": [{"Match": [match]}]}]},
+    return {"RuleId": f"rule-{number}", "Effect": "Permit", "Target": {"AnyOf": [{"AllOf": [{"Match": [match]}]}]},
             "Condition": apply("string-is-in", text_literal("read"), action),
-            "ObligationExpressions": [{"ObligationId": "urn:example:log", "FulfillOn": "Permit", "AttributeAssignmentExpression": [
-                {"AttributeId": "urn:example:rule", "Expression": text_literal(f"rule {number}")}]}]}
+            "ObligationExpressions": [
+                {"ObligationId": "urn:example:log", "FulfillOn": "Permit", "AttributeAssignmentExpression": [
+                    {"AttributeId": "urn:example:rule", "Expression": text_literal(f"rule {number}")}]}]}
 
 
 def usual(count):
@@ -153,7 +153,8 @@ def members_beside_a_policy(count):
 
 def members_of_a_value(count):
     value = {f"m{number:04}": 12345 for number in range(count)}
-    return document(Rule=[{"RuleId": "r", "Effect": "Deny", "Condition": {"AttributeValue": {"DataType": "string", "Value": value}}}])
+    return document(Rule=[{"RuleId": "r", "Effect": "Deny",
+                           "Condition": {"AttributeValue": {"DataType": "string", "Value": value}}}])
 
 
 def reference(name):
@@ -169,7 +170,8 @@ TRUE = {"AttributeValue": {"DataType": "boolean", "Value": True}}
 
 def chain(count):
     first = definition("v0", TRUE)
-    return document(VariableDefinition=[first] + [definition(f"v{number}", reference(f"v{number - 1}")) for number in range(1, count)])
+    return document(VariableDefinition=[first]
+                    + [definition(f"v{number}", reference(f"v{number - 1}")) for number in range(1, count)])
 
 
 def wide(count):
@@ -214,7 +216,8 @@ def children(count):
     """Policies in the innermost of eight policy sets."""
     tree = [{"Policy": policy()}] * count
     for _ in range(8):
-        tree = [{"PolicySet": {"PolicySetId": "urn:s", "Version": "1", "PolicyCombiningAlgId": DENY_OVERRIDES_OF_SETS, "Children": tree}}]
+        tree = [{"PolicySet": {"PolicySetId": "urn:s", "Version": "1", "PolicyCombiningAlgId": DENY_OVERRIDES_OF_SETS,
+                               "Children": tree}}]
     return tree[0]
 
 
@@ -299,14 +302,16 @@ def measured(program, kind, text):
 def peak(program, line):
     """Peak memory in KiB."""
     with tempfile.NamedTemporaryFile("r") as memory:
-        subprocess.run(["/usr/bin/time", "-f", "%M", "-o", memory.name, program], input=line.encode(), stdout=subprocess.DEVNULL, check=True)
+        subprocess.run(["/usr/bin/time", "-f", "%M", "-o", memory.name, program], input=line.encode(),
+                       stdout=subprocess.DEVNULL, check=True)
         return int(memory.read())
 
 
 def main():
     with tempfile.TemporaryDirectory() as work:
         program = build(work)
-        print(f"{'document':44} {'parts':>5} {'bytes':>6} {'read/s':>8} {'us':>8} {'ns/byte':>7}  {'JSON us':>8} {'ns/byte':>7} {'KiB':>6} {'JSON KiB':>8}  read as")
+        print(f"{'document':44} {'parts':>5} {'bytes':>6} {'read/s':>8} {'us':>8} {'ns/byte':>7}  {'JSON us':>8} "
+              f"{'ns/byte':>7} {'KiB':>6} {'JSON KiB':>8}  read as")
         sizes = [("rules with targets and conditions", usual, 1_024), ("", usual, 8_192), ("", usual, 65_536)]
         for name, shape in SHAPES:
             sizes += [(name, shape, 8_192), ("", shape, 65_536)]

@@ -1,11 +1,13 @@
 #!/usr/bin/env python3
-"""Messages of one domain through the proved `pdpd serve` over a file, with 1 and with 10,000 domains of 10 documents each: microseconds of processor time a message, which may
-differ by three tenths and 3 microseconds, for a table of many rows is one or two pages deeper; and the operator's list of all domains, which may take 5 ms.
+"""Messages of one domain through the proved `pdpd serve` over a file, with 1 and with 10,000 domains of 10 documents
+each: microseconds of processor time a message, which may differ by three tenths and 3 microseconds, for a table of
+many rows is one or two pages deeper; and the operator's list of all domains, which may take 5 ms.
 
 Usage: bench/domains.py [PDPD]     PDPD: the built program (build/pdpd, which `make pdpd` makes)
 
-The files are written by Python's sqlite3. Messages of one kind after another go to one of the domains, in pieces of 100 without waiting, each kind nine times; the best counts. In each message is the
-system call that sends its reply, and in a change what the disk's calls take of the processor. On a disturbed machine the times say little.
+The files are written by Python's sqlite3. Messages of one kind after another go to one of the domains, in pieces of
+100 without waiting, each kind nine times; the best counts. In each message is the system call that sends its reply,
+and in a change what the disk's calls take of the processor. On a disturbed machine the times say little.
 """
 import hashlib
 import json
@@ -25,11 +27,14 @@ TOKEN, RUNS, MOST, MORE, COUNT, LISTINGS, MOST_LISTING = "domain-token-1", 9, 1.
 
 
 def rows(numbers):
-    """The rows of a store of domains with these numbers: a token, ten documents of which one is active, and the root."""
+    """The rows of a store of domains with these numbers: a token, ten documents of which one is
+    active, and the root."""
     digest = hashlib.sha256(TOKEN.encode()).digest()
-    documents = [(number, 0, f"urn:p{at}", "1.0", policy("Permit", f"urn:p{at}").encode(), int(at == 3)) for number in numbers for at in range(10)]
-    return {"meta": [(1, 2, max(numbers) + 1)], "domains": [(number, f"d{number}", 0) for number in numbers], "tokens": [(number, digest, 1) for number in numbers],
-            "policies": documents, "roots": [(number, 0, "urn:p3", None, None, None) for number in numbers], "attributes": [], "sources": []}
+    documents = [(number, 0, f"urn:p{at}", "1.0", policy("Permit", f"urn:p{at}").encode(), int(at == 3))
+                 for number in numbers for at in range(10)]
+    return {"meta": [(1, 2, max(numbers) + 1)], "domains": [(number, f"d{number}", 0) for number in numbers],
+            "tokens": [(number, digest, 1) for number in numbers], "policies": documents,
+            "roots": [(number, 0, "urn:p3", None, None, None) for number in numbers], "attributes": [], "sources": []}
 
 
 def kinds(name):
@@ -37,13 +42,20 @@ def kinds(name):
     at = f"/domains/{name}/pap"
     return {
         "an ask that is kept": [message("POST", f"/domains/{name}/pdp", TOKEN, '{"Request":{}}')] * 2,
-        "an ask, another one each time": [message("POST", f"/domains/{name}/pdp", TOKEN, '{"Request":{"Action":{"Id":"%d"}}}' % number) for number in range(1000)],
-        "an upload, and its deletion": [message("POST", f"{at}/policies", TOKEN, policy("Permit", "urn:p99")), message("DELETE", f"{at}/policy/urn:p99/1.0", TOKEN)],
-        "an activation, and a withdrawal": [message("PUT", f"{at}/policy/urn:p5/1.0/active", TOKEN), message("DELETE", f"{at}/policy/urn:p5/1.0/active", TOKEN)],
+        "an ask, another one each time": [message("POST", f"/domains/{name}/pdp", TOKEN,
+                                                  '{"Request":{"Action":{"Id":"%d"}}}' % number)
+                                          for number in range(1000)],
+        "an upload, and its deletion": [message("POST", f"{at}/policies", TOKEN, policy("Permit", "urn:p99")),
+                                        message("DELETE", f"{at}/policy/urn:p99/1.0", TOKEN)],
+        "an activation, and a withdrawal": [message("PUT", f"{at}/policy/urn:p5/1.0/active", TOKEN),
+                                            message("DELETE", f"{at}/policy/urn:p5/1.0/active", TOKEN)],
         "the list of documents": [message("GET", f"{at}/policies", TOKEN)] * 2,
-        "a root, and another": [message("PUT", f"{at}/root", TOKEN, json.dumps({"PolicyIdReference": {"Id": f"urn:p{number}"}})) for number in (3, 4)],
+        "a root, and another": [message("PUT", f"{at}/root", TOKEN,
+                                        json.dumps({"PolicyIdReference": {"Id": f"urn:p{number}"}}))
+                                for number in (3, 4)],
         "a token, and its end": [message(method, f"/operator/domains/{name}/tokens", OPERATOR, body) for method, body in
-                                 (("POST", '{"Role":"ask","Token":"another-token"}'), ("DELETE", '{"Token":"another-token"}'))],
+                                 (("POST", '{"Role":"ask","Token":"another-token"}'),
+                                  ("DELETE", '{"Token":"another-token"}'))],
         "401, a wrong token": [message("POST", f"/domains/{name}/pdp", "wrong-token-1", '{"Request":{}}')] * 2,
         "401, an absent domain": [message("POST", "/domains/absent/pdp", TOKEN, '{"Request":{}}')] * 2,
         "404, nothing there": [message("POST", f"/domains/{name}/pdq", TOKEN, '{"Request":{}}')] * 2,
@@ -81,9 +93,11 @@ def main():
     for kind, (took, last) in few.items():
         slower = many[kind][0] > MOST * took + MORE
         failed += slower
-        print(f"{kind:34}{took:12.2f}{many[kind][0]:17.2f}   {last.removeprefix('HTTP/1.1 ')}{'   more than that' if slower else ''}")
+        print(f"{kind:34}{took:12.2f}{many[kind][0]:17.2f}   {last.removeprefix('HTTP/1.1 ')}"
+              f"{'   more than that' if slower else ''}")
     failed += listing > MOST_LISTING
-    print(f"{'the operator lists all domains':34}{'':12}{listing:17.2f}   {status.removeprefix('HTTP/1.1 ')}{'   more than 5 ms' if listing > MOST_LISTING else ''}")
+    print(f"{'the operator lists all domains':34}{'':12}{listing:17.2f}   {status.removeprefix('HTTP/1.1 ')}"
+          f"{'   more than 5 ms' if listing > MOST_LISTING else ''}")
     return 1 if failed else 0
 
 

@@ -47,7 +47,8 @@ def fresh(folder):
 def gate(folder):
     """Runs the gate from nothing, and gives its status and what it took."""
     clone, surroundings = fresh(folder)
-    status = subprocess.run(["make", "prove"], cwd=clone, stdin=subprocess.DEVNULL, env=surroundings, check=False).returncode
+    status = subprocess.run(["make", "prove"], cwd=clone, stdin=subprocess.DEVNULL, env=surroundings,
+                            check=False).returncode
     figures = clone / "build" / "gate.json"
     return status, json.loads(figures.read_text(encoding="utf-8")) if figures.is_file() else None
 
@@ -56,7 +57,8 @@ def tests(folder):
     """Runs the tests from nothing, and gives their status and what they took, in words."""
     clone, surroundings = fresh(folder)
     began = time.time()
-    ran = subprocess.run(["make", "test"], cwd=clone, stdin=subprocess.DEVNULL, env=surroundings, stdout=subprocess.PIPE, text=True, check=False)
+    ran = subprocess.run(["make", "test"], cwd=clone, stdin=subprocess.DEVNULL, env=surroundings,
+                         stdout=subprocess.PIPE, text=True, check=False)
     print(ran.stdout, end="")
     took = resource.getrusage(resource.RUSAGE_CHILDREN)
     last = [line for line in ran.stdout.splitlines() if re.fullmatch(r"\d+ passed, \d+ failed", line)]
@@ -108,7 +110,8 @@ def main():
         shutil.rmtree(folder, ignore_errors=True)
     kept = not sys.argv[1:] and found and found["kept"]
     if status or found is None or kept:
-        print(f"It ended with status {status}{', and took what earlier runs had kept' if kept else ''}: nothing is written.")
+        print(f"It ended with status {status}{', and took what earlier runs had kept' if kept else ''}: "
+              "nothing is written.")
         return 1
     processors = len(os.sched_getaffinity(0))
     if sys.argv[1:]:

@@ -1,12 +1,16 @@
 #!/usr/bin/env python3
-"""The keeper in memory: nanoseconds a call of one domain, with 10 and with 10,000 domains of 10 documents each; the two may differ by three tenths.
+"""The keeper in memory: nanoseconds a call of one domain, with 10 and with 10,000 domains of 10 documents each; the
+two may differ by three tenths.
 
-Usage: bench/records.py [XA_TRIALS]     XA_TRIALS: the built program; without it the proved one, which is proved and built first where it isn't yet
-       bench/records.py --instructions [XA_TRIALS]     instructions in place of times, in some minutes (valgrind, Debian's package)
+Usage: bench/records.py [XA_TRIALS]     XA_TRIALS: the built program; without it the proved one, which is proved and
+                                        built first where it isn't yet
+       bench/records.py --instructions [XA_TRIALS]     instructions in place of times, in some minutes
+                                                       (valgrind, Debian's package)
 
-The program xa_trials answers rows of a keeper. A row makes all domains and then calls one of them, so many times or twice as many: the difference is
-what the calls take, with what the program takes to read their fields, which is the same for both numbers of domains. Times are processor time, the
-median of nine runs, in which the rows of a kind take turns; on a disturbed machine they say little. Instructions are the same on any machine.
+The program xa_trials answers rows of a keeper. A row makes all domains and then calls one of them, so many times or
+twice as many: the difference is what the calls take, with what the program takes to read their fields, which is the
+same for both numbers of domains. Times are processor time, the median of nine runs, in which the rows of a kind take
+turns; on a disturbed machine they say little. Instructions are the same on any machine.
 """
 import pathlib
 import re
@@ -31,7 +35,8 @@ COUNTED_CALLS = 10_000
 
 
 def document(number, text=""):
-    return f'{{"Policy":{{"PolicyId":"urn:p{number}","Version":"1.0","Description":"{text}","RuleCombiningAlgId":"{RULES}"}}}}'
+    return (f'{{"Policy":{{"PolicyId":"urn:p{number}","Version":"1.0","Description":"{text}",'
+            f'"RuleCombiningAlgId":"{RULES}"}}}}')
 
 
 def made(domains):
@@ -59,8 +64,8 @@ def repeated(kind, middle, calls):
 
 
 # each kind of calls, and how many of them: more where one takes little beside what makes 10,000 domains
-KINDS = {"gate": 1_000_000, "list": 200_000, "upload, the same again": 200_000, "upload and delete": 200_000, "set active and back": 1_000_000,
-         "set root and back": 1_000_000, "put and drop a token": 1_000_000}
+KINDS = {"gate": 1_000_000, "list": 200_000, "upload, the same again": 200_000, "upload and delete": 200_000,
+         "set active and back": 1_000_000, "set root and back": 1_000_000, "put and drop a token": 1_000_000}
 
 
 def row_of(calls):
@@ -84,7 +89,8 @@ def seconds(row):
 def nanoseconds(kind, setups):
     """What a call of the kind takes, for each number of domains: the median of some runs."""
     calls, took = KINDS[kind], {domains: [] for domains in setups}
-    rows = {domains: [row_of(setup + repeated(kind, domains // 2, times * calls)) for times in (1, 2)] for domains, setup in setups.items()}
+    rows = {domains: [row_of(setup + repeated(kind, domains // 2, times * calls)) for times in (1, 2)]
+            for domains, setup in setups.items()}
     for _ in range(RUNS):
         for domains, (few, many) in rows.items():
             less = seconds(few)
@@ -99,7 +105,8 @@ def instructions(calls):
     """The instructions of the program for one row of these calls."""
     row = row_of(calls)
     with tempfile.NamedTemporaryFile("r") as log, open(row.name) as rows:
-        command = ["valgrind", "--tool=cachegrind", "--cache-sim=no", "--cachegrind-out-file=/dev/null", f"--log-file={log.name}", PROGRAM]
+        command = ["valgrind", "--tool=cachegrind", "--cache-sim=no", "--cachegrind-out-file=/dev/null",
+                   f"--log-file={log.name}", PROGRAM]
         subprocess.run(command, stdin=rows, stdout=subprocess.DEVNULL, check=True)
         return int(re.search(r"I +refs: +([0-9,]+)", log.read())[1].replace(",", ""))
 
@@ -109,9 +116,11 @@ def by_instructions(setups):
     failed = 0
     alone = {domains: instructions(setup) for domains, setup in setups.items()}
     for kind in KINDS:
-        took = [(instructions(setup + repeated(kind, domains // 2, COUNTED_CALLS)) - alone[domains]) / COUNTED_CALLS for domains, setup in setups.items()]
+        took = [(instructions(setup + repeated(kind, domains // 2, COUNTED_CALLS)) - alone[domains]) / COUNTED_CALLS
+                for domains, setup in setups.items()]
         failed += took[1] > MOST * took[0]
-        print(f"{kind:26}{took[0]:14,.0f}{took[1]:17,.0f}{'' if took[1] <= MOST * took[0] else '   more than three tenths above'}", flush=True)
+        print(f"{kind:26}{took[0]:14,.0f}{took[1]:17,.0f}"
+              f"{'' if took[1] <= MOST * took[0] else '   more than three tenths above'}", flush=True)
     return failed
 
 
@@ -126,7 +135,8 @@ def main():
     for kind in KINDS:
         took = nanoseconds(kind, setups)
         failed += took[1] > MOST * took[0]
-        print(f"{kind:26}{took[0]:11,.0f} ns{took[1]:14,.0f} ns{'' if took[1] <= MOST * took[0] else '   more than three tenths above'}", flush=True)
+        print(f"{kind:26}{took[0]:11,.0f} ns{took[1]:14,.0f} ns"
+              f"{'' if took[1] <= MOST * took[0] else '   more than three tenths above'}", flush=True)
     return 1 if failed else 0
 
 

@@ -7,8 +7,9 @@ Each transcript holds N copies of one request for a decision, once with an entry
 up to 1 MiB that hold many. The time is the best of three runs, with standard input
 and output files. Peak memory is what GNU time reads.
 
-Then 8 MiB and 1 GiB go through one session, in entries that cut messages anywhere. The script fails where the second takes more than a quarter
-more memory: a session that never dropped what it has answered would take a hundred times as much.
+Then 8 MiB and 1 GiB go through one session, in entries that cut messages anywhere. The script fails where the
+second takes more than a quarter more memory: a session that never dropped what it has answered would take a
+hundred times as much.
 """
 import os
 import subprocess
@@ -16,33 +17,16 @@ import sys
 import tempfile
 import time
 
+sys.dont_write_bytecode = True
 TOP = os.path.dirname(os.path.dirname(os.path.abspath(__file__)))
+sys.path.append(os.path.join(TOP, "tests"))
+from sent import OPERATOR, making, message  # noqa: E402
+
 PROGRAM = sys.argv[1] if len(sys.argv) > 1 else os.path.join(TOP, "build/pdpd")
-POLICY = (
-    b'{"Policy":{"PolicyId":"urn:p","Version":"1.0","RuleCombiningAlgId":'
-    b'"urn:oasis:names:tc:xacml:3.0:rule-combining-algorithm:deny-overrides","Rule":[{"RuleId":"r","Effect":"Permit"}]}}'
-)
-MESSAGE = (
-    b"POST /domains/acme/pdp HTTP/1.1\r\n"
-    b"Authorization: Bearer acme-token-1\r\n"
-    b"Content-Length: 14\r\n\r\n"
-    b'{"Request":{}}'
-)
 MAX_ENTRY_BYTES = 1_048_576
-
-
-def message(method, path, token, body=b""):
-    return b"%s %s HTTP/1.1\r\nAuthorization: Bearer %s\r\nContent-Length: %d\r\n\r\n%s" % (method, path, token, len(body), body)
-
-
 # the operator makes the domain, and it permits everything
-SETUP = b"".join((
-    message(b"PUT", b"/operator/domains/acme", b"operator-token-1"),
-    message(b"POST", b"/operator/domains/acme/tokens", b"operator-token-1", b'{"Role":"admin","Token":"acme-token-1"}'),
-    message(b"POST", b"/domains/acme/pap/policies", b"acme-token-1", POLICY),
-    message(b"PUT", b"/domains/acme/pap/policy/urn:p/1.0/active", b"acme-token-1"),
-    message(b"PUT", b"/domains/acme/pap/root", b"acme-token-1", b'{"PolicyIdReference":{"Id":"urn:p"}}'),
-))
+SETUP = b"".join(held for held, _ in making("acme", "acme-token-1"))
+MESSAGE = message("POST", "/domains/acme/pdp", "acme-token-1", '{"Request":{}}')
 
 
 def transcript(count, per_entry):
@@ -67,7 +51,7 @@ def run(path, count):
     best, peak = None, 0
     for _ in range(3):
         with open(path, "rb") as source, tempfile.TemporaryFile() as target, tempfile.NamedTemporaryFile("r") as memory:
-            command = ["/usr/bin/time", "-f", "%M", "-o", memory.name, PROGRAM, "replay", "operator-token-1"]
+            command = ["/usr/bin/time", "-f", "%M", "-o", memory.name, PROGRAM, "replay", OPERATOR]
             start = time.perf_counter()
             status = subprocess.call(command, stdin=source, stdout=target)
             spent = time.perf_counter() - start
@@ -78,7 +62,8 @@ def run(path, count):
 
 
 def long_stream(entries):
-    """The bytes of a transcript: one connection's messages, each with a large body, in whole entries; and how many messages are whole."""
+    """The bytes of a transcript: one connection's messages, each with a large body, in whole entries; and how many
+    messages are whole."""
     head = MESSAGE.replace(b"Content-Length: 14", b"Content-Length: 100000")
     one = head + b" " * (100_000 - 14)
     many = one * (MAX_ENTRY_BYTES // len(one) + 2)
@@ -98,7 +83,7 @@ def peak_of_session(entries):
     """The peak memory in KiB after so many entries of 1 MiB through one session."""
     pieces, whole = long_stream(entries)
     with tempfile.TemporaryFile() as target, tempfile.NamedTemporaryFile("r") as memory:
-        command = ["/usr/bin/time", "-f", "%M", "-o", memory.name, PROGRAM, "replay", "operator-token-1"]
+        command = ["/usr/bin/time", "-f", "%M", "-o", memory.name, PROGRAM, "replay", OPERATOR]
         with subprocess.Popen(command, stdin=subprocess.PIPE, stdout=target) as program:
             for piece in pieces:
                 program.stdin.write(piece)
@@ -114,7 +99,8 @@ def main():
                 file.write(transcript(count, per_entry))
                 file.flush()
                 seconds, peak = run(file.name, count)
-            print(f"{name:12} {count:10}   {seconds:7.3f}   {count / seconds:10.0f}   {seconds / count * 1e6:10.2f}   {peak / 1024:8.1f}")
+            print(f"{name:12} {count:10}   {seconds:7.3f}   {count / seconds:10.0f}   {seconds / count * 1e6:10.2f}   "
+                  f"{peak / 1024:8.1f}")
     few, many = peak_of_session(8), peak_of_session(1024)
     print(f"one session: {few / 1024:.1f} MiB at the most after 8 MiB, {many / 1024:.1f} after 1 GiB")
     if many * 4 > few * 5:

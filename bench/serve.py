@@ -1,17 +1,21 @@
 #!/usr/bin/env python3
-"""Asks a second over a socket, and the processor time that an ask takes, of the proved `pdpd serve`; beside nginx, which answers `return 200`, or a file.
+"""Asks a second over a socket, and the processor time that an ask takes, of the proved `pdpd serve`; beside nginx,
+which answers `return 200`, or a file.
 
 Usage: bench/serve.py [PDPD]     PDPD: the built program (build/pdpd, which `make pdpd` makes)
 
-The server has one core, and the client another: one connection, requests one at a time, each behind the reply to the one before, by wrk. Each kind has some rounds of two seconds, all kinds
-in turn, so that all have the same minute; the best round counts. Processor time is the server's own, user and system, as /proc has it to the nanosecond. System calls are counted by
-strace, in a round apart. nginx has one process, and replies as many bytes as the ask of ten rules gets: `return 200` to the same POST, and a file to a GET. nginx, wrk and strace are Debian's
-packages: what isn't here is left out. Beside them stands a program of some lines of C (compiled by cc) that receives and sends the same bytes and does nothing else: what the system takes for a
-request by itself. On a disturbed machine all this says little.
+The server has one core, and the client another: one connection, requests one at a time, each behind the reply to the
+one before, by wrk. Each kind has some rounds of two seconds, all kinds in turn, so that all have the same minute; the
+best round counts. Processor time is the server's own, user and system, as /proc has it to the nanosecond. System calls
+are counted by strace, in a round apart. nginx has one process, and replies as many bytes as the ask of ten rules gets:
+`return 200` to the same POST, and a file to a GET. nginx, wrk and strace are Debian's packages: what isn't here is
+left out. Beside them stands a program of some lines of C (compiled by cc) that receives and sends the same bytes and
+does nothing else: what the system takes for a request by itself. On a disturbed machine all this says little.
 
-The asks are that of bench/asks.py, of a policy of ten rules with a match each, of which the last permits, and the first ones of examples/company and examples/ward. One that is kept is the same
-bytes again; one that is worked out has other blanks at its end each time. The policy of examples/ward names the clock, so that no response is kept. At last, the ask of ten rules without wrk: in
-pieces of 100 without waiting, by a client in Python.
+The asks are that of bench/asks.py, of a policy of ten rules with a match each, of which the last permits, and the
+first ones of examples/company and examples/ward. One that is kept is the same bytes again; one that is worked out has
+other blanks at its end each time. The policy of examples/ward names the clock, so that no response is kept. At last,
+the ask of ten rules without wrk: in pieces of 100 without waiting, by a client in Python.
 """
 import json
 import os
@@ -41,19 +45,27 @@ CORES = sorted(os.sched_getaffinity(0))
 # ---- the asks
 
 def rule(number):
-    match = {"MatchId": IDS + "function:string-equal", "AttributeValue": {"DataType": "string", "Value": f"read-{number}"},
-             "AttributeDesignator": {"Category": "Action", "AttributeId": IDS + "action:action-id", "DataType": "string", "MustBePresent": False}}
+    match = {"MatchId": IDS + "function:string-equal",
+             "AttributeValue": {"DataType": "string", "Value": f"read-{number}"},
+             "AttributeDesignator": {"Category": "Action", "AttributeId": IDS + "action:action-id",
+                                     "DataType": "string", "MustBePresent": False}}
     return {"RuleId": str(number), "Effect": "Permit", "Target": {"AnyOf": [{"AllOf": [{"Match": [match]}]}]}}
 
 
 def ten_rules():
     """The messages that make the domain of ten rules, and its ask."""
-    text = json.dumps({"Policy": {"PolicyId": "urn:p", "Version": "1.0", "RuleCombiningAlgId": RULES, "Rule": [rule(number) for number in range(10)]}})
-    found = [("AccessSubject", "subject:subject-id", "person-000000"), ("Resource", "resource:resource-id", "a-document"), ("Action", "action:action-id", "read-9")]
-    body = json.dumps({"Request": {category: {"Attribute": [{"AttributeId": IDS + name, "Value": value}]} for category, name, value in found}}, separators=(",", ":"))
-    return [message("PUT", "/operator/domains/acme", OPERATOR), message("POST", "/operator/domains/acme/tokens", OPERATOR, json.dumps({"Role": "admin", "Token": TOKEN})),
-            message("POST", "/domains/acme/pap/policies", TOKEN, text), message("PUT", "/domains/acme/pap/policy/urn:p/1.0/active", TOKEN),
-            message("PUT", "/domains/acme/pap/root", TOKEN, json.dumps({"PolicyIdReference": {"Id": "urn:p"}}))], message("POST", "/domains/acme/pdp", TOKEN, body)
+    text = json.dumps({"Policy": {"PolicyId": "urn:p", "Version": "1.0", "RuleCombiningAlgId": RULES,
+                                  "Rule": [rule(number) for number in range(10)]}})
+    found = [("AccessSubject", "subject:subject-id", "person-000000"),
+             ("Resource", "resource:resource-id", "a-document"), ("Action", "action:action-id", "read-9")]
+    body = json.dumps({"Request": {category: {"Attribute": [{"AttributeId": IDS + name, "Value": value}]}
+                                   for category, name, value in found}}, separators=(",", ":"))
+    made = [message("PUT", "/operator/domains/acme", OPERATOR),
+            message("POST", "/operator/domains/acme/tokens", OPERATOR, json.dumps({"Role": "admin", "Token": TOKEN})),
+            message("POST", "/domains/acme/pap/policies", TOKEN, text),
+            message("PUT", "/domains/acme/pap/policy/urn:p/1.0/active", TOKEN),
+            message("PUT", "/domains/acme/pap/root", TOKEN, json.dumps({"PolicyIdReference": {"Id": "urn:p"}}))]
+    return made, message("POST", "/domains/acme/pdp", TOKEN, body)
 
 
 def example(name):
@@ -97,13 +109,16 @@ class Round:
 def calls_of(pid, load):
     """The system calls of one request."""
     with tempfile.NamedTemporaryFile("r") as said:
-        tracer = subprocess.Popen(["strace", "-c", "-U", "calls,name", "-o", said.name, "-p", str(pid)], stderr=subprocess.DEVNULL)
+        tracer = subprocess.Popen(["strace", "-c", "-U", "calls,name", "-o", said.name, "-p", str(pid)],
+                                  stderr=subprocess.DEVNULL)
         time.sleep(0.5)
         count = load()
         tracer.send_signal(signal.SIGINT)
         tracer.wait()
-        counts = {name: int(calls) for calls, name in re.findall(r"(?m)^ *(\d+) (\w+)$", said.read()) if name != "total"}
-    return ", ".join(f"{calls / count:.1f} {name}" for name, calls in sorted(counts.items(), key=lambda it: -it[1]) if calls * 20 >= count)
+        counts = {name: int(calls)
+                  for calls, name in re.findall(r"(?m)^ *(\d+) (\w+)$", said.read()) if name != "total"}
+    return ", ".join(f"{calls / count:.1f} {name}"
+                     for name, calls in sorted(counts.items(), key=lambda it: -it[1]) if calls * 20 >= count)
 
 
 def told(name, rounds, calls=""):
@@ -138,7 +153,8 @@ def by_wrk(port, script, folder):
 
     def load():
         path.write_text(script)
-        words = ["taskset", "-c", str(CORES[0]), "wrk", "-t1", "-c1", "--timeout", "30s", f"-d{SECONDS}s", "-s", str(path), f"http://127.0.0.1:{port}/"]
+        words = ["taskset", "-c", str(CORES[0]), "wrk", "-t1", "-c1", "--timeout", "30s", f"-d{SECONDS}s", "-s",
+                 str(path), f"http://127.0.0.1:{port}/"]
         said = subprocess.run(words, capture_output=True, text=True, check=True).stdout
         if "Non-2xx" in said or "Socket errors" in said:
             sys.exit(said)
@@ -154,7 +170,8 @@ def lua(ask, others=False):
 def in_pieces(port, asks):
     """Pieces of many asks; a thread of its own reads the replies."""
     def load():
-        pieces = [b"".join(asks[(at + place) % len(asks)] for place in range(PIECE)) for at in range(0, max(len(asks), PIECE), PIECE)]
+        pieces = [b"".join(asks[(at + place) % len(asks)] for place in range(PIECE))
+                  for at in range(0, max(len(asks), PIECE), PIECE)]
         sent, until = 0, time.perf_counter() + SECONDS
         with Client(port) as client:
             found = []
@@ -194,7 +211,8 @@ http {{ access_log off; sendfile on; keepalive_requests 1000000000; default_type
   client_body_temp_path {folder}/b; proxy_temp_path {folder}/p; fastcgi_temp_path {folder}/f; uwsgi_temp_path {folder}/u; scgi_temp_path {folder}/s;
   server {{ listen 127.0.0.1:{port}; root {folder}; location = /reply {{ }} location / {{ return 200 '{text}'; }} }} }}
 """)
-    return subprocess.Popen(["nginx", "-c", f"{folder}/nginx.conf", "-p", folder], preexec_fn=on_one_core, stdout=subprocess.DEVNULL, stderr=subprocess.DEVNULL)
+    return subprocess.Popen(["nginx", "-c", f"{folder}/nginx.conf", "-p", folder], preexec_fn=on_one_core,
+                            stdout=subprocess.DEVNULL, stderr=subprocess.DEVNULL)
 
 
 BARE = """#include <arpa/inet.h>
@@ -252,7 +270,8 @@ def by_others(ask, folder, missing):
     kinds, servers = [], []
     if "nginx" not in missing:
         server, port = begun(nginx, folder)
-        kinds += [("nginx, `return 200`", server.pid, by_wrk(port, lua(ask), folder)), ("nginx, a file", server.pid, by_wrk(port, 'wrk.path = "/reply"\n', folder))]
+        kinds += [("nginx, `return 200`", server.pid, by_wrk(port, lua(ask), folder)),
+                  ("nginx, a file", server.pid, by_wrk(port, 'wrk.path = "/reply"\n', folder))]
         servers.append(server)
     if "cc" not in missing:
         server, port = begun(bare, folder)
@@ -274,7 +293,8 @@ def main():
         with Served(PROGRAM, f"{folder}/bench.db", str(token), preexec_fn=on_one_core) as served:
             pid, port = served.process.pid, served.port
             asks = {}
-            for name, (setup, ask) in {"ten rules": ten_rules(), "company": example("company"), "ward": example("ward")}.items():
+            for name, (setup, ask) in {"ten rules": ten_rules(), "company": example("company"),
+                                       "ward": example("ward")}.items():
                 served.once(*setup)
                 asks[name] = ask
             assert served.once(asks["ten rules"], other(asks["ten rules"], 1)) == [PERMIT, PERMIT]
@@ -289,7 +309,8 @@ def main():
                     server.terminate()
                     server.wait()
             each = [other(asks["ten rules"], number) for number in range(1000)]
-            measured_alone = [("ten rules, kept, in pieces of 100", [asks["ten rules"]]), ("ten rules, worked out, in pieces of 100", each)]
+            measured_alone = [("ten rules, kept, in pieces of 100", [asks["ten rules"]]),
+                              ("ten rules, worked out, in pieces of 100", each)]
             for name, held in measured_alone:
                 told(name, [Round(pid, in_pieces(port, held)) for _ in range(ROUNDS)])
 

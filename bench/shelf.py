@@ -1,36 +1,38 @@
 #!/usr/bin/env python3
-"""What an ask of a domain with ten active documents of 5 KB costs through the proved pdpd: the first, which reads them, and a second, for which the domain's view is ready.
+"""What an ask of a domain with ten active documents of 5 KB costs through the proved pdpd: the first, which reads
+them, and a second, for which the domain's view is ready.
 
 Usage: bench/shelf.py [PDPD]     PDPD: the built program (build/pdpd, which `make pdpd` makes)
 
-The cost is in instructions, as `valgrind --tool=cachegrind` counts them, or without valgrind in microseconds of processor time. The asks differ in a space, so that
-each is worked out. A domain with one active document, the root's, and nine others tells what each of the nine costs more: on the second ask that is
-to be nothing. Transcripts with one ask more and one less give the cost of an ask.
+The cost is in instructions, as `valgrind --tool=cachegrind` counts them, or without valgrind in microseconds of
+processor time. The asks differ in a space, so that each is worked out. A domain with one active document, the root's,
+and nine others tells what each of the nine costs more: on the second ask that is to be nothing. Transcripts with one
+ask more and one less give the cost of an ask.
 """
 import json
 import shutil
 import sys
 
 sys.dont_write_bytecode = True
-from transcripts import OPERATOR, TOKEN, instructions, message, seconds  # noqa: E402
+from asking import RULES, permitting  # noqa: E402
+from sent import OPERATOR, message  # noqa: E402
+from transcripts import TOKEN, instructions, seconds  # noqa: E402
 
-RULES = "urn:oasis:names:tc:xacml:3.0:rule-combining-algorithm:deny-overrides"
 DOCUMENTS, BYTES = 10, 5_000
 # of processor time, so many more of each message are taken, since one is too short
 TIMES = 500
 
 
 def rule(number):
-    match = {"MatchId": "urn:oasis:names:tc:xacml:1.0:function:string-equal", "AttributeValue": {"DataType": "string", "Value": f"action-{number}"},
-             "AttributeDesignator": {"Category": "Action", "AttributeId": "urn:a", "DataType": "string", "MustBePresent": False}}
-    return {"RuleId": f"rule-{number}", "Effect": "Permit", "Target": {"AnyOf": [{"AllOf": [{"Match": [match]}]}]}}
+    return permitting(f"rule-{number}", f"action-{number}", attribute="urn:a")
 
 
 def text(number):
     """A document of so many bytes, of rules as they are usual."""
     rules = []
     while True:
-        draft = {"Policy": {"PolicyId": f"urn:p{number}", "Version": "1.0", "RuleCombiningAlgId": RULES, "Rule": rules + [rule(len(rules))]}}
+        draft = {"Policy": {"PolicyId": f"urn:p{number}", "Version": "1.0", "RuleCombiningAlgId": RULES,
+                            "Rule": rules + [rule(len(rules))]}}
         held = json.dumps(draft)
         if len(held) > BYTES:
             draft["Policy"]["Rule"].pop()
@@ -42,7 +44,8 @@ def domain(name, active):
     """The messages that make a domain of ten documents, of which so many are active."""
     at = f"/domains/{name}/pap"
     made = [message("PUT", f"/operator/domains/{name}", OPERATOR),
-            message("POST", f"/operator/domains/{name}/tokens", OPERATOR, json.dumps({"Role": "admin", "Token": TOKEN}))]
+            message("POST", f"/operator/domains/{name}/tokens", OPERATOR,
+                    json.dumps({"Role": "admin", "Token": TOKEN}))]
     made += [message("POST", f"{at}/policies", TOKEN, text(number)) for number in range(DOCUMENTS)]
     made += [message("PUT", f"{at}/policy/urn:p{number}/1.0/active", TOKEN) for number in range(active)]
     return made + [message("PUT", f"{at}/root", TOKEN, json.dumps({"PolicyIdReference": {"Id": "urn:p0"}}))]
@@ -60,7 +63,8 @@ def by_instructions(active):
 
 
 def by_time(active):
-    """The same in microseconds; of the first asks, many domains are made, each of whose texts differ, and removed again."""
+    """The same in microseconds; of the first asks, many domains are made, each of whose texts
+    differ, and removed again."""
     setup = domain("acme", active)
     firsts = []
     for place in range(TIMES):
@@ -79,7 +83,8 @@ def main():
     measure, unit = (by_instructions, "instructions") if shutil.which("valgrind") else (by_time, "microseconds")
     of_ten, of_one = measure(DOCUMENTS), measure(1)
     print(f"{unit + ' an ask':34}{'10 active':>14}{'1 active':>14}{'each of 9 more':>16}")
-    for kind, ten, one in zip(("the first: texts are read", "another: the view is ready", "the same: its response is kept"), of_ten, of_one):
+    for kind, ten, one in zip(("the first: texts are read", "another: the view is ready",
+                               "the same: its response is kept"), of_ten, of_one):
         print(f"{kind:34}{ten:14,.0f}{one:14,.0f}{(ten - one) / 9:16,.0f}")
 
 

@@ -2,21 +2,27 @@
 """What the tables of the proved `pdpd serve` cost: messages over 10, 1,000 and 10,000 domains, and opening them.
 
 Usage: bench/store.py [PDPD]                   PDPD: the built program (build/pdpd, which `make pdpd` makes)
-       bench/store.py --instructions [PDPD]    instructions in place of times, over 10 and 10,000 domains, in some minutes (valgrind, Debian's package)
+       bench/store.py --instructions [PDPD]    instructions in place of times, over 10 and 10,000 domains, in some
+                                               minutes (valgrind, Debian's package)
 
-The files are written by Python's sqlite3, with one active document of 1 KB, a token and a root in each domain. Of each size:
+The files are written by Python's sqlite3, with one active document of 1 KB, a token and a root in
+each domain. Of each size:
 
-- opening: from the start of the program to its first line, wall time and the processor time up to there, and the most memory that it has held by then; of the largest size also with eight rows of
-  the attribute source in each domain, from a file of schema 2 and from one of schema 1, which becomes schema 2 by that;
-- gate: an ask with a wrong token, less one that is refused with 401 before any domain is looked for (its path is the operator's): two queries, of the domain and of its tokens, which the
-  server asks for whatever it remembers;
+- opening: from the start of the program to its first line, wall time and the processor time up to there, and the most
+  memory that it has held by then; of the largest size also with eight rows of the attribute source in each domain,
+  from a file of schema 2 and from one of schema 1, which becomes schema 2 by that;
+- gate: an ask with a wrong token, less one that is refused with 401 before any domain is looked for (its path is the
+  operator's): two queries, of the domain and of its tokens, which the server asks for whatever it remembers;
 - kept: an ask whose response is kept, of 400 domains in turn at most, whose gates the server remembers: no query;
-- view: an ask that is worked out, over a domain of one document of 1 KB and over one of 20 documents, where the policies' texts are read each time;
+- view: an ask that is worked out, over a domain of one document of 1 KB and over one of 20 documents, where the
+  policies' texts are read each time;
 - upload: a document of 5 KB, and its deletion; the wall time is the disk's too, which each change waits for.
 
-Times are the server's processor time a message, of so many messages in pieces of 100 without waiting, as /proc has it to the nanosecond; on a disturbed machine
-they say little; instructions are the same on any machine. The script fails where `gate` over 10,000 domains takes more than 1.3 times what it takes over 10 and 2 microseconds more, or where opening 10,000 domains takes
-2 s of processor time or more, or schema 1 more than twice what schema 2 takes. By instructions it fails where `gate` takes more than 1.3 times as many over 10,000 domains as over 10.
+Times are the server's processor time a message, of so many messages in pieces of 100 without waiting, as /proc has it
+to the nanosecond; on a disturbed machine they say little; instructions are the same on any machine. The script fails
+where `gate` over 10,000 domains takes more than 1.3 times what it takes over 10 and 2 microseconds more, or where
+opening 10,000 domains takes 2 s of processor time or more, or schema 1 more than twice what schema 2 takes. By
+instructions it fails where `gate` takes more than 1.3 times as many over 10,000 domains as over 10.
 """
 import hashlib
 import os
@@ -52,19 +58,24 @@ def rows(domains):
     """The rows of a store of so many domains; the last has some more active documents."""
     digest, body = hashlib.sha256(TOKEN.encode()).digest(), text_of("urn:p", 1_000)
     numbers = range(1, domains + 1)
-    more = [(domains, 0, f"urn:p{place:02}", "1.0", text_of(f"urn:p{place:02}", 1_000), 1) for place in range(1, DOCUMENTS_OF_LARGE)]
-    return {"meta": [(1, 2, domains + 1)], "domains": [(number, f"domain-{number}", 0) for number in numbers], "tokens": [(number, digest, 1) for number in numbers],
-            "policies": [(number, 0, "urn:p", "1.0", body, 1) for number in numbers] + more, "roots": [(number, 0, "urn:p", None, None, None) for number in numbers], "attributes": [], "sources": []}
+    more = [(domains, 0, f"urn:p{place:02}", "1.0", text_of(f"urn:p{place:02}", 1_000), 1)
+            for place in range(1, DOCUMENTS_OF_LARGE)]
+    return {"meta": [(1, 2, domains + 1)], "domains": [(number, f"domain-{number}", 0) for number in numbers],
+            "tokens": [(number, digest, 1) for number in numbers],
+            "policies": [(number, 0, "urn:p", "1.0", body, 1) for number in numbers] + more,
+            "roots": [(number, 0, "urn:p", None, None, None) for number in numbers], "attributes": [], "sources": []}
 
 
 def with_sources(domains):
     """The same, and some rows of the attribute source in each domain."""
-    sources = [(number, place, "urn:category", f"user-{place}", "urn:role", 0, f"value {place} of {number}", None) for number in range(1, domains + 1) for place in range(SOURCES)]
+    sources = [(number, place, "urn:category", f"user-{place}", "urn:role", 0, f"value {place} of {number}", None)
+               for number in range(1, domains + 1) for place in range(SOURCES)]
     return {**rows(domains), "sources": sources}
 
 
 def cost(served, messages):
-    """Microseconds of processor time and of wall time that a message takes: the best of some runs; and the status of the last."""
+    """Microseconds of processor time and of wall time that a message takes: the best of some runs; and the
+    status of the last."""
     best = None
     answered(served, messages[:PIECE])
     for _ in range(RUNS):
@@ -99,7 +110,8 @@ def messages(domains, count=30_000):
 
 
 def opening(kept, token):
-    """Wall and processor seconds up to the first line, the best of some runs, each over a copy of the file, and the most memory in MiB."""
+    """Wall and processor seconds up to the first line, the best of some runs, each over a copy of the file, and the
+    most memory in MiB."""
     best, path = None, f"{kept}.copy"
     for _ in range(RUNS):
         shutil.copyfile(kept, path)
@@ -114,20 +126,24 @@ def opening(kept, token):
 
 
 def opening_schemas(folder, token, domains):
-    """Shows what opening takes with rows of the attribute source, in schema 2 and in schema 1; what is wrong with it."""
+    """Shows what opening takes with rows of the attribute source, in schema 2 and in schema 1;
+    what is wrong with it."""
     held, found = with_sources(domains), {}
     for schema in (2, 1):
         path = f"{folder}/schema-{schema}.db"
         write(path, *((held,) if schema == 2 else (as_first(held), FIRST_MAKING)))
         wall, found[schema], memory = opening(path, token)
-        print(f"    the same with {SOURCES} rows of the source each, schema {schema}: opening {wall:.3f} s, {found[schema]:.2f} s of processor time, {memory:.1f} MiB")
-    return [f"opening schema 1 takes {found[1]:.2f} s and schema 2 {found[2]:.2f} s"] if found[1] > MOST_FIRST * found[2] else []
+        print(f"    the same with {SOURCES} rows of the source each, schema {schema}: opening {wall:.3f} s, "
+              f"{found[schema]:.2f} s of processor time, {memory:.1f} MiB")
+    return ([f"opening schema 1 takes {found[1]:.2f} s and schema 2 {found[2]:.2f} s"]
+            if found[1] > MOST_FIRST * found[2] else [])
 
 
 def counted(folder, path, token, held):
     """The instructions of a program that answers these messages and ends."""
     log, program = f"{folder}/log", f"{folder}/program"
-    pathlib.Path(program).write_text(f"#!/bin/sh\nexec valgrind --tool=cachegrind --cache-sim=no --cachegrind-out-file=/dev/null --log-file={log} {PROGRAM} \"$@\"\n")
+    pathlib.Path(program).write_text("#!/bin/sh\nexec valgrind --tool=cachegrind --cache-sim=no "
+                                     f"--cachegrind-out-file=/dev/null --log-file={log} {PROGRAM} \"$@\"\n")
     os.chmod(program, 0o755)
     with Served(program, path, token, connections=1) as served:
         answered(served, held)
@@ -146,7 +162,8 @@ def by_instructions(folder, token):
             held = messages(domains, 3_000)[name]
             # what is kept is worked out before it is counted
             first, count = (held[:400] if name == "kept" else []), len(held) // 2
-            found[domains, name] = (counted(folder, path, token, first + held) - counted(folder, path, token, first + held[:count])) / (len(held) - count)
+            found[domains, name] = (counted(folder, path, token, first + held)
+                                    - counted(folder, path, token, first + held[:count])) / (len(held) - count)
         found[domains, "gate"] = found[domains, "a wrong token"] - found[domains, "refused"]
     for name in ("refused", "a wrong token", "gate", "kept", "one document", "uploads"):
         print(f"{name:42}{found[SIZES[0], name]:16,.0f}{found[SIZES[-1], name]:16,.0f}")
@@ -166,7 +183,8 @@ def main():
             path = f"{folder}/{domains}.db"
             write(path, rows(domains))
             wall, processor, memory = opening(path, str(token))
-            print(f"{domains:,} domains: a file of {os.path.getsize(path) / 2**20:.1f} MiB; opening {wall:.3f} s, {processor:.2f} s of processor time, {memory:.1f} MiB")
+            print(f"{domains:,} domains: a file of {os.path.getsize(path) / 2**20:.1f} MiB; opening {wall:.3f} s, "
+                  f"{processor:.2f} s of processor time, {memory:.1f} MiB")
             with Served(PROGRAM, path, str(token)) as served:
                 found = {name: cost(served, held) for name, held in messages(domains).items()}
             gates[domains] = found["a wrong token"][0] - found["refused"][0]

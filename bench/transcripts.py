@@ -7,14 +7,12 @@ import sys
 import tempfile
 
 TOP = os.path.dirname(os.path.dirname(os.path.abspath(__file__)))
+sys.path.append(os.path.join(TOP, "tests"))
+from sent import OPERATOR  # noqa: E402
+
 PROGRAM = sys.argv[1] if len(sys.argv) > 1 else os.path.join(TOP, "build/pdpd")
-OPERATOR, TOKEN = "operator-token-1", "domain-token-1"
+TOKEN = "domain-token-1"
 MAX_ENTRY_BYTES, RUNS = 1_048_576, 3
-
-
-def message(method, path, token, body=""):
-    length = f"Content-Length: {len(body)}\r\n" if body else ""
-    return f"{method} {path} HTTP/1.1\r\nAuthorization: Bearer {token}\r\n{length}\r\n{body}".encode()
 
 
 def transcript(messages):
@@ -35,7 +33,8 @@ def run(messages, before=()):
     with tempfile.TemporaryFile() as file:
         file.write(transcript(messages))
         file.seek(0)
-        return subprocess.run([*before, PROGRAM, "replay", OPERATOR], stdin=file, stdout=subprocess.PIPE, stderr=subprocess.PIPE, check=True)
+        return subprocess.run([*before, PROGRAM, "replay", OPERATOR], stdin=file, stdout=subprocess.PIPE,
+                              stderr=subprocess.PIPE, check=True)
 
 
 def statuses(messages):

@@ -14,7 +14,8 @@ LONG = 0.05
 
 def asking(body):
     held = written(body).encode()
-    head = f"POST /domains/acme/pdp HTTP/1.1\r\nAuthorization: Bearer acme-token-1\r\nContent-Length: {len(held)}\r\n\r\n"
+    head = ("POST /domains/acme/pdp HTTP/1.1\r\nAuthorization: Bearer acme-token-1\r\n"
+            f"Content-Length: {len(held)}\r\n\r\n")
     return encoded(head.encode() + held)
 
 
@@ -53,7 +54,8 @@ def of_an_ask(program, form, has_root, runs):
 
 
 def of_the_form(program, form, runs):
-    """Processor seconds of one ask of the form, without what reading the row and the request takes: that is what the same ask takes of a domain without a root."""
+    """Processor seconds of one ask of the form, without what reading the row and the request takes: that is what the
+    same ask takes of a domain without a root."""
     return of_an_ask(program, form, True, runs) - of_an_ask(program, form, False, runs)
 
 

@@ -1,12 +1,15 @@
 #!/usr/bin/env python3
 """What a unit of the limit of work takes: nanoseconds of processor time, of each form of unit_forms.py.
 
-Usage: bench/units.py [--within SECONDS] [XA_TRIALS [WORD..]]     XA_TRIALS: the built program xa_trials; WORD: a part of a form's name, of which only those are asked
+Usage: bench/units.py [--within SECONDS] [XA_TRIALS [WORD..]]     XA_TRIALS: the built program xa_trials; WORD: a part
+                                                                  of a form's name, of which only those are asked
 
-The units are the least limit under which it is answered, to one part in a hundred; they are looked for by as many runs beside one another as there are processors. Then each form is
-timed alone: it is asked up to five times in one stream, of a domain with its root and of one without, and the first ask of each is taken off, so that what is read and linked isn't in
-it. All forms are timed first, the best of FEW_RUNS runs each; then those that seemed dearest once more, the best of RUNS, and the dearest of these are listed. It is to end within so
-many seconds (MOST_SECONDS, if nothing is said), a form that is begun being finished. If forms are left out then, it says how many, and ends with status 1.
+The units are the least limit under which it is answered, to one part in a hundred; they are looked for by as many runs
+beside one another as there are processors. Then each form is timed alone: it is asked up to five times in one stream,
+of a domain with its root and of one without, and the first ask of each is taken off, so that what is read and linked
+isn't in it. All forms are timed first, the best of FEW_RUNS runs each; then those that seemed dearest once more, the
+best of RUNS, and the dearest of these are listed. It is to end within so many seconds (MOST_SECONDS, if nothing is
+said), a form that is begun being finished. If forms are left out then, it says how many, and ends with status 1.
 """
 import argparse
 import concurrent.futures
@@ -87,7 +90,8 @@ def main():
     print(f"{'the dearest':64}{'units':>14}{'ms':>10}{'ns a unit':>12}")
     for one in dearest(found, LISTED):
         print(one.shown())
-    print(f"{len(found)} of {len(chosen)} forms, {sum(one.of_a_unit() > MOST_OF_A_UNIT for one in found)} of more than {MOST_OF_A_UNIT} ns a unit,"
+    print(f"{len(found)} of {len(chosen)} forms, "
+          f"{sum(one.of_a_unit() > MOST_OF_A_UNIT for one in found)} of more than {MOST_OF_A_UNIT} ns a unit,"
           f" in {time.monotonic() - begun:.0f} s")
     return 0 if len(found) == len(chosen) else 1
 

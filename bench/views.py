@@ -1,16 +1,21 @@
 #!/usr/bin/env python3
-"""Views that are kept ready: what an ask takes that is worked out, with room for 128 views and with room for none, in instructions (valgrind, Debian's package) where
-the domain is small and in processor time where it is large; and what memory a view takes for each byte of the texts that were read for it.
+"""Views that are kept ready: what an ask takes that is worked out, with room for 128 views and with room for none, in
+instructions (valgrind, Debian's package) where the domain is small and in processor time where it is large; and what
+memory a view takes for each byte of the texts that were read for it.
 
-Usage: bench/views.py [XA_TRIALS]     XA_TRIALS: the built program; without it the proved one, which is proved and built first where it isn't yet
+Usage: bench/views.py [XA_TRIALS]     XA_TRIALS: the built program; without it the proved one, which is proved and built
+                                      first where it isn't yet
 
-The program xa_trials answers rows of a server over a keeper in memory. Each ask has another subject, so that no response is one that is held. The asks of a row, and more of
-them: the difference is what they take. One domain has a policy of ten rules with a match each, of which the last permits. Another has 255 such policies under a root that
-refers to them, of which one applies and the others' targets don't match; four more have 1, 4, 16 and 64 MB of policies, none of which applies, and room for any view. And 300
-domains, each with the policy of ten rules, are asked in turn, so that no view is still kept when its domain is asked again. Times are the best of RUNS runs.
+The program xa_trials answers rows of a server over a keeper in memory. Each ask has another subject, so that no
+response is one that is held. The asks of a row, and more of them: the difference is what they take. One domain has a
+policy of ten rules with a match each, of which the last permits. Another has 255 such policies under a root that
+refers to them, of which one applies and the others' targets don't match; four more have 1, 4, 16 and 64 MB of
+policies, none of which applies, and room for any view. And 300 domains, each with the policy of ten rules, are asked
+in turn, so that no view is still kept when its domain is asked again. Times are the best of RUNS runs.
 
-Memory is that of as many domains as have 256 texts and of twice as many, each asked once, with room for all views, less that with room for none: the difference is what
-the further views take. The server counts ROOM_A_BYTE bytes for each byte, and OF_EACH more for a view; the script fails if one takes more than that.
+Memory is that of as many domains as have 256 texts and of twice as many, each asked once, with room for all views,
+less that with room for none: the difference is what the further views take. The server counts ROOM_A_BYTE bytes for
+each byte, and OF_EACH more for a view; the script fails if one takes more than that.
 
 Instructions and memory are found by as many runs beside one another as there are processors.
 """
@@ -24,13 +29,16 @@ import sys
 import tempfile
 
 sys.dont_write_bytecode = True
-from asking import ID, policy, request  # noqa: E402
-
 TOP = pathlib.Path(__file__).resolve().parent.parent
+sys.path += [str(TOP / "tests"), str(TOP / "tests" / "model")]
+from asking import ID, match, policy, request, target  # noqa: E402
+from rows import encoded  # noqa: E402
+from sent import OPERATOR, message  # noqa: E402
+
 CRATE = TOP / "crates" / "xa_trials"
 PROGRAM = pathlib.Path(sys.argv[1]) if len(sys.argv) > 1 else CRATE / "out" / "xa_trials"
 POLICIES = "urn:oasis:names:tc:xacml:3.0:policy-combining-algorithm:deny-overrides"
-OPERATOR, ADMIN, TOKEN = "operator-token-1", "admin-token-1", "domain-token-1"
+ADMIN, TOKEN = "admin-token-1", "domain-token-1"
 ASKS, FEW_ASKS, TIMED_ASKS, RUNS, DOMAINS = 600, 4, 1_000, 2, 300
 ROOM_A_BYTE, OF_EACH = 8, 524_288
 SMALL, LARGE = {"1 MB": 16, "4 MB": 64}, {"16 MB": 255, "64 MB": 999}
@@ -42,17 +50,16 @@ def text(draft):
     return json.dumps(draft, separators=(",", ":"))
 
 
-def match(value):
+def of_resource(value):
     """A target that the resource of the asks matches, where it is this."""
-    designator = {"Category": "Resource", "AttributeId": ID + "resource:resource-id", "DataType": "string", "MustBePresent": False}
-    test = {"MatchId": ID + "function:string-equal", "AttributeValue": {"DataType": "string", "Value": value}, "AttributeDesignator": designator}
-    return {"AnyOf": [{"AllOf": [{"Match": [test]}]}]}
+    return target(match(value, ID + "resource:resource-id", "Resource"))
 
 
 def under_root(policies):
     """The policies, and a set that refers to each."""
     children = [{"PolicyIdReference": {"Id": name}} for name, _ in policies]
-    return [*policies, ("urn:s", text({"PolicySet": {"PolicySetId": "urn:s", "Version": "1.0", "PolicyCombiningAlgId": POLICIES, "Children": children}}))]
+    return [*policies, ("urn:s", text({"PolicySet": {"PolicySetId": "urn:s", "Version": "1.0",
+                                                     "PolicyCombiningAlgId": POLICIES, "Children": children}}))]
 
 
 def ten_rules():
@@ -62,22 +69,23 @@ def ten_rules():
 def referred(count=255):
     """So many policies under a root of references, of which the last applies."""
     names = [(f"urn:p{place}", "a-document" if place == count - 1 else f"a-document-{place}") for place in range(count)]
-    return under_root([(name, policy(PolicyId=name, Target=match(resource))) for name, resource in names])
+    return under_root([(name, policy(PolicyId=name, Target=of_resource(resource))) for name, resource in names])
 
 
 def plain_rules(name):
-    return policy(PolicyId=name, Target=match("none"), Rule=[{"RuleId": "r", "Effect": "Deny"}] * 2_000)
+    return policy(PolicyId=name, Target=of_resource("none"), Rule=[{"RuleId": "r", "Effect": "Deny"}] * 2_000)
 
 
 def rules_with_matches(name):
-    return policy(180, PolicyId=name, Target=match("none"))
+    return policy(180, PolicyId=name, Target=of_resource("none"))
 
 
 def chain(name):
     """Variables of which each names the one before."""
-    expressions = [{"AttributeValue": {"DataType": "boolean", "Value": True}}, *({"VariableReference": {"VariableId": f"v{place}"}} for place in range(780))]
+    expressions = [{"AttributeValue": {"DataType": "boolean", "Value": True}},
+                   *({"VariableReference": {"VariableId": f"v{place}"}} for place in range(780))]
     defined = [{"VariableId": f"v{place}", "Expression": expression} for place, expression in enumerate(expressions)]
-    return policy(PolicyId=name, Target=match("none"), VariableDefinition=defined)
+    return policy(PolicyId=name, Target=of_resource("none"), VariableDefinition=defined)
 
 
 def sized(shape, count, prefix="d0"):
@@ -90,35 +98,33 @@ def sized(shape, count, prefix="d0"):
 
 # ---- rows of a server, and what the program takes for them
 
-def message(method, path, token, body=""):
-    """A message as a field of a row has it; what is sent here has no character that is escaped there."""
-    length = f"Content-Length: {len(body)}\\r\\n" if body else ""
-    return f"{method} {path} HTTP/1.1\\r\\nAuthorization: Bearer {token}\\r\\n{length}\\r\\n{body}"
-
-
 def domain(name, content):
     """The messages that make a domain with this content."""
     of_operator, own = f"/operator/domains/{name}", f"/domains/{name}/pap"
     made = [message("PUT", of_operator, OPERATOR)]
-    made += [message("POST", of_operator + "/tokens", OPERATOR, text({"Role": role, "Token": token})) for role, token in (("admin", ADMIN), ("ask", TOKEN))]
+    made += [message("POST", of_operator + "/tokens", OPERATOR, text({"Role": role, "Token": token}))
+             for role, token in (("admin", ADMIN), ("ask", TOKEN))]
     for identifier, held in content:
         kind = "policyset" if held.startswith('{"PolicySet"') else "policy"
-        made += [message("POST", own + "/policies", ADMIN, held), message("PUT", f"{own}/{kind}/{identifier}/1.0/active", ADMIN)]
-    return "".join(made) + message("PUT", own + "/root", ADMIN, text({"PolicySetIdReference" if kind == "policyset" else "PolicyIdReference": {"Id": identifier}}))
+        made += [message("POST", own + "/policies", ADMIN, held),
+                 message("PUT", f"{own}/{kind}/{identifier}/1.0/active", ADMIN)]
+    root = {"PolicySetIdReference" if kind == "policyset" else "PolicyIdReference": {"Id": identifier}}
+    return b"".join([*made, message("PUT", own + "/root", ADMIN, text(root))])
 
 
 def row(domains, views, asks):
     """A row of a server with those domains and room for so many views of any size, and what it is asked."""
-    made = "".join(domain(name, content) for name, content in domains.items())
-    return "\t".join(["server_in_memory", f"views:{views}", f"room:{2**40}", "made:" + made, *asks]) + "\n"
+    made = b"".join(domain(name, content) for name, content in domains.items())
+    return "\t".join(["server_in_memory", f"views:{views}", f"room:{2**40}", "made:" + encoded(made), *asks]) + "\n"
 
 
 def ask(name, number):
-    return "piece:" + message("POST", f"/domains/{name}/pdp", TOKEN, request(number))
+    return "piece:" + encoded(message("POST", f"/domains/{name}/pdp", TOKEN, request(number)))
 
 
 def ran(program, held):
-    """What the program wrote of the row, to its output and beside it, and what it used; each ask is answered with a decision."""
+    """What the program wrote of the row, to its output and beside it, and what it used; each ask is
+    answered with a decision."""
     with tempfile.TemporaryFile("w+") as rows, tempfile.TemporaryFile() as said:
         rows.write(held)
         rows.seek(0)
@@ -172,11 +178,14 @@ def in_turn(work, places):
 
 
 def show_instructions():
-    kinds = {"ten rules": ({"d0": ten_rules()}, ASKS), f"ten rules, {DOMAINS:,} domains in turn": ({f"d{place}": ten_rules() for place in range(DOMAINS)}, ASKS),
+    kinds = {"ten rules": ({"d0": ten_rules()}, ASKS),
+             f"ten rules, {DOMAINS:,} domains in turn": ({f"d{place}": ten_rules() for place in range(DOMAINS)}, ASKS),
              "255 policies under a root": ({"d0": referred()}, FEW_ASKS),
-             **{f"{size} of policies under a root": ({"d0": sized(rules_with_matches, count)}, 1) for size, count in SMALL.items()}}
+             **{f"{size} of policies under a root": ({"d0": sized(rules_with_matches, count)}, 1)
+                for size, count in SMALL.items()}}
     # (few asks that find their view differ by what lists take as they grow)
-    places = [(instructions, domains, views, ASKS if views else count) for domains, count in kinds.values() for views in (128, 0)]
+    places = [(instructions, domains, views, ASKS if views else count) for domains, count in kinds.values()
+              for views in (128, 0)]
     found = in_turn(of_an_ask, [(*place, 2 * place[-1]) for place in places])
     print(f"{'instructions an ask':36}{'128 views':>14}{'no view':>14}{'ratio':>9}")
     for kind in kinds:
@@ -194,13 +203,16 @@ def show_seconds():
 
 def show_memory():
     """How many of the views take more than is counted for them."""
-    failed, shapes = 0, {"rules with matches": rules_with_matches, "rules without more": plain_rules, "variables in a chain": chain}
-    kinds = {f"{kind}, {size}": (shape, count) for kind, shape in shapes.items() for size, count in {**SMALL, **LARGE}.items()}
+    failed, shapes = 0, {"rules with matches": rules_with_matches, "rules without more": plain_rules,
+                         "variables in a chain": chain}
+    kinds = {f"{kind}, {size}": (shape, count) for kind, shape in shapes.items()
+             for size, count in {**SMALL, **LARGE}.items()}
     print(f"{'a view':36}{'bytes read':>14}{'MiB':>14}{'a byte':>9}{'counted':>9}")
     for kind, (taken, read) in zip(kinds, in_turn(of_a_view, kinds.values())):
         counted = ROOM_A_BYTE * read + OF_EACH
         failed += taken > counted
-        print(f"{kind:36}{read:14,.0f}{taken / 2**20:14,.1f}{taken / read:9.2f}{counted / read:9.2f}{'   too little' if taken > counted else ''}", flush=True)
+        print(f"{kind:36}{read:14,.0f}{taken / 2**20:14,.1f}{taken / read:9.2f}{counted / read:9.2f}"
+              f"{'   too little' if taken > counted else ''}", flush=True)
     return failed
 
 

@@ -98,14 +98,14 @@ def linked(size):
     return ["link", "set|s|||", *(written(draft) for draft in [policy_set("s", [to_set("t")] * 999), inner, *others])]
 
 
-def versions(size):
-    """A root of this many references to policies of 255 versions, by patterns."""
+def versions(size, count=250, wanted="1.{}"):
+    """A root of this many references to so many versions of a policy, by patterns."""
     documents = []
-    for minor in range(250):
+    for minor in range(count):
         document = policy("p")
         document["Policy"]["Version"] = f"1.{minor}"
         documents.append(document)
-    children = [{"PolicyIdReference": {"Id": "p", "Version": f"1.{i % 250}"}} for i in range(size)]
+    children = [{"PolicyIdReference": {"Id": "p", "Version": wanted.format(i % count)}} for i in range(size)]
     return ["link", "set|s|||", written(policy_set("s", children)), *(written(draft) for draft in documents)]
 
 
@@ -455,6 +455,7 @@ LINES = [
     ("an expression that names n variables", variables, 8_000, LINEAR),
     ("a tree of 1,000 sets with n references each that lead nowhere", linked, 600, LINEAR),
     ("a root of n references over 250 versions", versions, 250, LINEAR),
+    ("a root of n references that look at 1,000 versions in vain", lambda size: versions(size, 1_000, "*.1.{}"), 600, LINEAR),
     ("n obligations through 120 nested sets", carried, 500, LINEAR),
     ("n policies that each of 64 individuals names", naming, 499, LINEAR),
     ("a head of n bytes, a byte a piece", head, 4_000, LINEAR),

@@ -1,7 +1,8 @@
 #!/usr/bin/env python3
-"""Runs all tests: every stored row, the stored transcript, a comparison of 2,000 random rows with the model,
-the real program from outside, both programs with each allocation refused in turn, the policy author's
-desk, whether each wrong body still applies, and whether what is generated in the pages is right. The last line is 'N passed, M failed'; each answer and each check counts as one.
+"""Runs all tests: every stored row, the stored transcript, a comparison of 2,000 random rows with the model, the real
+program from outside, both programs with each allocation refused in turn, the policy author's desk, whether each wrong
+body still applies, and whether what is generated in the pages is right. The last line is 'N passed, M failed'; each
+answer and each check counts as one.
 
 usage: tests/all.py             over the programs that are proved and built of these very sources; where one
                                 isn't, it is compiled of them without proof
@@ -164,7 +165,8 @@ class Steps:
 
 
 def stored_rows():
-    """The stored rows in pieces: those that define words, which stand first, the number of the first of the others, these, and their answers."""
+    """The stored rows in pieces: those that define words, which stand first, the number of the first of the others,
+    these, and their answers."""
     crate = TOP / "crates" / "xa_trials"
     asked, wanted = ((crate / name).read_bytes().split(b"\n")[:-1] for name in ("stdin", "stdout"))
     if len(asked) != len(wanted):
@@ -181,6 +183,7 @@ def all_steps(pdpd, xa_trials):
     yield [("xa_trials", xa_trials.find)]
     static = [(name, ran, [f"tests/{name}.py"]) for name in ("edits", "columns", "pages")]
     yield [*static, ("worked examples, by the model", model_alone)]
+    yield [("tests/rows/write.py", ran, ["tests/rows/write.py", "--stored"])]
     yield [("tests/program.py", outside, pdpd, "program")]
     yield [("tests/memory.py", memory, pdpd, xa_trials)]
     others = [(f"tests/{name}.py", outside, pdpd, name) for name in ("api", "serve", "tables")]

@@ -1,11 +1,14 @@
 #!/usr/bin/env python3
-"""Sends every example of docs/guide/openapi.yaml and of docs/guide/API.md to the real program, each to a fresh server, and compares the replies byte for byte.
+"""Sends every example of docs/guide/openapi.yaml and of docs/guide/API.md to the real program, each to a fresh server,
+and compares the replies byte for byte.
 
-usage: tests/api.py [PROGRAM]     the program, crates/pdpd/out/pdpd if none is named: the gate and `make pdpd` leave it there
+usage: tests/api.py [PROGRAM]     the program, crates/pdpd/out/pdpd if none is named: the gate and
+                                  `make pdpd` leave it there
 
-The two pages have the same examples. Each names the state from which it starts: a list of earlier messages, which are examples themselves.
-The test fails where a route, a status of a route or an error code of the server has no example, and where an example is not in both pages.
-What is expected stands in the pages, and ROUTES and CODES below say what they have to cover; nothing is taken from the program.
+The two pages have the same examples. Each names the state from which it starts: a list of earlier messages, which are
+examples themselves. The test fails where a route, a status of a route or an error code of the server has no example,
+and where an example is not in both pages. What is expected stands in the pages, and ROUTES and CODES below say what
+they have to cover; nothing is taken from the program.
 """
 import collections
 import json
@@ -25,7 +28,8 @@ WHOSE = {OPERATOR_TOKEN: "operator", ADMIN_TOKEN: "admin", ASK_TOKEN: "ask"}
 # The moment at which all examples are sent, as it stands in replies.
 MOMENT, MOMENT_TEXT = 1795428000, "2026-11-23T10:00:00Z"
 
-# ---- what the server has: its routes (crates/xa_http/specs/Table.antt) and its error codes (crates/xa_server/specs/ErrorCode.antt and Replies.antt)
+# ---- what the server has: its routes (crates/xa_http/specs/Table.antt) and its error codes
+# (crates/xa_server/specs/ErrorCode.antt and Replies.antt)
 
 Route = collections.namedtuple("Route", "method path roles reads_body codes")
 SHAPE = "NotJson UnknownMember MissingMember BadValue"
@@ -37,7 +41,8 @@ ROUTES = [Route(method, path, roles.split(), reads_body, codes.split()) for meth
     ("DELETE", "/operator/domains/{domain}/tokens", "operator", True, f"BadDomain {SHAPE} Absent"),
     ("POST", "/domains/{domain}/pdp", "ask admin", True, "NotJson"),
     ("GET", "/domains/{domain}/pap/policies", "admin", False, ""),
-    ("POST", "/domains/{domain}/pap/policies", "admin", True, f"TooLarge {SHAPE} UnknownAlgorithm IllTyped SameVersionOtherText Quota"),
+    ("POST", "/domains/{domain}/pap/policies", "admin", True,
+     f"TooLarge {SHAPE} UnknownAlgorithm IllTyped SameVersionOtherText Quota"),
     ("GET", "/domains/{domain}/pap/{kind}/{id}/{version}", "admin", False, "Absent"),
     ("DELETE", "/domains/{domain}/pap/{kind}/{id}/{version}", "admin", False, "Absent StillActive"),
     ("PUT", "/domains/{domain}/pap/{kind}/{id}/{version}/active", "admin", False, "Absent"),
@@ -47,14 +52,17 @@ ROUTES = [Route(method, path, roles.split(), reads_body, codes.split()) for meth
     ("PUT", "/domains/{domain}/pip", "admin", True, f"{SHAPE} Quota"),
 )]
 SUCCESSES = {"PUT /operator/domains/{domain}": {201}, "POST /domains/{domain}/pap/policies": {200, 201}}
-CODES = {"BadHead": 400, "BadDomain": 400, "NotJson": 400, "MissingMember": 400, "UnknownMember": 400, "BadValue": 400, "IllTyped": 400, "UnknownAlgorithm": 400,
-         "TooLarge": 400, "Unauthorized": 401, "Forbidden": 403, "NoRoute": 404, "Absent": 404, "BadMethod": 405, "Exists": 409, "Quota": 409,
-         "SameVersionOtherText": 409, "StillActive": 409, "BodyTooLarge": 413, "BadMediaType": 415, "HeadTooLarge": 431, "TransferCoding": 501, "Unavailable": 503}
+CODES = {"BadHead": 400, "BadDomain": 400, "NotJson": 400, "MissingMember": 400, "UnknownMember": 400, "BadValue": 400,
+         "IllTyped": 400, "UnknownAlgorithm": 400, "TooLarge": 400, "Unauthorized": 401, "Forbidden": 403,
+         "NoRoute": 404, "Absent": 404, "BadMethod": 405, "Exists": 409, "Quota": 409, "SameVersionOtherText": 409,
+         "StillActive": 409, "BodyTooLarge": 413, "BadMediaType": 415, "HeadTooLarge": 431, "TransferCoding": 501,
+         "Unavailable": 503}
 # Which end the connection.
 FAULTS = ("BadHead", "BodyTooLarge", "HeadTooLarge", "TransferCoding")
 # The phrase of each status (RFC 9110, section 15; 413 as RFC 7231 has it; RFC 6585, section 5).
-PHRASES = {200: "OK", 201: "Created", 400: "Bad Request", 401: "Unauthorized", 403: "Forbidden", 404: "Not Found", 405: "Method Not Allowed", 409: "Conflict",
-           413: "Payload Too Large", 415: "Unsupported Media Type", 431: "Request Header Fields Too Large", 501: "Not Implemented", 503: "Service Unavailable"}
+PHRASES = {200: "OK", 201: "Created", 400: "Bad Request", 401: "Unauthorized", 403: "Forbidden", 404: "Not Found",
+           405: "Method Not Allowed", 409: "Conflict", 413: "Payload Too Large", 415: "Unsupported Media Type",
+           431: "Request Header Fields Too Large", 501: "Not Implemented", 503: "Service Unavailable"}
 FIELDS = {401: ["WWW-Authenticate: Bearer"]}
 DECISIONS = "/domains/{domain}/pdp"
 
@@ -80,8 +88,8 @@ def methods_of(path):
 
 # ---- examples
 
-# `route` is the method and the path's template, or nothing where the path or the method is not served; `head` are the lines of the request's head; `body` is
-# None where there is none. `reply` is all bytes that come back.
+# `route` is the method and the path's template, or nothing where the path or the method is not served; `head` are the
+# lines of the request's head; `body` is None where there is none. `reply` is all bytes that come back.
 Example = collections.namedtuple("Example", "name route state head body reply")
 # A step of a state: an example, with this text in place of that one.
 Step = collections.namedtuple("Step", "example old new")
@@ -114,7 +122,8 @@ def request_head(method, target, token, media, body):
 
 
 def reply_bytes(status, media, fields, body):
-    lines = [f"HTTP/1.1 {status} {PHRASES[status]}", f"Content-Type: {media}", f"Content-Length: {len(body.encode())}", *fields]
+    lines = [f"HTTP/1.1 {status} {PHRASES[status]}", f"Content-Type: {media}",
+             f"Content-Length: {len(body.encode())}", *fields]
     return ("\r\n".join(lines) + "\r\n\r\n" + body).encode()
 
 
@@ -128,7 +137,8 @@ def error_reply(code, fields=()):
 
 def decided(decision, status):
     """The response of one result without obligations, advice and attributes."""
-    return f'{{"Response":[{{"Decision":"{decision}","Status":{{"StatusCode":{{"Value":"urn:oasis:names:tc:xacml:1.0:status:{status}"}}}}}}]}}'
+    code = f'{{"StatusCode":{{"Value":"urn:oasis:names:tc:xacml:1.0:status:{status}"}}}}'
+    return f'{{"Response":[{{"Decision":"{decision}","Status":{code}}}]}}'
 
 
 def bytes_of(head, body):
@@ -150,9 +160,11 @@ def token_in(head):
 
 # ---- docs/guide/openapi.yaml
 #
-# The page is YAML, so that people can read and change it, and Python's library has no reader of YAML. So this reads the part of YAML that the page uses, and
-# refuses everything else: mappings and sequences by indentation, values of one line, JSON (which is YAML as well), and literal blocks (`|`). The other ways were
-# worse for whoever keeps the page: written as JSON alone it has no text of several lines, and with its examples in a file beside it nobody sees them in place.
+# The page is YAML, so that people can read and change it, and Python's library has no reader of YAML. So this
+# reads the part of YAML that the page uses, and refuses everything else: mappings and sequences by indentation,
+# values of one line, JSON (which is YAML as well), and literal blocks (`|`). The other ways were worse for whoever
+# keeps the page: written as JSON alone it has no text of several lines, and with its examples in a file beside it
+# nobody sees them in place.
 
 KEY = re.compile(r"('(?:[^']|'')+'|[A-Za-z$][\w.$/+-]*|/[^\s:]*):(?: (.*))?\Z", re.A)
 PLAIN = re.compile(r"[A-Za-z/^(][^\t]*\Z")
@@ -233,7 +245,8 @@ class Yaml:
             return rest == "true"
         if re.fullmatch(r"-?(0|[1-9][0-9]*)", rest):
             return int(rest)
-        if not PLAIN.match(rest) or ": " in rest or " #" in rest or rest.endswith(":") or rest.lower() in ("null", "yes", "no", "on", "off", "y", "n", "true", "false"):
+        if (not PLAIN.match(rest) or ": " in rest or " #" in rest or rest.endswith(":")
+                or rest.lower() in ("null", "yes", "no", "on", "off", "y", "n", "true", "false")):
             self.at -= 1
             self.fail("a value that needs quotes")
         return rest
@@ -257,7 +270,8 @@ class Yaml:
             try:
                 return json.loads(text, object_pairs_hook=self.once)
             except json.JSONDecodeError as fault:
-                if self.at == len(self.lines) or len(self.lines[self.at]) - len(self.lines[self.at].lstrip(" ")) <= indent:
+                if (self.at == len(self.lines)
+                    or len(self.lines[self.at]) - len(self.lines[self.at].lstrip(" ")) <= indent):
                     self.at -= 1
                     self.fail(f"JSON: {fault.msg}")
                 text += "\n" + self.lines[self.at]
@@ -286,7 +300,8 @@ def openapi_steps(items, states):
 
 
 def openapi_example(name, example, operation, method, path, status, media, fields):
-    """The example of a reply, with the request that it names; where that names no body, it has the operation's request example of the same name."""
+    """The example of a reply, with the request that it names; where that names no body, it has the operation's request
+    example of the same name."""
     need("x-request" in example, f"{OPENAPI}: the example {name} has no x-request")
     request = example["x-request"]
     if "head" in request:
@@ -299,13 +314,15 @@ def openapi_example(name, example, operation, method, path, status, media, field
         head = request_head(method, request["target"], request["token"], asked[0], body)
         need(fits(request["target"], path), f"{OPENAPI}: the example {name} isn't of {path}")
     route = f"{method} {path}" if path else None
-    return Example(name, route, request["from"], head, body, reply_bytes(status, media, fields, compact(example["value"])))
+    return Example(name, route, request["from"], head, body,
+                   reply_bytes(status, media, fields, compact(example["value"])))
 
 
 def openapi_examples(responses, operation, method, path):
     """The examples of these replies, each with its status."""
     for status, response in responses:
-        fields = [f"{field}: {header['example']}" for field, header in response.get("headers", {}).items() if "example" in header]
+        fields = [f"{field}: {header['example']}"
+                  for field, header in response.get("headers", {}).items() if "example" in header]
         for media, content in response.get("content", {}).items():
             for name, example in content.get("examples", {}).items():
                 yield openapi_example(name, example, operation, method, path, int(status), media, fields)
@@ -343,7 +360,8 @@ def by_name(page, states, examples):
 
 # ---- docs/guide/API.md
 
-FENCED = re.compile(r"^Example `([\w-]+)`, from `([\w-]+)`:\n\n```http\n(.*?)\n```\n\n```http\n(.*?)\n```$", re.M | re.S)
+FENCED = re.compile(r"^Example `([\w-]+)`, from `([\w-]+)`:\n\n```http\n(.*?)\n```\n\n```http\n(.*?)\n```$",
+                    re.M | re.S)
 ROUTE_HEADING = re.compile(r"^### `(\w+) (/\S*)`$", re.M)
 
 
@@ -393,7 +411,8 @@ def row_example(cells, first, route):
             else:
                 need(part.startswith("with "), f"{PAGE}: the request of {name}")
                 texts = code_spans(part)
-                need(len(texts) < 2 or body.count(texts[1]) == 1, f"{PAGE}: what the request of {name} has in place of another text")
+                need(len(texts) < 2 or body.count(texts[1]) == 1,
+                     f"{PAGE}: what the request of {name} has in place of another text")
                 body = "" if not texts else spread(texts[0]) if len(texts) == 1 else body.replace(texts[1], texts[0])
     media = next((line.partition(": ")[2] for line in first.head if line.startswith("Content-Type: ")), None)
     head = request_head(method, target, token_in(first.head), media, body)
@@ -402,7 +421,8 @@ def row_example(cells, first, route):
         need(CODES[said] == status, f"{PAGE}: the status of {name}")
         return Example(name, route, state, head, body, error_reply(said))
     decision = re.match(r"200 (\w+) `([\w-]+)`", reply)
-    return Example(name, route, state, head, body, reply_bytes(status, media_of_replies(path), [], decided(*decision.groups()) if decision else said))
+    return Example(name, route, state, head, body,
+                   reply_bytes(status, media_of_replies(path), [], decided(*decision.groups()) if decision else said))
 
 
 def read_page(text):
@@ -418,7 +438,8 @@ def read_page(text):
         need(wires, f"{PAGE}: no example of {route}")
         examples += wires
         for table in re.findall(r"^\| Example \|.*\n\|[-|]+\|\n((?:\|.*\n)+)", section + "\n", re.M):
-            examples += [row_example([cell.strip() for cell in row.strip("|").split("|")], wires[0], route) for row in table.splitlines()]
+            examples += [row_example([cell.strip() for cell in row.strip("|").split("|")], wires[0], route)
+                         for row in table.splitlines()]
     examples += [wire_example(found, None) for found in FENCED.finditer(text[:headings[0].start()] + text[end:])]
     need(text.count("```http\n") == 2 * len(FENCED.findall(text)), f"{PAGE}: a message that is in no example")
     return Pages(states, by_name(PAGE, states, examples)), [f"{heading[1]} {heading[2]}" for heading in headings]
@@ -430,13 +451,16 @@ def check_tables():
     """The lists above are those of the definitions."""
     definitions = lambda path: open(f"{TOP}/crates/{path}", encoding="utf-8").read()
     patterns = re.findall(r'\(codes "(/[^"]*)",\s+place\.', definitions("xa_http/specs/Table.antt"))
-    need(sorted(patterns) == sorted({route.path for route in ROUTES}), "the paths of crates/xa_http/specs/Table.antt are others than those of tests/api.py")
+    need(sorted(patterns) == sorted({route.path for route in ROUTES}),
+         "the paths of crates/xa_http/specs/Table.antt are others than those of tests/api.py")
     # a row goes on in the lines that are indented
     commands = re.findall(r"^commands place\.\w+ =(.*(?:\n +.*)*)", definitions("xa_http/specs/Table.antt"), re.M)
     methods = [[method.upper() for method in re.findall(r"\((\w+),\s+asks\.", row)] for row in commands]
-    need(sorted(methods) == sorted(methods_of(path) for path in set(patterns)), "the methods of crates/xa_http/specs/Table.antt are others than those of tests/api.py")
+    need(sorted(methods) == sorted(methods_of(path) for path in set(patterns)),
+         "the methods of crates/xa_http/specs/Table.antt are others than those of tests/api.py")
     codes = re.findall(r'row \(codes "(\w+)"\)', definitions("xa_server/specs/ErrorCode.antt"))
-    need(sorted(codes + ["Unavailable"]) == sorted(CODES), "the codes of crates/xa_server/specs/ErrorCode.antt are others than those of tests/api.py")
+    need(sorted(codes + ["Unavailable"]) == sorted(CODES),
+         "the codes of crates/xa_server/specs/ErrorCode.antt are others than those of tests/api.py")
 
 
 def check_openapi(page, examples):
@@ -444,21 +468,25 @@ def check_openapi(page, examples):
     found = {f"{method} {path}": operation for method, path, operation in operations(page)}
     need(list(found) == [name_of(route) for route in ROUTES], f"{OPENAPI}: the operations are {list(found)}")
     shared = page["components"]["responses"]
-    need(sorted(shared) == sorted({code for route in ROUTES for code in shared_codes(route)} | {"NoRoute", "BadMethod"}), f"{OPENAPI}: shared replies")
+    need(sorted(shared) == sorted({code for route in ROUTES for code in shared_codes(route)}
+                                  | {"NoRoute", "BadMethod"}), f"{OPENAPI}: shared replies")
     for route in ROUTES:
         operation, name = found[name_of(route)], name_of(route)
-        need([list(each.values()) for each in operation["security"]] == [[[role]] for role in route.roles], f"{OPENAPI}: the roles of {name}")
+        need([list(each.values()) for each in operation["security"]] == [[[role]] for role in route.roles],
+             f"{OPENAPI}: the roles of {name}")
         need(("requestBody" in operation) == route.reads_body, f"{OPENAPI}: the body of {name}")
         wanted = collections.defaultdict(set)
         for code in (*route.codes, *shared_codes(route)):
             wanted[CODES[code]].add(code)
         for status in SUCCESSES.get(name, {200}):
             wanted[status] = set()
-        need(sorted(operation["responses"]) == sorted(map(str, wanted)), f"{OPENAPI}: the statuses of {name}: {sorted(operation['responses'])}")
+        need(sorted(operation["responses"]) == sorted(map(str, wanted)),
+             f"{OPENAPI}: the statuses of {name}: {sorted(operation['responses'])}")
         for status, codes in wanted.items():
             response = operation["responses"][str(status)]
             if "$ref" in response:
-                need({f"#/components/responses/{code}" for code in codes} == {response["$ref"]}, f"{OPENAPI}: {status} of {name}")
+                need({f"#/components/responses/{code}" for code in codes} == {response["$ref"]},
+                     f"{OPENAPI}: {status} of {name}")
             elif codes:
                 listed = response["content"]["application/json"]["schema"]["properties"]["Error"]["enum"]
                 need(sorted(listed) == sorted(codes), f"{OPENAPI}: the codes of {status} of {name}: {listed}")
@@ -466,12 +494,15 @@ def check_openapi(page, examples):
         for code in route.codes:
             need(error_reply(code) in replies, f"{name} has no example of {code}")
         for status in SUCCESSES.get(name, {200}):
-            need(any(reply.startswith(b"HTTP/1.1 %d " % status) for reply in replies), f"{name} has no example of {status}")
+            need(any(reply.startswith(b"HTTP/1.1 %d " % status) for reply in replies),
+                 f"{name} has no example of {status}")
     for code, response in shared.items():
         content = response["content"]["application/json"]
         need(content["schema"]["properties"]["Error"]["enum"] == [code], f"{OPENAPI}: the codes of the reply {code}")
-        need([example["value"] for example in content["examples"].values()] == [{"Error": code}], f"{OPENAPI}: one example of the reply {code}")
-    need(sorted(page["components"]["schemas"]["Error"]["properties"]["Error"]["enum"]) == sorted(CODES), f"{OPENAPI}: the codes of the schema Error")
+        need([example["value"] for example in content["examples"].values()] == [{"Error": code}],
+             f"{OPENAPI}: one example of the reply {code}")
+    need(sorted(page["components"]["schemas"]["Error"]["properties"]["Error"]["enum"]) == sorted(CODES),
+         f"{OPENAPI}: the codes of the schema Error")
 
 
 def check_page(text, routes):
@@ -479,11 +510,13 @@ def check_page(text, routes):
     listed = [(code_spans(row[0])[0], row[1].split(", ")) for row in table_after(text, "| Route |")]
     need(listed == [(name_of(route), route.roles) for route in ROUTES], f"{PAGE}: the table of routes")
     rows = {code_spans(row[0])[0]: int(row[1]) for row in table_after(text, "| Code | Status |")}
-    need(rows == CODES, f"{PAGE}: the table of error codes has other codes or statuses: {set(rows.items()) ^ set(CODES.items())}")
+    need(rows == CODES,
+         f"{PAGE}: the table of error codes has other codes or statuses: {set(rows.items()) ^ set(CODES.items())}")
 
 
 def check_same(one, other):
-    """Both pages have the same states and the same examples. A page lays out JSON as it likes, so bodies are compared as values, and heads without lengths."""
+    """Both pages have the same states and the same examples. A page lays out JSON as it likes, so bodies are compared
+    as values, and heads without lengths."""
     def value(body):
         try:
             return json.loads(body)
@@ -493,16 +526,20 @@ def check_same(one, other):
     def told(example):
         reply_head, _, reply_body = example.reply.decode().partition("\r\n\r\n")
         lines = lambda head: [line for line in head if not line.startswith("Content-Length: ")]
-        return example.route, example.state, lines(example.head), value(example.body), lines(reply_head.split("\r\n")), value(reply_body)
+        return (example.route, example.state, lines(example.head), value(example.body), lines(reply_head.split("\r\n")),
+                value(reply_body))
 
-    need(one.states == other.states, f"the states of {OPENAPI} and {PAGE} differ: {[name for name in one.states if one.states[name] != other.states.get(name)]}")
+    need(one.states == other.states, f"the states of {OPENAPI} and {PAGE} differ: "
+                                     f"{[name for name in one.states if one.states[name] != other.states.get(name)]}")
     for name in sorted(one.examples.keys() ^ other.examples.keys()):
         raise Wrong(f"the example {name} is in {OPENAPI if name in one.examples else PAGE} alone")
     for name, example in one.examples.items():
-        need(told(example) == told(other.examples[name]), f"the example {name} differs:\n  {told(example)}\n  {told(other.examples[name])}")
+        need(told(example) == told(other.examples[name]),
+             f"the example {name} differs:\n  {told(example)}\n  {told(other.examples[name])}")
 
 
-# ---- how messages are sent: the one place that knows the program. A transport over a socket to `pdpd serve` has the same two attributes.
+# ---- how messages are sent: the one place that knows the program. A transport over a socket to `pdpd serve` has the
+# same two attributes.
 
 class Replay:
     """`pdpd replay`: all messages are entries of one transcript on standard input."""
@@ -511,10 +548,12 @@ class Replay:
     says_the_moment = True
 
     def exchange(self, messages, memory=None):
-        """What a fresh server replies to these messages, sent one after another on one connection; with at most that many bytes of memory."""
+        """What a fresh server replies to these messages, sent one after another on one connection; with at most that
+        many bytes of memory."""
         transcript = b"".join(b"0 %d %d\n%s\n" % (MOMENT, len(message), message) for message in messages)
         limited = memory and (lambda: resource.setrlimit(resource.RLIMIT_AS, (memory, memory)))
-        ran = subprocess.run([PROGRAM, "replay", OPERATOR_TOKEN], input=transcript, capture_output=True, timeout=60, preexec_fn=limited)
+        ran = subprocess.run([PROGRAM, "replay", OPERATOR_TOKEN], input=transcript, capture_output=True, timeout=60,
+                             preexec_fn=limited)
         replies, at = [], 0
         while ran.returncode == 0 and at < len(ran.stdout):
             found = re.compile(rb"0 (\d+)\n").match(ran.stdout, at)
@@ -545,7 +584,8 @@ def expect(what, messages, wanted):
     if len(found) == len(wanted) and all(map(is_reply, found, wanted)):
         return
     failures.append(what)
-    place = next((place for place, pair in enumerate(zip(found, wanted)) if not is_reply(*pair)), min(len(found), len(wanted)))
+    place = next((place for place, pair in enumerate(zip(found, wanted)) if not is_reply(*pair)),
+                 min(len(found), len(wanted)))
     shown = lambda replies: repr(replies[place])[:400] if place < len(replies) else "no reply"
     print(f"FAILED {what}, message {place + 1} of {len(messages)}\n  found  {shown(found)}\n  wanted {shown(wanted)}")
 
@@ -601,11 +641,13 @@ class First:
     def fails(self, code, head, state=None, fields=None):
         """With this head, from this state, it is answered by that error."""
         fields = FIELDS.get(CODES[code], []) if fields is None else fields
-        sent(f"{code} of {name_of(self.route)}", self.pages, state or self.example.state, head, self.body, error_reply(code, fields))
+        sent(f"{code} of {name_of(self.route)}", self.pages, state or self.example.state, head, self.body,
+             error_reply(code, fields))
 
     def ends(self, code, head, body):
         """With this head and body, it is answered by that error, and nothing behind it is answered."""
-        sent(f"{code} of {name_of(self.route)}", self.pages, self.example.state, head, body, error_reply(code), [bytes_of(self.head, self.body)])
+        sent(f"{code} of {name_of(self.route)}", self.pages, self.example.state, head, body, error_reply(code),
+             [bytes_of(self.head, self.body)])
 
 
 def send_faults(first):
@@ -648,7 +690,8 @@ def send_others(first):
     target, methods = first.head[0].split(" ")[1], methods_of(first.route.path)
     for method in ("DELETE", "GET", "OPTIONS", "PATCH", "POST", "PUT"):
         if method not in methods:
-            first.fails("BadMethod", [f"{method} {target} HTTP/1.1", *first.head[1:]], fields=[f"Allow: {', '.join(methods)}"])
+            first.fails("BadMethod", [f"{method} {target} HTTP/1.1", *first.head[1:]],
+                        fields=[f"Allow: {', '.join(methods)}"])
     first.fails("NoRoute", [f"{first.route.method} {target}/nothing/at/all HTTP/1.1", *first.head[1:]])
 
 
@@ -661,12 +704,15 @@ def send_shared(pages):
 
 
 def send_short_of_memory(page, pages):
-    """The example of 503: with ever more memory, some server answers the messages before and behind it as ever, and has no memory for this one."""
+    """The example of 503: with ever more memory, some server answers the messages before and behind it as ever, and
+    has no memory for this one."""
     global checks
     checks += 1
-    example = next(example for example in pages.examples.values() if error_body("Unavailable").encode() in example.reply)
+    example = next(example
+                   for example in pages.examples.values() if error_body("Unavailable").encode() in example.reply)
     before = [stepped(pages, step) for step in pages.states[example.state]]
-    messages = [message for message, _ in before] + [bytes_of(example.head, example.body)] + [message for message, _ in before[:1]]
+    messages = ([message for message, _ in before] + [bytes_of(example.head, example.body)]
+                + [message for message, _ in before[:1]])
     wanted = [reply for _, reply in before] + [example.reply, error_reply("Exists")]
     for memory in range(2 ** 20, 64 * 2 ** 20, 2 ** 18):
         try:
@@ -699,7 +745,8 @@ def main():
     except Wrong as fault:
         print(f"tests/api.py: {fault}")
         return 1
-    print(f"tests/api.py: {len(first.examples)} examples, {checks - len(failures)} passed, {len(failures)} failed, in {time.time() - began:.1f} s")
+    print(f"tests/api.py: {len(first.examples)} examples, {checks - len(failures)} passed, {len(failures)} failed, "
+          f"in {time.time() - began:.1f} s")
     return 1 if failures else 0
 
 

@@ -11,6 +11,10 @@ import pathlib
 import re
 import sys
 
+sys.dont_write_bytecode = True
+
+from programs import crates  # noqa: E402
+
 TOP = pathlib.Path(__file__).resolve().parent.parent
 PAGE = TOP / "docs" / "GATE.md"
 FIRST, LAST = "<!-- tests/edits.py -->\n", "<!-- end of the edits -->"
@@ -61,12 +65,6 @@ def fault_of(path, crate):
     return faults[0] if faults else None if found else "it changes nothing"
 
 
-def crates():
-    """All crates, in the order of crates.txt."""
-    lines = (TOP / "crates.txt").read_text(encoding="utf-8").splitlines()
-    return [line.partition(":")[0] for line in lines if line.strip() and not line.startswith("#")]
-
-
 def table(old):
     """The table of edits, with the costs that a former one has; what no run has told yet is `?`."""
     costs, checks = (dict(re.findall(it, old, re.M)) for it in (r"`(\w+)` (\d+)", r"^\| `(\w+)` \| (\d+) \|"))
@@ -99,8 +97,6 @@ def main():
         failed += 1
         print("FAILED the table in docs/GATE.md isn't that of the edits that stand: tests/edits.py --write")
     for path, crate in edits():
-        if path == TOP / "edits" / "run":
-            continue
         count += 1
         is_other = (crate, path.name) in names
         fault = "the crate has another edit of this name" if is_other else fault_of(path, crate)

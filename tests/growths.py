@@ -13,6 +13,7 @@ sys.dont_write_bytecode = True
 
 from counting import CountingServer  # noqa: E402
 from messages import Stream  # noqa: E402
+from routes import TABLE, route_of  # noqa: E402
 from rows import Source, as_input, decoded, encoded, line  # noqa: E402
 from servers import OPERATOR_TOKEN  # noqa: E402
 
@@ -67,26 +68,41 @@ def compiled(code, library):
     return library
 
 
-def script():
-    """The messages, each with its moment, of the longest row of tests/rows/tripped.rows."""
-    rows = [fields[1:] for _, fields, _ in Source(TOP / "tests" / "rows" / "tripped.rows").rows if fields[0] == "tripped"]
-    moment, found = 0, []
-    for field in max(rows, key=len):
+def script_of(fields):
+    """The messages of a script, each with its moment."""
+    moment = 0
+    for field in fields:
         word, _, text = field.partition(":")
         if word == "moment":
             moment = int(text)
         else:
-            found.append((moment, decoded(as_input(text))))
-    return found
+            yield moment, decoded(as_input(text))
+
+
+def script():
+    """The messages of all scripts of tests/rows/tripped.rows, one script behind another."""
+    rows = Source(TOP / "tests" / "rows" / "tripped.rows").rows
+    return [found for _, fields, _ in rows if fields[0] == "tripped" for found in script_of(fields[1:])]
+
+
+def message_of(held):
+    """The message that the bytes are."""
+    stream = Stream()
+    stream.held = held
+    return stream.next()
+
+
+def not_asked(messages):
+    """What is served, and none of the messages asks for."""
+    served = {command for commands in TABLE.values() for command in commands.values()}
+    return sorted(served - {route_of(message_of(held)).command for _, held in messages})
 
 
 def by_model(messages):
     """The reply of the model to each of the messages, and how many decisions it has worked out then."""
     server, found = CountingServer(OPERATOR_TOKEN), []
     for moment, held in messages:
-        stream = Stream()
-        stream.held = held
-        found.append((server.answer(stream.next(), moment), server.evaluations))
+        found.append((server.answer(message_of(held), moment), server.evaluations))
     return found
 
 

@@ -1,4 +1,5 @@
-"""The rows that stand in the tables of a store after messages: by the model of the server and that of the tables (tests/model), over Python's own sqlite3."""
+"""The rows that stand in the tables of a store after messages: by the model of the server and that of the tables
+(tests/model), over Python's own sqlite3."""
 import os
 import sys
 
@@ -9,17 +10,20 @@ from machines import Server  # noqa: E402
 from messages import Stream  # noqa: E402
 from routes import owner  # noqa: E402
 from tables import (  # noqa: E402, F401
-    FIRST_MAKING, FIRST_TABLES, MAKING, TABLES, as_first, as_second, opened, rows_in, rows_of_domains, schema_numbered, schema_of,
+    FIRST_MAKING, FIRST_TABLES, MAKING, TABLES, as_first, as_second, opened, rows_in, rows_of_domains, schema_numbered,
+    schema_of,
 )
 
 
 def faults_of(db):
     """What sqlite3's own checks find."""
-    return [row for row in db.execute("PRAGMA integrity_check") if row != ("ok",)] + list(db.execute("PRAGMA foreign_key_check"))
+    return ([row for row in db.execute("PRAGMA integrity_check") if row != ("ok",)]
+            + list(db.execute("PRAGMA foreign_key_check")))
 
 
 class Model:
-    """What is kept after messages: the states of domains by the model of the server, their numbers and epochs, and the next number."""
+    """What is kept after messages: the states of domains by the model of the server, their numbers and epochs,
+    and the next number."""
 
     def __init__(self, operator):
         self.server, self.numbers, self.next = Server(operator.encode()), {}, 1

@@ -22,8 +22,9 @@ from serving import OPERATOR, Served, message, policy
 NAMES, IDS, TOKENS = ("acme", "beta", "gamma"), 30, 5
 SIDE_BY_SIDE = 8
 MOST_MESSAGES, MOST_ROWS = 16, 60
-# How long the program goes on at the most, in seconds, before it is killed: less next time where it has answered all by
-# then, more where it has answered nothing. From a load on others of the machine go before it, so that it is killed in time.
+# How long the program goes on at the most, in seconds, before it is killed: less next time where it has
+# answered all by then, more where it has answered nothing. From a load on others of the machine go before it,
+# so that it is killed in time.
 PAUSE, LESS, MORE, NICENESS = 0.01, 0.8, 1.25, 10
 ROW = {"AttributeId": "a", "Category": "Action", "DataType": "string", "Entity": ""}
 CHANGES = ("create", "remove", "put", "drop", "upload", "activate", "deactivate", "delete", "root", "source")
@@ -92,7 +93,8 @@ class Load:
             return message("PUT", f"{at}/pap/root", token, json.dumps(body))
         if kind == "source":
             version, count = self.chance.randrange(10 ** 6), self.chance.choice((0, 1, MOST_ROWS))
-            rows = [{**ROW, "Value": f"{version}-{place}", **({"Issuer": f"i{place}"} if place % 3 == 1 else {})} for place in range(count)]
+            rows = [{**ROW, "Value": f"{version}-{place}", **({"Issuer": f"i{place}"} if place % 3 == 1 else {})}
+                    for place in range(count)]
             return message("PUT", f"{at}/pip", token, json.dumps({"Row": rows}))
         return message("POST", f"{at}/pdp", token, '{"Request":{}}')
 
@@ -104,12 +106,14 @@ class Load:
             return "create", self.by_operator("create", name)
         if digest(f"{name}-token-1".encode()) not in state.tokens:
             return "put", self.by_operator("admit", name)
-        kind = self.chance.choice((*CHANGES[2:], "upload", "upload", "decide", *CHANGES[1:2] * (self.chance.random() < 0.5)))
+        kind = self.chance.choice((*CHANGES[2:], "upload", "upload", "decide",
+                                   *CHANGES[1:2] * (self.chance.random() < 0.5)))
         if kind in ("remove", "put", "drop"):
             return kind, self.by_operator(kind, name)
         if kind in ("activate", "deactivate", "delete") and state.documents:
             return kind, self.of_document(kind, name, state)
-        return (kind, self.of_domain(kind, name)) if kind in ("upload", "root", "source", "decide") else self.next(model)
+        return ((kind, self.of_domain(kind, name))
+                if kind in ("upload", "root", "source", "decide") else self.next(model))
 
 
 class Sent:
@@ -134,7 +138,8 @@ class Sent:
         return sum(end <= len(found) for end in self.ends) - 1
 
     def stands(self, rows, least):
-        """After how many of its messages these rows stand in the tables, no fewer than those; None after no number of them."""
+        """After how many of its messages these rows stand in the tables, no fewer than those; None
+        after no number of them."""
         return next((place for place in range(least, len(self.models)) if self.models[place].rows() == rows), None)
 
 
@@ -168,7 +173,8 @@ class Store:
         """That the program shows what the model has: the domains, and of one all that it reads."""
         name = self.load.chance.choice(NAMES)
         reads = lambda path: message("GET", f"/domains/{name}/{path}", f"{name}-token-1")
-        asks = [message("POST", f"/domains/{name}/pdp", f"{name}-token-{number}", '{"Request":{}}') for number in (1, 2)]
+        asks = [message("POST", f"/domains/{name}/pdp", f"{name}-token-{number}", '{"Request":{}}')
+                for number in (1, 2)]
         held = [LIST, reads("pap/policies"), reads("pip"), *asks]
         model = copy_of(self.model)
         self.expect(f"what is shown of {name}", served.once(*held), [model.answer(one) for one in held])
@@ -200,7 +206,8 @@ class Store:
         place = sent.stands(rows, least)
         if place is None:
             shown = [self.tables(model.rows()) for model in sent.models[least:]]
-            self.expect(f"what stands in the tables, {least} messages of {sent.kinds} being answered", self.tables(rows), shown)
+            self.expect(f"what stands in the tables, {least} messages of {sent.kinds} being answered",
+                        self.tables(rows), shown)
             return False
         if least < len(sent.kinds):
             self.report.struck[sent.kinds[least], place > least] += 1

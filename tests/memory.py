@@ -1,14 +1,15 @@
 #!/usr/bin/env python3
 """Refuses the real programs each of their allocations in turn, and looks at what they answer.
 
-usage: tests/memory.py [PDPD XA_TRIALS]      the programs; if none are named, those that are proved and built of these very sources, or else compiled of them
-                                             without proof
+usage: tests/memory.py [PDPD XA_TRIALS]      the programs; if none are named, those that are proved and built of these
+                                             very sources, or else compiled of them without proof
 
-A script of messages to two domains, the longest of tests/rows/tripped.rows, goes through `pdpd replay`, over tables in memory, and through a row of xa_trials, over a
-keeper in memory. In each run one allocation fails, every one in turn, until fifty in a row touch nothing. A run may end early, for want of memory, behind any
-reply; but for that each message has its reply, one at the most is answered with the fixed 503, and the others are answered as if that one had never come: by the
-model of the server in tests/model. Where a decision finds no memory to be held the reply stands, `unkept` is 1, and the same ask again is worked out once
-more and answered by the same bytes.
+The scripts of tests/rows/tripped.rows, one behind another, ask for all that is served. They go through `pdpd replay`,
+over tables in memory, and through a row of xa_trials, over a keeper in memory. In each run one allocation fails, every
+one in turn, until fifty in a row touch nothing. A run may end early, for want of memory, behind any reply; but for that
+each message has its reply, one at the most is answered with the fixed 503, and the others are answered as if that one
+had never come: by the model of the server in tests/model. Where a decision finds no memory to be held the reply stands,
+`unkept` is 1, and the same ask again is worked out once more and answered by the same bytes.
 """
 import collections
 import os
@@ -19,7 +20,7 @@ import time
 
 sys.dont_write_bytecode = True
 import programs  # noqa: E402
-from growths import FAILING, TOP, Replay, Rows, by_model, compiled, entries, in_turn, script  # noqa: E402
+from growths import FAILING, TOP, Replay, Rows, by_model, compiled, entries, in_turn, not_asked, script  # noqa: E402
 from serving import OPERATOR, UNAVAILABLE, decided, making, message  # noqa: E402
 
 # The most bytes that are held at once, told at the end.
@@ -66,24 +67,27 @@ __attribute__((destructor)) static void tell(void) {
 """
 
 MIB = 2 ** 20
-# What may be held at once for a few messages, and what more for an entry of 1 MiB: its bytes twice, as they were read and as its connection holds them,
-# the latter in a list that doubles.
+# What may be held at once for a few messages, and what more for an entry of 1 MiB: its bytes twice, as they were read
+# and as its connection holds them, the latter in a list that doubles.
 MOST_HELD, MOST_OF_AN_ENTRY = MIB, 5 * MIB
 
 
 def most_held(program, library, transcript):
     """The most bytes that a run over a transcript holds at once."""
     how = {"stdout": subprocess.DEVNULL, "stderr": subprocess.PIPE, "check": True}
-    ran = subprocess.run([program, "replay", OPERATOR], input=transcript, env={**os.environ, "LD_PRELOAD": library}, **how)
+    ran = subprocess.run([program, "replay", OPERATOR], input=transcript,
+                         env={**os.environ, "LD_PRELOAD": library}, **how)
     return int(ran.stderr.split()[-1])
 
 
 def figures(program, library):
-    """What is held for the stored transcript, and how much more for an entry of 58,254 messages: not all of them at once, nor their replies."""
+    """What is held for the stored transcript, and how much more for an entry of 58,254 messages: not all of them at
+    once, nor their replies."""
     transcript = (TOP / "crates/pdpd/stdin").read_bytes()
     transcript += b"".join(heading + b"\n" + held + b"\n" for heading, held in entries(transcript)[-1:]) * 2
     short = b"GET / HTTP/1.1\r\n\r\n" * (MIB // 18)
-    few, many = most_held(program, library, transcript), most_held(program, library, transcript + b"7 0 %d\n%s\n" % (len(short), short))
+    few, many = (most_held(program, library, transcript),
+                 most_held(program, library, transcript + b"7 0 %d\n%s\n" % (len(short), short)))
     print(f"tests/memory.py: {few} bytes are held at once, and {many} with an entry of {len(short) // 18} messages")
     return [] if few <= MOST_HELD and many <= few + MOST_OF_AN_ENTRY else ["more is held at once than is wanted"]
 
@@ -145,14 +149,16 @@ class Refusing:
             self.faults += [f"allocation {place}: {fault}"] if fault else []
             last = place
         told = ", ".join(f"{kind} {count}" for kind, count in sorted(self.counts.items()) if kind)
-        print(f"tests/memory.py: {self.what}: {last} allocations refused in turn: {told}; {len(self.faults)} wrong, in {time.time() - began:.0f} s")
+        print(f"tests/memory.py: {self.what}: {last} allocations refused in turn: {told}; {len(self.faults)} wrong, "
+              f"in {time.time() - began:.0f} s")
         for fault in self.faults[:20]:
             print(f"  {fault}")
         return last
 
     def wants(self, *kinds):
         """That there was a run of each of these kinds, and none was wrong; what isn't so."""
-        return [f"{self.what}: {fault}" for fault in self.faults] + [f"{self.what}: no run was of the kind: {kind}" for kind in kinds if not self.counts[kind]]
+        return ([f"{self.what}: {fault}" for fault in self.faults]
+                + [f"{self.what}: no run was of the kind: {kind}" for kind in kinds if not self.counts[kind]])
 
 
 class Asking(Refusing):
@@ -170,15 +176,18 @@ class Asking(Refusing):
 
 
 def main():
-    found = [os.path.abspath(path) for path in sys.argv[1:]] or [str(programs.proved(name) or programs.compiled(name)) for name in ("pdpd", "xa_trials")]
+    found = ([os.path.abspath(path) for path in sys.argv[1:]]
+             or [str(programs.proved(name) or programs.compiled(name)) for name in ("pdpd", "xa_trials")])
     if len(found) != 2 or not all(map(os.path.isfile, found)):
         print(__doc__, file=sys.stderr)
         return 2
     pdpd, xa_trials = found
-    asks = [(0, held) for held, _ in making("acme", "acme-token-1")] + [(0, message("POST", "/domains/acme/pdp", "acme-token-1", '{"Request":{}}'))] * 2
+    asks = ([(0, held) for held, _ in making("acme", "acme-token-1")]
+            + [(0, message("POST", "/domains/acme/pdp", "acme-token-1", '{"Request":{}}'))] * 2)
     with tempfile.TemporaryDirectory() as folder:
         library = compiled(FAILING, f"{folder}/failing.so")
         faults = figures(pdpd, compiled(COUNTING, f"{folder}/counting.so"))
+        faults += [f"the script doesn't ask for: {command}" for command in not_asked(script())]
         tables = Refusing("the script over tables", Replay(pdpd, library), script())
         vectors = Refusing("the script over a keeper in memory", Rows(xa_trials, library), script())
         asked = Asking("the same ask twice over a keeper in memory", Rows(xa_trials, library), asks)

@@ -17,6 +17,7 @@ import subprocess
 import textwrap
 
 import api
+from programs import crates
 
 TOP = pathlib.Path(__file__).resolve().parent.parent
 DECISIONS = TOP / "docs" / "design" / "decisions"
@@ -68,18 +69,9 @@ def files(pattern):
     return "| File | What it is about |\n|---|---|\n" + "".join(f"| `{name}` | {cell(told)} |\n" for name, told in rows)
 
 
-def crates():
-    """All crates with what each stands on, in the order of crates.txt."""
-    lines = (TOP / "crates.txt").read_text(encoding="utf-8").splitlines()
-    for line in lines:
-        if line.strip() and not line.startswith("#"):
-            name, _, rest = line.partition(":")
-            yield name, rest.split()
-
-
 def definitions(_):
     text = ""
-    for name, _rest in crates():
+    for name in crates():
         folder = TOP / "crates" / name / "specs"
         rows = []
         for path in sorted(folder.rglob("*.antt")):
@@ -92,7 +84,7 @@ def definitions(_):
 
 
 def standing(_):
-    found = dict(crates())
+    found = crates()
     text = "| Crate | Stands on, of this repository | Of the kit |\n|---|---|---|\n"
     for name, rest in found.items():
         ours, kit = ([f"`{each}`" for each in rest if (each in found) == own] for own in (True, False))
@@ -170,7 +162,8 @@ def route(name):
     page = openapi()
     told = next(operation["description"] for method, path, operation in api.operations(page)
                 if f"{method}:{path}" == name)
-    return "".join("\n".join(wrapped(part.split("\n"))) + "\n\n" for part in told.strip().split("\n\n")).strip("\n") + "\n"
+    return "".join("\n".join(wrapped(part.split("\n"))) + "\n\n"
+                   for part in told.strip().split("\n\n")).strip("\n") + "\n"
 
 
 def held_by(schema):
@@ -216,7 +209,8 @@ def errors(_):
 def states(_):
     text = "| State | Messages before | What the server has then |\n|---|---|---|\n"
     for name, state in openapi()["x-states"].items():
-        steps = [f"`{item['example']}` with `{item['replace']}` made `{item['by']}`, n from {item['from']} to {item['to']}"
+        steps = [f"`{item['example']}` with `{item['replace']}` made `{item['by']}`, "
+                 f"n from {item['from']} to {item['to']}"
                  if isinstance(item, dict) else f"`{item}`" for item in state["messages"]]
         text += f"| `{name}` | {', '.join(steps) or 'none'} | {state['description']} |\n"
     return text
@@ -299,6 +293,6 @@ def decisions(rooms):
 
 def generated(text):
     makers = {"files": files, "definitions": definitions, "standing": standing, "lines": lines, "states": states,
-              "decisions": decisions, "kinds": kinds, "said": said, "tables": tables, "routes": routes, "route": route, "errors": errors, "objects": objects,
-              "examples": lambda route: examples(route, text)}
+              "decisions": decisions, "kinds": kinds, "said": said, "tables": tables, "routes": routes, "route": route,
+              "errors": errors, "objects": objects, "examples": lambda route: examples(route, text)}
     return MARKED.sub(lambda found: found[1] + "\n" + makers[found[2]](found[3]) + "\n" + found[4], text)

@@ -46,7 +46,8 @@ def laid_out(text):
             kept = "" if line.startswith(kept) else kept
         elif line.startswith(("```", "<!--")):
             close()
-            kept = "```" if line.startswith("```") else "" if "-->" in line and line.startswith("<!-- end") else "<!-- end"
+            kept = ("```" if line.startswith("```") else "" if "-->" in line
+                    and line.startswith("<!-- end") else "<!-- end")
         elif not line.strip() or line.startswith(("|", "#", "    ")) and not (paragraph and line.startswith("    ")):
             close()
         else:
@@ -118,10 +119,12 @@ def lost_commands(text, folder):
 def public_calls(crate):
     """The functions that others may call: those of public types and traits, and those that the root file names."""
     texts = {path.stem: path.read_text(encoding="utf-8") for path in (crate / "src").rglob("*.rt")}
-    named = re.sub(r"^mod .*$", "", texts["lib"], flags=re.M) + "".join(texts[name] for name in re.findall(r"^pub mod (\w+);", texts["lib"], re.M))
+    named = (re.sub(r"^mod .*$", "", texts["lib"], flags=re.M)
+             + "".join(texts[name] for name in re.findall(r"^pub mod (\w+);", texts["lib"], re.M)))
     for text in texts.values():
         yield from re.findall(r"^    pub (?:const )?fn (\w+)", text, re.M)
-        yield from (name for name in re.findall(r"^pub (?:const )?fn (\w+)", text, re.M) if re.search(rf"\b{name}\b", named))
+        yield from (name
+                    for name in re.findall(r"^pub (?:const )?fn (\w+)", text, re.M) if re.search(rf"\b{name}\b", named))
         for body in re.findall(r"^pub trait \w+.*?^}", text, re.M | re.S):
             yield from re.findall(r"^    fn (\w+)", body, re.M)
 

@@ -6,6 +6,7 @@ usage: tests/programs.py proved NAME COMMAND..     runs a command that proves an
                                                    notes of which sources it made it
        tests/programs.py soonest NAME              tells where NAME is: the proved program, or else one without
                                                    proof, which it compiles if there is none of these sources
+       tests/programs.py tower NAME                tells which crates of this repository NAME is made of
 
 A note beside a program has a checksum of all that it was made of, and one of the program; where either isn't
 what it is now, the program is never taken.
@@ -42,16 +43,20 @@ def kit():
     return pathlib.Path(found).resolve().parent.parent
 
 
-def tower(name, lines=None):
-    """The crates of this repository that a crate is made of, itself too, each with its line of crates.txt."""
-    if lines is None:
-        text = (TOP / "crates.txt").read_text(encoding="utf-8")
-        rows = [line.partition("#")[0].partition(":") for line in text.splitlines()]
-        lines = {head.split()[0]: rest.split() for head, _, rest in rows if head.strip()}
-    found = {name: lines[name]}
-    for below in lines[name]:
-        if below in lines:
-            found.update(tower(below, lines))
+def crates():
+    """All crates of this repository with what each stands on, in the order of crates.txt."""
+    text = (TOP / "crates.txt").read_text(encoding="utf-8")
+    rows = [line.partition("#")[0].partition(":") for line in text.splitlines()]
+    return {head.split()[0]: rest.split() for head, _, rest in rows if head.strip()}
+
+
+def tower(name):
+    """The crates of this repository that a crate is made of, itself too, each with what it stands on."""
+    lines, found, wanted = crates(), {}, [name]
+    while wanted:
+        name = wanted.pop()
+        found[name] = lines[name]
+        wanted += [below for below in lines[name] if below in lines and below not in found]
     return found
 
 
@@ -244,14 +249,18 @@ def soonest(name):
 
 
 def main():
-    if sys.argv[1:2] == ["soonest"] and len(sys.argv) == 3:
-        print(soonest(sys.argv[2]))
+    word, *rest = sys.argv[1:] or [""]
+    if word == "soonest" and len(rest) == 1:
+        print(soonest(rest[0]))
         return 0
-    if sys.argv[1:2] != ["proved"] or len(sys.argv) < 4:
+    if word == "tower" and len(rest) == 1 and rest[0] in crates():
+        print(*sorted(tower(rest[0])), sep="\n")
+        return 0
+    if word != "proved" or len(rest) < 2:
         print(__doc__, file=sys.stderr)
         return 2
-    before = begun(sys.argv[2:3])
-    status = subprocess.run(sys.argv[3:], check=False).returncode
+    before = begun(rest[:1])
+    status = subprocess.run(rest[1:], check=False).returncode
     if status == 0:
         ended(before)
     return status

@@ -53,12 +53,6 @@ FREE_WANTED = 16_000_000_000
 FIGURES = TOP / "build" / "gate.json"
 
 
-def crates():
-    lines = (TOP / "crates.txt").read_text(encoding="utf-8").splitlines()
-    rows = [line.partition("#")[0] for line in lines]
-    return [row.partition(":")[0].split()[0] for row in rows if row.strip()]
-
-
 def descendants(of=None):
     """A process's children, and theirs; this one's, if none is named."""
     below = {}
@@ -215,7 +209,7 @@ class Forerunner:
         self.folder.chmod(0o711)
         (self.folder / "tmp").mkdir(mode=0o777)
         copied = self.folder / "copy"
-        parts = [TOP / "crates" / name / part for name in crates() for part in COPIED]
+        parts = [TOP / "crates" / name / part for name in programs.crates() for part in COPIED]
         for path in filter(pathlib.Path.exists, parts):
             to = copied / path.relative_to(TOP)
             to.parent.mkdir(parents=True, exist_ok=True)
@@ -301,7 +295,7 @@ class Judge(Run):
 
     def has_seen(self, number):
         # every crate is proved: nothing is left for the forerunner
-        if number == len(crates()):
+        if number == len(programs.crates()):
             self.watch.mark("all proved")
             self.forerunner.stop()
 

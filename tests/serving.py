@@ -1,4 +1,4 @@
-"""A running `pdpd serve`, and a client that writes bytes to it: what tests/serve.py, tests/tables.py and the benchmarks share."""
+"""A running `pdpd serve`, and a client that writes bytes to it: what tests and benchmarks share."""
 import os
 import selectors
 import socket
@@ -7,40 +7,16 @@ import subprocess
 import threading
 import time
 
-OPERATOR = "operator-token-1"
+from sent import (  # noqa: F401
+    ABSENT, BAD_HEAD, CREATED, DONE, EXISTS, HEAD_TOO_LARGE, OPERATOR, UNAUTHORIZED, UNAVAILABLE, decided, fault,
+    making, message, policy, reply)
+
 MOST_CONNECTIONS = 1_000_000
 PATIENCE = 30
 # How often the program is started before another port isn't tried, and its exit status where it can't listen.
 MOST_STARTS, STATUS_OF_SOCKET = 5, 5
 PIECE = 100  # messages that are sent together
 os.umask(0o077)  # a token file that others can read gets a line on standard error
-
-
-def message(method, path, token, body=None, more=""):
-    """The bytes of a message that shows that token."""
-    data = body if isinstance(body, bytes) else (body or "").encode()
-    length = "" if body is None else f"Content-Length: {len(data)}\r\n"
-    return f"{method} {path} HTTP/1.1\r\nAuthorization: Bearer {token}\r\n{more}{length}\r\n".encode() + data
-
-
-def reply(status, body, media="json", more=""):
-    return f"HTTP/1.1 {status}\r\nContent-Type: application/{media}\r\nContent-Length: {len(body.encode())}\r\n{more}\r\n{body}".encode()
-
-
-def fault(status, code, more=""):
-    return reply(status, f'{{"Error":"{code}"}}', more=more)
-
-
-def decided(decision, status="ok"):
-    code = f'{{"StatusCode":{{"Value":"urn:oasis:names:tc:xacml:1.0:status:{status}"}}}}'
-    return reply("200 OK", f'{{"Response":[{{"Decision":"{decision}","Status":{code}}}]}}', "xacml+json")
-
-
-CREATED, DONE = reply("201 Created", "{}"), reply("200 OK", "{}")
-UNAUTHORIZED = fault("401 Unauthorized", "Unauthorized", "WWW-Authenticate: Bearer\r\n")
-BAD_HEAD, HEAD_TOO_LARGE = fault("400 Bad Request", "BadHead"), fault("431 Request Header Fields Too Large", "HeadTooLarge")
-EXISTS, ABSENT = fault("409 Conflict", "Exists"), fault("404 Not Found", "Absent")
-UNAVAILABLE = fault("503 Service Unavailable", "Unavailable")
 
 
 def free_port():
@@ -125,10 +101,12 @@ def processor_seconds_of(pid):
 
 
 class Served:
-    """The program over a file, for so many connections. It is killed, if it still runs, at the end of the `with` statement."""
+    """The program over a file, for so many connections. It is killed, if it still runs, at the end of
+    the `with` statement."""
 
     def __init__(self, program, path, token_file, connections=MOST_CONNECTIONS, port=None, **more):
-        start = lambda chosen: self.start([program, "serve", path, f"127.0.0.1:{chosen}", token_file, str(connections)], chosen, more)
+        start = lambda chosen: self.start([program, "serve", path, f"127.0.0.1:{chosen}", token_file, str(connections)],
+                                          chosen, more)
         start(port or free_port())
         for _ in range(MOST_STARTS - 1):
             if port or not self.port_is_taken():
@@ -137,12 +115,14 @@ class Served:
 
     def start(self, words, port, more):
         self.port, self.said = port, b""
-        self.process = subprocess.Popen(words, stdin=subprocess.DEVNULL, stdout=subprocess.PIPE, stderr=subprocess.PIPE, **more)
+        self.process = subprocess.Popen(words, stdin=subprocess.DEVNULL, stdout=subprocess.PIPE,
+                                        stderr=subprocess.PIPE, **more)
         self.first_line = self.process.stdout.readline()
         self.listens = self.first_line == f"listening 127.0.0.1:{port}\n".encode()
 
     def port_is_taken(self):
-        """Whether the program has ended since it can't listen: another process got the port that was free a moment ago."""
+        """Whether the program has ended since it can't listen: another process got the port that
+        was free a moment ago."""
         return not self.first_line and self.process.wait(PATIENCE) == STATUS_OF_SOCKET
 
     def listened(self):
@@ -158,7 +138,8 @@ class Served:
             return [client.ask(one) for one in messages]
 
     def ended(self):
-        """What the program writes after its first line, what it says, and its exit status, once it has ended by itself."""
+        """What the program writes after its first line, what it says, and its exit status, once it
+        has ended by itself."""
         out, said = self.process.communicate(timeout=PATIENCE)
         return out, said, self.process.returncode
 
@@ -217,7 +198,8 @@ class Checks:
             print(f"FAILED {what}\n  found  {short(found)}\n  wanted {short(wanted)}")
 
     def status(self):
-        print(f"{self.name}: {self.count - self.failed} passed, {self.failed} failed, in {time.time() - self.began:.0f} s")
+        print(f"{self.name}: {self.count - self.failed} passed, {self.failed} failed, "
+              f"in {time.time() - self.began:.0f} s")
         return 1 if self.failed else 0
 
 
@@ -226,20 +208,3 @@ def is_program(name, program):
         return True
     print(f"{name}: {program} is not there: `make prove` or `make pdpd` builds it")
     return False
-
-
-def policy(rule="Permit", policy_id="urn:p", version="1.0", description=None):
-    """A policy of one rule, with that effect."""
-    told = "" if description is None else f'"Description":"{description}",'
-    return (f'{{"Policy":{{"PolicyId":"{policy_id}","Version":"{version}",{told}"RuleCombiningAlgId":'
-            f'"urn:oasis:names:tc:xacml:3.0:rule-combining-algorithm:deny-overrides","Rule":[{{"RuleId":"r","Effect":"{rule}"}}]}}}}')
-
-
-def making(name, token, text=None):
-    """Messages that make a domain whose root is that policy, each with its reply."""
-    at = f"/domains/{name}/pap"
-    return [(message("PUT", f"/operator/domains/{name}", OPERATOR), CREATED),
-            (message("POST", f"/operator/domains/{name}/tokens", OPERATOR, f'{{"Role":"admin","Token":"{token}"}}'), DONE),
-            (message("POST", f"{at}/policies", token, text or policy()), CREATED),
-            (message("PUT", f"{at}/policy/urn:p/1.0/active", token), DONE),
-            (message("PUT", f"{at}/root", token, '{"PolicyIdReference":{"Id":"urn:p"}}'), DONE)]

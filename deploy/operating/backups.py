@@ -15,6 +15,7 @@ import signal
 import socket
 import subprocess
 import sys
+import threading
 import time
 
 from . import moving, supervisor
@@ -87,6 +88,19 @@ def listed(port, token):
     return json.loads(body)["Domain"]
 
 
+def first_line(served):
+    """The first line that a program writes; nothing where it ends before. One that hangs is killed, since a backup
+    holds the lock `alone`."""
+    timer = threading.Timer(PATIENCE, served.kill)
+    # a thread takes no signal that the tool has put off
+    with unbroken():
+        timer.start()
+    try:
+        return served.stdout.readline()
+    finally:
+        timer.cancel()
+
+
 def opened(settings, folder):
     """The domains of a backup, as pdpd lists them over a copy of it. It judges each row as it opens one."""
     tried = folder.with_name(f".{folder.name.lstrip('.')}.tried")
@@ -99,8 +113,9 @@ def opened(settings, folder):
         pipes = {"stdout": subprocess.PIPE, "stderr": subprocess.PIPE}
         with subprocess.Popen(words, stdin=subprocess.DEVNULL, text=True, **pipes) as served:
             try:
-                if not served.stdout.readline().startswith("listening"):
-                    raise Wrong(f"the copy isn't opened: {served.stderr.read().strip()}")
+                if not first_line(served).startswith("listening"):
+                    said = served.stderr.read().strip() or f"nothing was said within {PATIENCE} s"
+                    raise Wrong(f"the copy isn't opened: {said}")
                 return listed(port, settings.operator())
             finally:
                 served.kill()

@@ -24,7 +24,7 @@ import subprocess
 import sys
 
 from . import backups, moving, proxy, status, supervisor, talk, watchdog
-from .settings import DOMAIN, ENDS, Wrong, alone, read
+from .settings import DOMAIN, ENDS, Wrong, alone, number_of, read
 
 
 def told(what):
@@ -125,17 +125,19 @@ def move(settings, words):
 
 
 def grow(settings, words):
-    (shards,) = words
-    if not shards.isdigit():
+    shards = number_of(*words)
+    if shards is None:
         raise Wrong("a number of shards is wanted")
     with alone(settings):
-        count = moving.grow(settings, int(shards))
+        count = moving.grow(settings, shards)
     told(f"there are {shards} shards; {count} domains stay where they were")
 
 
 def keep_backups(settings, words):
-    (seconds,) = words
-    backups.keep_making(read, int(seconds))
+    seconds = number_of(*words)
+    if seconds is None:
+        raise Wrong("a number of seconds is wanted")
+    backups.keep_making(read, seconds)
 
 
 # each word with the numbers of words that may stand behind it

@@ -10,7 +10,7 @@ import sqlite3
 import time
 
 from . import supervisor, talk
-from .settings import DOMAIN, Wrong, set_in_file, unbroken
+from .settings import DOMAIN, NUMBERS, Wrong, set_in_file, unbroken
 
 SCHEMA = 2
 # The tables of a domain's rows, beside `number`, which each file gives itself (crates/xa_store/README.md).
@@ -172,8 +172,9 @@ def move(settings, domain, one, other):
 
 def grow(settings, shards):
     """Makes more shards. Each domain stays in its own, and new ones go to all. Tells how many there are."""
-    if not settings.shards <= shards <= 64:
-        raise Wrong(f"the shards become more, up to 64: now they are {settings.shards}")
+    _, most = NUMBERS["SHARDS"]
+    if not settings.shards <= shards <= most:
+        raise Wrong(f"the shards become more, up to {most}: now they are {settings.shards}")
     by, many = supervisor.of(settings), range(settings.shards)
     talk.settle(settings)
     # no domain is made from here on, and each that was asked for before is there or isn't

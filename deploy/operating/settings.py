@@ -13,8 +13,8 @@ FILE = pathlib.Path(os.environ.get("PDPD_SETTINGS", "/etc/pdpd/shards.conf"))
 # the least and the most of each number
 NUMBERS = {
     "SHARDS": (1, 64), "FIRST_PORT": (1, 65_000), "KEEP_BACKUPS": (1, 100_000), "CONNECTIONS": (1, 1_000_000),
-    "WORK": (0, 2 ** 63), "READING": (0, 2 ** 63), "IDLE": (0, 86_400), "THREADS": (1, 64), "KEEP": (0, 1), "RETRY": (0, 1),
-    "MAXCONN": (1, 128), "RATE": (0, 1_000_000),
+    "WORK": (0, 2 ** 63), "READING": (0, 2 ** 63), "IDLE": (0, 86_400), "THREADS": (1, 64), "KEEP": (0, 1),
+    "RETRY": (0, 1), "MAXCONN": (1, 128), "RATE": (0, 1_000_000),
 }
 # the signals to end, as of a terminal that is closed
 ENDS = (signal.SIGINT, signal.SIGTERM, signal.SIGHUP)
@@ -43,6 +43,11 @@ def number_in(name, value):
     if not re.fullmatch(r"[0-9]{1,19}", value) or not least <= int(value) <= most:
         raise Wrong(f"{FILE}: {name} is {value!r}, and no number from {least} to {most}")
     return int(value)
+
+
+def number_of(word):
+    """The number that a word of the command line is, if it is one of up to nine digits."""
+    return int(word) if re.fullmatch(r"[0-9]{1,9}", word) else None
 
 
 # those of the file that is installed, where a setting is left out
@@ -85,9 +90,10 @@ class Settings:
 
     def shard_in(self, word):
         """The shard that a word of the command line names."""
-        if not word.isdigit() or int(word) >= self.shards:
+        found = number_of(word)
+        if found is None or found >= self.shards:
             raise Wrong(f"there is no shard {word}: they are 0 to {self.shards - 1}")
-        return int(word)
+        return found
 
 
 def read():

@@ -133,7 +133,7 @@ def place(settings, known, domain):
     said = known.get(domain)
     if said is None:
         return zlib.crc32(domain.encode()) % settings.shards
-    return int(said) if said.isdigit() else said
+    return int(said) if said.isdecimal() else said
 
 
 def set_in_map(settings, changes):

@@ -140,7 +140,8 @@ def holding(machine, checks):
     machine.operator.clear()
     asks, now = many(machine, 8), settings.read()
     in_one = lambda number: shards("where", f"d{number}").strip() == "1"
-    (ask, wanted), (beside, other) = asks[next(filter(in_one, range(8)))], asks[next(n for n in range(8) if not in_one(n))]
+    (ask, wanted), (beside, other) = (asks[next(filter(in_one, range(8)))],
+                                      asks[next(n for n in range(8) if not in_one(n))])
     began = time.time()
     with settings.alone(now), talk.held(now, 1):
         reload = subprocess.Popen(["pdpd-shards", "reload"], stdout=subprocess.DEVNULL)

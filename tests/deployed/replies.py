@@ -62,7 +62,8 @@ def desk(machine, checks):
     place = json.loads((folder / "domain.json").read_text())
     (folder / "domain.json").write_text(json.dumps({**place, "Server": "https://localhost", "Domain": "ward"}))
     trusts = {"DALVEZOUR_TOKEN": "ward-admin-1", "SSL_CERT_FILE": "/etc/haproxy/pdpd.crt"}
-    for word, *more, wanted in (("deploy", "--yes", "Deployed: number 1."), ("status", "--strict", "is what runs there"),
+    for word, *more, wanted in (("deploy", "--yes", "Deployed: number 1."),
+                                ("status", "--strict", "is what runs there"),
                                 ("deploy", "--yes", "Nothing is to be done.")):
         words = [TOP / "tools" / "policy" / "policy.py", word, "--program", "none", *more, folder]
         ran = subprocess.run(words, env={**os.environ, **trusts}, capture_output=True, text=True, check=False)
@@ -200,7 +201,8 @@ PATHS = (
 )
 OF_OPERATOR = (
     ("PUT", "/%61cme", 400), ("PUT", "/a%63me", 400), ("PUT", "/acm%65", 400), ("PUT", "/Acme", 400),
-    ("PUT", "/", 404), ("PUT", "//acme", 404), ("PUT", "/acme/", 404), ("DELETE", "/%61cme", 400), ("PUT", "/acme", 409),
+    ("PUT", "/", 404), ("PUT", "//acme", 404), ("PUT", "/acme/", 404), ("DELETE", "/%61cme", 400),
+    ("PUT", "/acme", 409),
 )
 
 

@@ -122,7 +122,8 @@ def calls(machine, checks):
     (at / "shards.conf").write_text(f"DATA={at}\nFIRST_PORT={TRACED}\n")
     surroundings = {**os.environ, "PDPD_SETTINGS": str(at / "shards.conf"), "LC_ALL": "C"}
     words = ["strace", "-f", "-o", at / "trace", LIBRARY / "pdpd-run", "0"]
-    messages = Operator(pathlib.Path("/etc/pdpd/token").read_text().strip()).making("acme", "acme-token-1", policy_text())
+    operator = Operator(pathlib.Path("/etc/pdpd/token").read_text().strip())
+    messages = operator.making("acme", "acme-token-1", policy_text())
     with subprocess.Popen(words, env=surroundings, stdout=subprocess.PIPE) as traced:
         traced.stdout.readline()
         try:

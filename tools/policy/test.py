@@ -1,5 +1,6 @@
 #!/usr/bin/env python3
-"""Runs the desk's tests. The proved program has to be there (`tools/policy/policy.py build`): what it answers is compared.
+"""Runs the desk's tests. The proved program has to be there (`tools/policy/policy.py build`): what
+it answers is compared.
 
 usage: tools/policy/test.py               all tests, a file of them on each processor
        tools/policy/test.py NAME..        some of them, as tests.test_slips
@@ -62,10 +63,12 @@ def main() -> int:
     elif "DESK_MODEL_ONLY" in os.environ:
         pass
     elif PROGRAM is None:
-        print("The program xa_trials isn't built: `tools/policy/policy.py build` proves and builds it, and `tools/policy/test.py --model-only` tests without it.")
+        print("The program xa_trials isn't built: `tools/policy/policy.py build` proves and builds it, "
+              "and `tools/policy/test.py --model-only` tests without it.")
         return 1
     else:
-        print(f"The program is {PROGRAM.command[0]}" + (f"; {PROGRAM.warning}" if PROGRAM.warning else ", proved of these sources."))
+        print(f"The program is {PROGRAM.command[0]}"
+              + (f"; {PROGRAM.warning}" if PROGRAM.warning else ", proved of these sources."))
     if not words:
         print(f"Deployment is tried over {server_shown()}.")
         return all_files()

@@ -63,7 +63,8 @@ def plain_decision(result: dict) -> tuple[str, str]:
 def named(result: dict) -> list[str]:
     """The policies and then the sets that a result names, each in their order, as an explanation has them."""
     found = result.get("PolicyIdentifierList", {})
-    return [f"{word} {held['Id']} {held['Version']}" for word, name in (("policy", "PolicyIdReference"), ("policy set", "PolicySetIdReference"))
+    return [f"{word} {held['Id']} {held['Version']}"
+            for word, name in (("policy", "PolicyIdReference"), ("policy set", "PolicySetIdReference"))
             for held in found.get(name, [])]
 
 
@@ -73,8 +74,8 @@ def in_kinds(names: list[str]) -> list[str]:
 
 
 def is_explained(results: list[dict], shown: list[dict] | None) -> bool:
-    """Whether an explanation comes to the decisions and statuses of the response, and to the policies where it names some; none belongs to a request
-    that isn't decided at all."""
+    """Whether an explanation comes to the decisions and statuses of the response, and to the policies where it names
+    some; none belongs to a request that isn't decided at all."""
     given = [(result["Decision"], result["Status"]["StatusCode"]["Value"].rsplit(":", 1)[1]) for result in results]
     if shown is None:
         return len(given) < 2 and all(one in (("Indeterminate", "syntax-error"), ("Indeterminate", "processing-error"))

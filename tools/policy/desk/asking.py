@@ -12,7 +12,8 @@ from .shapes import SHAPES, kind_of, name_node
 from .text import listed
 
 OF_REQUEST = ["ReturnPolicyIdList", "CombinedDecision", "Category", "MultiRequests", *identifiers.SHORTHANDS]
-OF_CATEGORY, OF_ATTRIBUTE = ["CategoryId", "Id", "Attribute"], ["AttributeId", "Value", "Issuer", "DataType", "IncludeInResult"]
+OF_CATEGORY, OF_ATTRIBUTE = (["CategoryId", "Id", "Attribute"],
+                             ["AttributeId", "Value", "Issuer", "DataType", "IncludeInResult"])
 # members of the profile that are read and ignored
 IGNORED = ("Content", "XPathVersion", "StatusMessage")
 KIND_TYPES = {"string": "string", "boolean": "boolean", "number": "integer"}
@@ -26,7 +27,8 @@ class Asking:
 
     def fault(self, node: Node, sentence: str, expected: str = "", found: str = "", nearest: str = "") -> None:
         """Says that the server takes this for no request of the profile."""
-        self.remarks.fault("NotProfile", node, sentence, expected=expected, found=found or kind_of(node), nearest=nearest)
+        self.remarks.fault("NotProfile", node, sentence, expected=expected, found=found or kind_of(node),
+                           nearest=nearest)
 
     def is_kind(self, node: Node, kind: str, wanted: str) -> bool:
         """Whether the value is of the kind; else the fault."""
@@ -138,7 +140,8 @@ class Asking:
         kinds = {item.kind for item in items}
         wrong = [item for item in items if item.kind not in KIND_TYPES]
         for item in wrong:
-            self.fault(item, "A value is a text, true or false, or a whole number, or an array of one of these kinds.", "a value")
+            self.fault(item, "A value is a text, true or false, or a whole number, or an array of one of these kinds.",
+                       "a value")
         if not wrong and len(kinds) > 1:
             self.fault(value, "The values of an array are of one kind: texts, or booleans, or whole numbers.",
                        "values of one kind", "values of several kinds")
@@ -157,7 +160,8 @@ class Asking:
                 values.read(data_type, item.value if item.kind == "string" else str(item.value).lower())
             except values.Fault:
                 self.fault(item,
-                           f"This is no {data_type}, the type that {'DataType names' if node.at('DataType') else 'its kind has'}.", SHAPES[data_type])
+                           f"This is no {data_type}, the type that "
+                           f"{'DataType names' if node.at('DataType') else 'its kind has'}.", SHAPES[data_type])
 
     def references(self, asked: Node) -> None:
         """The request references."""
@@ -174,7 +178,8 @@ class Asking:
                     if self.is_kind(one, "string", "a text, or an array of texts") and one.value not in self.ids:
                         nearest = names.nearest(one.value, self.ids)
                         self.remarks.warning("unknown-id", one,
-                                             f'No category has the Id "{one.value}": this result is Indeterminate, syntax-error.',
+                                             f'No category has the Id "{one.value}": this result is Indeterminate, '
+                                             'syntax-error.',
                                              found=one.value, nearest=nearest)
 
 
@@ -208,5 +213,6 @@ def checked_request(path: str, held: bytes) -> Asked:
     except (json_texts.NotJson, requests.NotProfile) as fault:
         by_model = type(fault).__name__
     if code != by_model:
-        raise Disagreement(f"{path}: the desk finds {code or 'no fault'} in the request, and the model {by_model or 'no fault'}.")
+        raise Disagreement(f"{path}: the desk finds {code or 'no fault'} in the request, "
+                           f"and the model {by_model or 'no fault'}.")
     return Asked(source, remarks, code)

@@ -10,9 +10,11 @@ A file of cases is a JSON object:
         At           a time; may be left out, and is then 1970-01-01T00:00:00Z
         Decision     Permit, Deny, NotApplicable or Indeterminate
         Status       ok, missing-attribute, syntax-error or processing-error; not looked at where it is left out
-        Obligations  an array, in order, of ids, or of objects {"Id": .., "Assignments": {ATTRIBUTE-ID: VALUE or [VALUES]}}; not looked at where it is left out
+        Obligations  an array, in order, of ids, or of objects {"Id": .., "Assignments": {ATTRIBUTE-ID: VALUE or
+                     [VALUES]}}; not looked at where it is left out
         Advice       the same
-        Results      in place of the five above, where the request has several results: an array of objects of these five
+        Results      in place of the five above, where the request has several results: an array
+                     of objects of these five
 """
 from __future__ import annotations
 
@@ -27,8 +29,8 @@ from .faults import Remarks
 from .positions import Node, Source
 from .program import Program
 
-OF_FILE, OF_CASE = ["Policy", "Root", "Rows", "Case"], ["Name", "Request", "At", "Decision", "Status", "Obligations", "Advice",
-                                                        "Results"]
+OF_FILE = ["Policy", "Root", "Rows", "Case"]
+OF_CASE = ["Name", "Request", "At", "Decision", "Status", "Obligations", "Advice", "Results"]
 OF_RESULT = ["Decision", "Status", "Obligations", "Advice"]
 DECISIONS = ["Permit", "Deny", "NotApplicable", "Indeterminate"]
 STATUSES = ["ok", "missing-attribute", "syntax-error", "processing-error"]
@@ -82,7 +84,8 @@ class CaseReader:
             if member.name not in table:
                 nearest = names.nearest(member.name, table)
                 self.fault(member.node,
-                           f'There is no member "{member.name}" here.' + (f' Did you mean "{nearest}"?' if nearest else ""),
+                           f'There is no member "{member.name}" here.'
+                           + (f' Did you mean "{nearest}"?' if nearest else ""),
                            expected=text.listed(table), nearest=nearest)
         for name in needed:
             if node.at(name) is None:
@@ -126,8 +129,8 @@ class CaseReader:
         rows = self.rows(node.at("Rows"))
         for remarks in [one.remarks for one in documents] + ([rows.remarks] if rows else []):
             self.remarks.found += remarks.faults()
-        return None if self.remarks.faults() else setting.Setting(documents,
-                                                                  setting.root_of(self.text(node.at("Root")), documents), rows)
+        return None if self.remarks.faults() else setting.Setting(
+            documents, setting.root_of(self.text(node.at("Root")), documents), rows)
 
     def rows(self, node: Node | None) -> Rows | None:
         """The source rows, which stand here or in a file."""
@@ -140,17 +143,20 @@ class CaseReader:
 
     def case(self, node: Node, number: int) -> Case | None:
         """A case."""
-        if not self.known(node, OF_CASE, ["Request"] + ["Decision"] * (node.kind == "object" and node.at("Results") is None)):
+        if not self.known(node, OF_CASE,
+                          ["Request"] + ["Decision"] * (node.kind == "object" and node.at("Results") is None)):
             return None
-        expected = [self.result(item)
-                    for item in self.items(node.at("Results"))] if node.at("Results") is not None else [self.result(node, OF_CASE)]
+        results = node.at("Results")
+        expected = ([self.result(node, OF_CASE)] if results is None else
+                    [self.result(item) for item in self.items(results)])
         at = self.text(node.at("At"))
         try:
             moment = 0 if at is None else setting.moment_of(at)
         except setting.Usage as fault:
             self.fault(node.at("At"), f"{fault}.")
             return None
-        return Case(self.text(node.at("Name")) or f"case {number}", node, self.request(node.at("Request")), moment, expected)
+        return Case(self.text(node.at("Name")) or f"case {number}", node, self.request(node.at("Request")),
+                    moment, expected)
 
     def request(self, node: Node) -> bytes:
         """The bytes of a request that stands here, or in a file."""
@@ -163,7 +169,8 @@ class CaseReader:
         """What is expected of a result."""
         if not self.known(node, table or OF_RESULT, ["Decision"]):
             return {}
-        found: dict = {"Decision": self.text(node.at("Decision"), DECISIONS), "Status": self.text(node.at("Status"), STATUSES)}
+        found: dict = {"Decision": self.text(node.at("Decision"), DECISIONS),
+                       "Status": self.text(node.at("Status"), STATUSES)}
         for name in ("Obligations", "Advice"):
             if node.at(name) is not None:
                 found[name] = [self.duty(item) for item in self.items(node.at(name))]
@@ -203,7 +210,8 @@ def differences(expected: dict, given: dict) -> list[str]:
         if name in expected:
             wanted = expected[name]
             held = given.get(member, [])
-            found_duties = [duty_of(one, wanted[place] if place < len(wanted) else {}) for place, one in enumerate(held)]
+            found_duties = [duty_of(one, wanted[place] if place < len(wanted) else {})
+                            for place, one in enumerate(held)]
             if found_duties != wanted:
                 found.append(f"expected {name.lower()} {shown(wanted)}, found {shown(found_duties)}")
     return found
@@ -211,7 +219,8 @@ def differences(expected: dict, given: dict) -> list[str]:
 
 def shown(duties: list[dict]) -> str:
     """Obligations, or advice, as a case has them."""
-    held = [duty["Id"] if "Assignments" not in duty else f"{duty['Id']} {json.dumps(duty['Assignments'], ensure_ascii=False)}"
+    held = [duty["Id"]
+            if "Assignments" not in duty else f"{duty['Id']} {json.dumps(duty['Assignments'], ensure_ascii=False)}"
             for duty in duties]
     return ", ".join(held) or "none"
 
@@ -223,7 +232,8 @@ def outcome(case: Case, answer: ask.Answer, explained: list[dict] | None) -> Out
     results = answer.results()
     if len(results) != len(case.expected):
         return Outcome(case,
-                       [f"expected {text.counted(len(case.expected), 'result')}, found {len(results)}: {', '.join(result['Decision'] for result in results)}"])
+                       [f"expected {text.counted(len(case.expected), 'result')}, found {len(results)}: "
+                        f"{', '.join(result['Decision'] for result in results)}"])
     failures, because = [], ""
     for number, (expected, given) in enumerate(zip(case.expected, results)):
         differ = differences(expected, given)
@@ -243,7 +253,8 @@ def run_suite(suite: Suite, program: Program | None, reached: coverage.Coverage)
         reached.add(explained or [])
         if not answer.agrees or not ask.is_explained(answer.results(), explained):
             agree = False
-            text.loud(f"MODEL AND PROGRAM DISAGREE on {suite.path}, {case.name}. The model: {answer.by_model[:400]} The program: {(answer.by_program or '')[:400]}")
+            text.loud(f"MODEL AND PROGRAM DISAGREE on {suite.path}, {case.name}. The model: "
+                      f"{answer.by_model[:400]} The program: {(answer.by_program or '')[:400]}")
     return agree
 
 
@@ -271,9 +282,8 @@ def junit(suites: list[Suite]) -> bytes:
             case = xml.SubElement(held, "testcase", classname=suite.path, name=one.case.name, file=suite.path,
                                   line=str(one.case.node.place.line))
             if one.failures:
-                xml.SubElement(case, "failure",
-                               message=one.failures[0]).text = "\n".join([*one.failures,
-                                                                          *([f"because: {one.because}"] if one.because else [])])
+                xml.SubElement(case, "failure", message=one.failures[0]).text = "\n".join(
+                    [*one.failures, *([f"because: {one.because}"] if one.because else [])])
     xml.indent(whole)
     return xml.tostring(whole, encoding="utf-8", xml_declaration=True) + b"\n"
 

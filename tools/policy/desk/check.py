@@ -1,4 +1,5 @@
-"""Checks of single files: what keeps a document, or a body of source rows, from being taken by the server, with places."""
+"""Checks of single files: what keeps a document, or a body of source rows, from being taken by the
+server, with places."""
 from __future__ import annotations
 
 from dataclasses import dataclass
@@ -59,7 +60,8 @@ def model_code(read_by, held: bytes) -> str | None:
 def agreed(source: Source, code: str | None, by_model: str | None) -> None:
     """Raises where the desk and the model don't find the same first."""
     if code != by_model:
-        raise Disagreement(f"{source.path}: the desk finds {code or 'no fault'} first, and the model {by_model or 'no fault'}. This is a fault of the desk or of the model.")
+        raise Disagreement(f"{source.path}: the desk finds {code or 'no fault'} first, "
+                           f"and the model {by_model or 'no fault'}. This is a fault of the desk or of the model.")
 
 
 def json_of(source: Source, remarks: Remarks) -> Node | None:
@@ -102,8 +104,8 @@ class RowShapes(Shapes):
         found = self.members("SourceRow", node)
         if found is None:
             return None
-        held = self.optional(self.category, found, "Category"), self.optional(self.text, found,
-                                                                              "Entity"), self.optional(self.text, found, "AttributeId")
+        held = (self.optional(self.category, found, "Category"), self.optional(self.text, found, "Entity"),
+                self.optional(self.text, found, "AttributeId"))
         literal = self.typed(node, found)
         return SourceRow(node, found.get("Category"), *held, literal, self.optional(self.text, found, "Issuer"))
 

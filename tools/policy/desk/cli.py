@@ -2,62 +2,20 @@
 from __future__ import annotations
 
 import argparse
-import contextlib
 import json
 import sys
 from collections.abc import Callable
 
-from . import ask, asking, cases, diff, exchange, explain, explained, files, laid_out, lints, program, setting, text, together
+from . import (
+    ask, asking, cases, deploy, deploy_words, diff, exchange, explain, explained, files, laid_out, lints, program,
+    setting, text, together)
 from .check import Checked, Disagreement, Rows
 from .faults import Remark, Remarks
-from .model import documents as documents_of_model
-from .model import route_bodies
-from .model import rows as model_rows
-
-FINE, FAULTS, USAGE, DISAGREE = 0, 1, 2, 3
-ONLY_MODEL = "There is no proved program: only the model in Python spoke. `tools/policy/policy.py build` proves and builds the program."
-
-
-def chosen_program(options: argparse.Namespace) -> program.Program | None:
-    """The program that is asked; what isn't sure about it is said, and loudly where there is none."""
-    if options.build and not options.program:
-        with contextlib.redirect_stdout(sys.stderr):
-            program.built()
-    found = program.found(options.program)
-    if found is None:
-        text.loud(ONLY_MODEL)
-    elif found.warning:
-        text.warn(found.warning)
-    return found
-
-
-def all_agree(pairs: list[tuple[str, str, str]]) -> bool:
-    """Whether model and program say the same; else each difference is said loudly. A pair is a name and what each of them says."""
-    for name, by_model, by_program in pairs:
-        if by_model != by_program:
-            text.loud(f"MODEL AND PROGRAM DISAGREE on {name}. The model: {by_model[:400]} The program: {by_program[:400]} One of them is wrong: please report this with the files.")
-    return all(by_model == by_program for _, by_model, by_program in pairs)
-
-
-def print_remarks(found: list[Remark]) -> None:
-    """Remarks, in the order of their places."""
-    for remark in sorted(found, key=lambda remark: (remark.source.path, remark.start)):
-        print(text.remark_shown(remark) + "\n")
+from .verdicts import (
+    DISAGREE, FAULTS, FINE, USAGE, all_agree, check_pairs, chosen_program, print_remarks, print_summary)
 
 
 # check
-
-
-def check_pairs(documents: list[Checked], rows: Rows | None, found: program.Program | None) -> list[tuple[str, str, str]]:
-    """What the model and the program say of each file."""
-    if found is None:
-        return []
-    asked = [(one.source.path, documents_of_model.document, "document", one.source.held) for one in documents]
-    if rows is not None:
-        asked.append((rows.source.path, route_bodies.rows, "rows", rows.source.held))
-    fields = [model_rows.encoded(held) for _, _, _, held in asked]
-    answers = found.answers([[kind, field] for (_, _, kind, _), field in zip(asked, fields)])
-    return [(name, " ".join(by_model(field)), " ".join(by_program)) for (name, by_model, _, _), field, by_program in zip(asked, fields, answers)]
 
 
 def checked_together(options: argparse.Namespace) -> tuple[list[Checked], Rows | None]:
@@ -70,7 +28,8 @@ def checked_together(options: argparse.Namespace) -> tuple[list[Checked], Rows |
         raise setting.Usage(f"no lint is called {text.listed(sorted(unknown))}; `policy lints` lists them")
     lints.Lints(documents, rows, off).run()
     if options.root is not None and all(one.is_sound for one in documents):
-        setting.check_root(setting.Setting(documents, setting.root_of(options.root, documents), None), documents[0].remarks)
+        setting.check_root(setting.Setting(documents, setting.root_of(options.root, documents), None),
+                           documents[0].remarks)
     return documents, rows
 
 
@@ -87,22 +46,8 @@ def check(options: argparse.Namespace) -> int:
         print_summary(documents, rows, every, found)
     if not all_agree(pairs):
         return DISAGREE
-    return FAULTS if any(remark.level == "fault" or options.strict and remark.level == "warning" for remark in every) else FINE
-
-
-def print_summary(documents: list[Checked], rows: Rows | None, every: list[Remark], found: program.Program | None) -> None:
-    """What became of each file, and how much was remarked."""
-    for one in documents:
-        named = f"{setting.KIND_NAMES[one.document.kind]} {one.document.name} {one.document.version or '?'}" if one.document else "no document"
-        verdict = text.painted("taken", "green") if one.is_sound else text.painted(f"refused, {one.code}", "red")
-        print(text.wrapped(f"{one.source.path}: {named}", "", "    ") + f": {verdict}")
-    if rows is not None:
-        print(f"{rows.source.path}: {text.counted(len(rows.rows), 'row')}: "
-              + (f"refused, {rows.code}" if rows.code else "taken"))
-    counts = [text.counted(sum(remark.level == level for remark in every), level) for level in ("fault", "warning", "note")]
-    print(", ".join(counts)
-          + ("; the proved program says the same." if found and not found.warning else "."
-             if found is None else "; the program says the same."))
+    return FAULTS if any(remark.level == "fault" or options.strict and remark.level == "warning"
+                         for remark in every) else FINE
 
 
 # ask and explain
@@ -173,7 +118,8 @@ def print_asked(options: argparse.Namespace, answer: ask.Answer, moment: int, re
         print(f'400 Bad Request: {{"Error":"{answer.body[1:]}"}}')
         return
     print(laid_out.shown(answer.results()))
-    print(f"\nat {setting.moment_shown(moment)}, by " + ("the model alone" if answer.by_program is None else "model and program")
+    print(f"\nat {setting.moment_shown(moment)}, by "
+          + ("the model alone" if answer.by_program is None else "model and program")
           + "; the server writes:")
     print(answer.body)
 
@@ -192,7 +138,8 @@ def print_explained(options: argparse.Namespace, answer: ask.Answer, shown: list
         print(f'400 Bad Request: {{"Error":"{answer.body[1:]}"}}')
     elif shown is None:
         print(laid_out.shown(answer.results()))
-        print("    because: the request as a whole isn't decided: it is no request of the profile, asks for a combined decision, or for more than 64")
+        print("    because: the request as a whole isn't decided: it is no request of the profile, "
+              "asks for a combined decision, or for more than 64")
     else:
         print(explained.shown(shown))
         print(f"\nat {setting.moment_shown(moment)}, by "
@@ -207,9 +154,11 @@ def add_question(parser: argparse.ArgumentParser) -> None:
     parser.add_argument("--policy", nargs="+", required=True, metavar="FILE",
                         help="policy documents, all active; a folder stands for its documents")
     parser.add_argument("--root", metavar="ID",
-                        help="the id of the document where a decision begins; may be left out where there is one document")
+                        help="the id of the document where a decision begins; "
+                             "may be left out where there is one document")
     parser.add_argument("--rows", metavar="ROWS", help='source rows, {"Row":[..]}')
-    parser.add_argument("--request", required=True, metavar="REQUEST", help='the request, {"Request":{..}}; - for standard input')
+    parser.add_argument("--request", required=True, metavar="REQUEST",
+                        help='the request, {"Request":{..}}; - for standard input')
     parser.add_argument("--at", metavar="TIME",
                         help="a dateTime, as 2026-11-23T10:00:00Z, or seconds since 1970; now where it is left out")
 
@@ -220,7 +169,8 @@ def add_check(parser: argparse.ArgumentParser) -> None:
                         help="policy documents, which are active together; a folder stands for its documents")
     parser.add_argument("--rows", metavar="ROWS", help='source rows, {"Row":[..]}, checked too')
     parser.add_argument("--root", metavar="ID", help="the id of the document where decisions begin")
-    parser.add_argument("--off", action="append", default=[], metavar="LINT", help="switches a lint off (see `policy lints`)")
+    parser.add_argument("--off", action="append", default=[], metavar="LINT",
+                        help="switches a lint off (see `policy lints`)")
     parser.add_argument("--strict", action="store_true", help="ends with status 1 for warnings too")
     parser.add_argument("--json", action="store_true", help="writes the remarks as JSON")
 
@@ -235,7 +185,8 @@ def add_test(parser: argparse.ArgumentParser) -> None:
 
 def add_diff(parser: argparse.ArgumentParser) -> None:
     """The options of `diff`."""
-    parser.add_argument("old", nargs="?", metavar="OLD", help="a document, or a folder of documents; with --live the domain's folder")
+    parser.add_argument("old", nargs="?", metavar="OLD",
+                        help="a document, or a folder of documents; with --live the domain's folder")
     parser.add_argument("new", nargs="?", metavar="NEW", help="a document, or a folder of documents")
     parser.add_argument("--requests", metavar="FILE", help="an array of requests, a request, or a file of cases")
     parser.add_argument("--random", type=int, default=0, metavar="N",
@@ -249,15 +200,17 @@ def add_diff(parser: argparse.ArgumentParser) -> None:
 
 def parser() -> argparse.ArgumentParser:
     """The words of the command, with their options."""
-    from . import deploy, deploy_words  # which stand on this module
     whole = argparse.ArgumentParser(prog="policy",
-                                    description="A policy author's desk: what is wrong with a policy, what it decides, and why.",
-                                    epilog="Exit status: 0 fine, 1 faults or failed cases, 2 usage, 3 model and program disagree, "
+                                    description="A policy author's desk: what is wrong with a policy, "
+                                                "what it decides, and why.",
+                                    epilog="Exit status: 0 fine, 1 faults or failed cases, 2 usage, "
+                                           "3 model and program disagree, "
                                            "4 the server refuses or is away.")
     words = whole.add_subparsers(dest="word", required=True, metavar="WORD")
     asks = argparse.ArgumentParser(add_help=False)
     asks.add_argument("--program", default="", metavar="PATH",
-                      help="the program that is asked: a path, `try` for the unproved one by `rt try`, `none` for the model alone")
+                      help="the program that is asked: a path, `try` for the unproved one by `rt try`, "
+                           "`none` for the model alone")
     asks.add_argument("--build", action="store_true",
                       help="proves and builds the program first, where it isn't built of these sources")
 

@@ -19,8 +19,8 @@ from .importing import imported
 from .model import rows, versions
 from .program import Program
 from .setting import Usage
+from .verdicts import FAULTS, FINE
 
-FINE, FAULTS = 0, 1
 FILE = re.compile(r"(.+?)(Policy|Request|Response)(.*)\.xml")
 COLOURS = {"pass": "green", "differs": "red", "out of scope": "yellow", "unread": "red"}
 

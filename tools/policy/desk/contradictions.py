@@ -1,4 +1,5 @@
-"""Targets that can never match, where each attribute has one value: contradicting matches, and literals that nothing fits."""
+"""Targets that can never match, where each attribute has one value: contradicting matches, and
+literals that nothing fits."""
 from __future__ import annotations
 
 import itertools
@@ -42,7 +43,8 @@ def is_hopeless(match: Match) -> bool:
         return True
     if data_type == "integer" and held == 2**63 - 1 and verb(match) == "less-than":
         return True
-    return match.designator.data_type == "boolean" and not any(holds(match, ("boolean", value)) for value in (True, False))
+    return (match.designator.data_type == "boolean"
+            and not any(holds(match, ("boolean", value)) for value in (True, False)))
 
 
 def empty_range(matches: list[Match]) -> tuple[Match, Match] | None:
@@ -119,14 +121,16 @@ class TargetLints:
         pairs = [contradiction(way) for way in own or []]
         if own and all(pairs):
             self.warn(held.node,
-                      f"This target can't match while {attribute_of(pairs[0])} has one value: {said(pairs[0][0])} and {said(pairs[0][1])} contradict each other.")
+                      f"This target can't match while {attribute_of(pairs[0])} has one value: "
+                      f"{said(pairs[0][0])} and {said(pairs[0][1])} contradict each other.")
             return
         both = ways([*around, held]) if around else None
         pairs = [contradiction(way) for way in both or []]
         if both and all(pairs):
             lines = " and ".join(str(target.node.place.line) for target in around)
             self.warn(held.node,
-                      f"Inside the target of line {lines} this one can't match while {attribute_of(pairs[0])} has one value: {said(pairs[0][0])} and {said(pairs[0][1])} contradict "
+                      f"Inside the target of line {lines} this one can't match while {attribute_of(pairs[0])} has one "
+                      f"value: {said(pairs[0][0])} and {said(pairs[0][1])} contradict "
                                  "each other.")
 
     def alternative(self, held: AllOf) -> bool:
@@ -135,12 +139,14 @@ class TargetLints:
         hopeless = next((match for match in matches if is_hopeless(match)), None)
         if hopeless is not None:
             self.warn(hopeless.node,
-                      f"Nothing passes {said(hopeless)}: the literal is the first argument, and the attribute's value the second.")
+                      f"Nothing passes {said(hopeless)}: the literal is the first argument, "
+                      "and the attribute's value the second.")
             return True
         found = contradiction(matches)
         if found:
             self.warn(held.node,
-                      f"This can't match while {attribute_of(found)} has one value: {said(found[0])} and {said(found[1])} contradict each other.")
+                      f"This can't match while {attribute_of(found)} has one value: "
+                      f"{said(found[0])} and {said(found[1])} contradict each other.")
         return found is not None
 
 

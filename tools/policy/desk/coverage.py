@@ -8,7 +8,8 @@ from .positions import Node
 from .setting import KIND_NAMES, Setting
 from .text import wrapped
 
-BOTH = {"rule": ("applies", "doesn't apply"), "target": ("matches", "doesn't match"), "condition": ("is true", "is false")}
+BOTH = {"rule": ("applies", "doesn't apply"), "target": ("matches", "doesn't match"),
+        "condition": ("is true", "is false")}
 
 
 @dataclass(frozen=True)
@@ -84,7 +85,7 @@ class Coverage:
             missing = [words for words, way in zip(BOTH[point.kind], (True, False)) if way not in ways]
             if missing:
                 what = f"rule {point.name}" if point.kind == "rule" else f"{point.kind} of {point.name}"
-                lines.append(wrapped(f"{point.file}:{point.line}: {what}: no case where it {' or where it '.join(missing)}", "",
-                                     "    "))
+                lines.append(wrapped(
+                    f"{point.file}:{point.line}: {what}: no case where it {' or where it '.join(missing)}", "", "    "))
         covered = sum(len(ways) == 2 for ways in self.points.values())
         return "\n".join([*lines, f"{covered} of {len(self.points)} rules, targets and conditions reached both ways"])

@@ -7,7 +7,7 @@ import json
 import sys
 from collections.abc import Callable
 
-from . import cases, cli, coverage, diff, lints, pull, records, setting, text, together
+from . import cases, coverage, diff, lints, pull, records, setting, text, together
 from .changes import Action, Changes, Target, changes_of
 from .check import checked_rows
 from .deploying import Deployment
@@ -15,9 +15,11 @@ from .deploy_shown import print_changes, print_domain, print_mixed
 from .domain import Domain, DomainCases, domain_of
 from .live import Live, key_shown, live_of, rows_body
 from .program import Program
+from .verdicts import (
+    DISAGREE, FAULTS, FINE, all_agree, check_pairs, chosen_program, print_remarks, print_summary)
 from .wire import Client, ServerFault, is_readable_underway, token_of
 
-FINE, FAULTS, NOT_DONE = 0, 1, 4
+NOT_DONE = 4
 
 
 def client_of(options: argparse.Namespace, server: str, name: str) -> Client:
@@ -53,7 +55,7 @@ def read_domain(folder: str) -> Domain | None:
         together.Together(found.documents).doubles()
         faults = found.faults()
     if faults:
-        cli.print_remarks(faults)
+        print_remarks(faults)
         print(text.counted(len(faults), "fault") + ".")
         return None
     return found
@@ -70,11 +72,11 @@ def is_checked(domain: Domain, options: argparse.Namespace, found: Program | Non
         setting.check_root(domain.setting(), domain.documents[0].remarks)
     every = [remark for one in domain.documents
              for remark in one.remarks.found] + (domain.rows.remarks.found if domain.rows else [])
-    cli.print_remarks([remark for remark in every if remark.level != "note"])
-    cli.print_summary(domain.documents, domain.rows, every, found)
+    print_remarks([remark for remark in every if remark.level != "note"])
+    print_summary(domain.documents, domain.rows, every, found)
     is_fine = not any(remark.level == "fault" or options.strict and remark.level == "warning"
                       for remark in every)
-    return is_fine, cli.all_agree(cli.check_pairs(domain.documents, domain.rows, found))
+    return is_fine, all_agree(check_pairs(domain.documents, domain.rows, found))
 
 
 def is_tested(domain: Domain, found: Program | None) -> tuple[bool, bool]:
@@ -85,7 +87,7 @@ def is_tested(domain: Domain, found: Program | None) -> tuple[bool, bool]:
         suite = reader.suite()
         if suite is None:
             is_fine = False
-            cli.print_remarks(reader.remarks.faults())
+            print_remarks(reader.remarks.faults())
             continue
         agree = cases.run_suite(suite, found, coverage.Coverage()) and agree
         for one in suite.outcomes:
@@ -101,7 +103,7 @@ def before(domain: Domain, options: argparse.Namespace, found: Program | None) -
     """Checks and tests; the exit status."""
     is_fine, agree = is_checked(domain, options, found)
     is_right, agrees = is_tested(domain, found) if is_fine else (False, True)
-    return cli.DISAGREE if not (agree and agrees) else FINE if is_right else FAULTS
+    return DISAGREE if not (agree and agrees) else FINE if is_right else FAULTS
 
 
 def answers_change(changes: Changes, options: argparse.Namespace, found: Program | None) -> int:
@@ -168,7 +170,7 @@ def live_diff(options: argparse.Namespace) -> int:
             print("Nothing is to be done.")
     if changes.clashes():
         return FAULTS
-    found = cli.chosen_program(options) if options.requests or options.random else None
+    found = chosen_program(options) if options.requests or options.random else None
     with beside(options):
         answered = answers_change(changes, options, found)
     return answered or (FAULTS if options.strict and not changes.is_nothing() else FINE)
@@ -181,7 +183,7 @@ def deploy(options: argparse.Namespace) -> int:
         domain = read_domain(options.folder)
         if domain is None:
             return FAULTS
-        client, found = client_of(options, domain.server, domain.name), cli.chosen_program(options)
+        client, found = client_of(options, domain.server, domain.name), chosen_program(options)
         came_to = before(domain, options, found)
         if came_to != FINE:
             print("Nothing is deployed.")
@@ -197,7 +199,7 @@ def rollback(options: argparse.Namespace) -> int:
         domain = read_domain(options.folder)
         if domain is None:
             return FAULTS
-        client, found = client_of(options, domain.server, domain.name), cli.chosen_program(options)
+        client, found = client_of(options, domain.server, domain.name), chosen_program(options)
     live = live_of(client)
     held = records.Records(live)
     number = to_which(held, options.to)
@@ -267,7 +269,7 @@ def carried_out(client: Client, changes: Changes, options: argparse.Namespace, f
             changes.room(draft)
             print_mixed(changes, actions)
         answered = answers_change(changes, options, found)
-    if answered == cli.DISAGREE:
+    if answered == DISAGREE:
         return answered
     return finished(client, changes, draft, actions, options)
 

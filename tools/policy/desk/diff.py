@@ -52,7 +52,8 @@ def told(held: bytes) -> str:
     """The attributes of a request in a few words."""
     try:
         asked = json.loads(held)["Request"]
-        return ", ".join(f"{names.category_shown(one['CategoryId'])} {names.attribute_shown(attribute['AttributeId'])} {laid_out.value_shown(attribute['Value'])}"
+        return ", ".join(f"{names.category_shown(one['CategoryId'])} {names.attribute_shown(attribute['AttributeId'])} "
+                         f"{laid_out.value_shown(attribute['Value'])}"
                          for one in asked["Category"] for attribute in one["Attribute"])
     except (ValueError, KeyError, TypeError):
         return ""
@@ -60,7 +61,8 @@ def told(held: bytes) -> str:
 
 def because(explained: list[dict] | None) -> list[str]:
     """Why each result is what it is, and by what it was settled down to the rule."""
-    return [" / ".join(chain(result["tree"])) if "tree" in result else result.get("because", "") for result in explained or []]
+    return [" / ".join(chain(result["tree"])) if "tree" in result else result.get("because", "")
+            for result in explained or []]
 
 
 def chain(part: dict) -> list[str]:
@@ -85,7 +87,8 @@ def in_words(answer: ask.Answer) -> str:
     return "; ".join(found)
 
 
-def print_change(request: Request, old: setting.Setting, new: setting.Setting, before: ask.Answer, after: ask.Answer) -> None:
+def print_change(request: Request, old: setting.Setting, new: setting.Setting, before: ask.Answer,
+                 after: ask.Answer) -> None:
     """A request whose answer changes, with both answers and what settled them."""
     print(text.painted(request.name, "bold") + f" at {setting.moment_shown(request.moment)}")
     words = told(request.held)
@@ -116,8 +119,10 @@ def run(old: setting.Setting, new: setting.Setting, options: argparse.Namespace,
         print(f"and {len(changed) - MOST_SHOWN} more\n")
     print(f"{len(changed)} of {text.counted(len(asked), 'answer')} change, by "
           + ("the model alone" if program is None else "model and program"))
-    disagreeing = [asked[place].name for place in range(len(asked)) if not (before[place].agrees and after[place].agrees)]
+    disagreeing = [asked[place].name
+                   for place in range(len(asked)) if not (before[place].agrees and after[place].agrees)]
     if disagreeing:
-        text.loud(f"MODEL AND PROGRAM DISAGREE on {text.listed(disagreeing[:5], 'and')}. One of them is wrong: please report this with the files.")
+        text.loud(f"MODEL AND PROGRAM DISAGREE on {text.listed(disagreeing[:5], 'and')}. One of them is wrong: "
+                  "please report this with the files.")
         return 3
     return 1 if changed and options.strict else 0

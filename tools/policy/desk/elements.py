@@ -32,7 +32,8 @@ class Literal:
 
 @dataclass
 class Expression:
-    """An expression of one of the forms value, designator, apply, function and variable; `name` is a function's or a variable's."""
+    """An expression of one of the forms value, designator, apply, function and variable; `name` is a
+    function's or a variable's."""
     form: str
     node: Node
     name: str | None = None

@@ -18,8 +18,8 @@ from .importing import imported
 from .model import documents, rows, versions
 from .program import Program
 from .setting import Usage
+from .verdicts import FAULTS, FINE, chosen_program
 
-FINE, FAULTS = 0, 1
 # the members in which others stand, in the order of the notation
 SAID_IN = ("Policy", "PolicySet", "VariableDefinition", "Rule", "Condition", "Children",
            "ObligationExpressions", "AdviceExpressions",
@@ -160,12 +160,6 @@ def sayings(held: object) -> list:
     return own + [found for name in SAID_IN if name in held for found in sayings(held[name])]
 
 
-def chosen_program(options: argparse.Namespace) -> Program | None:
-    """The program that is asked; what isn't sure about it is said."""
-    from . import cli
-    return cli.chosen_program(options)
-
-
 def conformance_run(options: argparse.Namespace) -> int:
     """Answers `conformance`."""
     return conformance.run(options.folders, setting.moment_of(options.at), chosen_program(options),
@@ -210,6 +204,7 @@ def add_conformance(parser: argparse.ArgumentParser) -> None:
 def add_words(word: Callable[..., argparse.ArgumentParser]) -> None:
     """Adds the words to the command."""
     word("import", "makes documents of XACML in XML or of ALFA, or requests of XML", import_run, add_import)
-    add_files("policy documents; a folder stands for its documents")(word("export", "makes XACML 3.0 in XML of documents", export_run, None))
+    of_documents = add_files("policy documents; a folder stands for its documents")
+    of_documents(word("export", "makes XACML 3.0 in XML of documents", export_run, None))
     word("conformance", "runs test cases of policy, request and response in XML", conformance_run,
          add_conformance)

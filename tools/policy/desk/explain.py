@@ -1,4 +1,5 @@
-"""How a decision comes about: the tree with each target, condition and rule, what settled it, and where its status and duties came from.
+"""How a decision comes about: the tree with each target, condition and rule, what settled it, and where its
+status and duties came from.
 
 What each part comes to is the model's own reckoning, part by part from the leaves up.
 """
@@ -13,7 +14,8 @@ from .tracing import Origins, Tracing, fault_shown, target_traced, traced, value
 LETTERS = {"{P}": "Indeterminate{P}", "{D}": "Indeterminate{D}", "{DP}": "Indeterminate{DP}"}
 NAMES_OF_FORMS = {"Policy": KIND_NAMES["policy"], "PolicySet": KIND_NAMES["set"]}
 SETTLES = {
-    "deny-overrides": "a Deny decides whatever else there is", "permit-overrides": "a Permit decides whatever else there is",
+    "deny-overrides": "a Deny decides whatever else there is",
+    "permit-overrides": "a Permit decides whatever else there is",
     "deny-unless-permit": "what isn't permitted is denied", "permit-unless-deny": "what isn't denied is permitted",
     "first-applicable": "the first that applies decides", "only-one-applicable": "exactly one may apply",
 }
@@ -92,11 +94,13 @@ class Explainer:
         place = versions.resolved(held, active)
         if place is None:
             return {**found,
-                    "because": "it leads nowhere: " + no_document(held, [one.document for one in self.setting.documents])[0]}
+                    "because": "it leads nowhere: "
+                    + no_document(held, [one.document for one in self.setting.documents])[0]}
         kind, name, version = active[place]
         if (kind, name, ".".join(map(str, version))) in path:
             return {**found, "because": f"it is circular: {name} is on the way here already"}
-        return {**found, "because": f"more than {linking.MOST_ON_A_PATH} documents refer to one another on the way here"}
+        return {**found,
+                "because": f"more than {linking.MOST_ON_A_PATH} documents refer to one another on the way here"}
 
     def rule(self, tracing: Tracing, rule, element: Rule) -> tuple[dict[str, object], policies.Evaluated]:
         """What a rule comes to, and how."""
@@ -128,19 +132,23 @@ class Explainer:
         self.duties(found, tracing, rule.duties, element.duties, rule.effect)
         return found
 
-    def combined(self, found: dict, algorithm: str, target: expressions.Matching, children: list[policies.Evaluated]) -> None:
+    def combined(self, found: dict, algorithm: str, target: expressions.Matching,
+                 children: list[policies.Evaluated]) -> None:
         """Notes what the algorithm makes of the children, which of them settle it, and where the status comes from."""
         decision, _, evaluated = policies.combined(algorithm, children)
         for shown, child in zip(found["children"], children):
-            if child.decision == decision and (child.obligations or child.advice) and not any(child is one for one in evaluated):
-                shown["not_gathered"] = "its obligations and advice are not gathered: the one that settled it stands before it"
+            if (child.decision == decision and (child.obligations or child.advice)
+                and not any(child is one for one in evaluated)):
+                shown["not_gathered"] = ("its obligations and advice are not gathered: "
+                                         "the one that settled it stands before it")
         settling = settling_children(algorithm, children)
         found["combined"] = decision
         found["settled_by"] = [label(found["children"][place]) for place in settling]
         found["because"] = because(algorithm, decision, [found["children"][place] for place in settling], children)
         if target.word == "Indeterminate":
             found["combined"] = policies.INDETERMINATE.get(decision, decision)
-            found["because"] += f"; the target is Indeterminate, so {decision_shown(decision)} is {decision_shown(found['combined'])}"
+            found["because"] += ("; the target is Indeterminate, "
+                                 f"so {decision_shown(decision)} is {decision_shown(found['combined'])}")
             found["status_from"] = "the target"
         elif policies.is_indeterminate(decision):
             found["status_from"] = self.status_source(algorithm, found["children"], children)
@@ -150,7 +158,8 @@ class Explainer:
         if algorithm == "only-one-applicable":
             end = combining.ending([child.target.word for child in children])
             if end is not None:
-                return f"the target of {label(shown[end])}" if children[end].target.status else f"{label(shown[end])}, the second that applies"
+                return (f"the target of {label(shown[end])}"
+                        if children[end].target.status else f"{label(shown[end])}, the second that applies")
         place = next((place for place, child in enumerate(children) if policies.is_indeterminate(child.decision)), None)
         return f"{label(shown[place])}, the first that is Indeterminate" if place is not None else "the algorithm"
 
@@ -168,13 +177,15 @@ class Explainer:
                                  []).append({word: duty.id, "line": element.node.place.line,
                                              "assignments": assignments_shown(given.assignments)})
             except values.Fault as fault:
-                found["because"] += f"; but the {word} {duty.id} has no value ({fault_shown(fault)}), so {decision} is {decision_shown(policies.INDETERMINATE[decision])}"
+                found["because"] += (f"; but the {word} {duty.id} has no value ({fault_shown(fault)}), "
+                                     f"so {decision} is {decision_shown(policies.INDETERMINATE[decision])}")
                 found["status_from"] = f"the {word} {duty.id} in line {element.node.place.line}"
                 return
 
     def gathered(self, evaluated: policies.Evaluated) -> dict[str, object]:
         """The obligations and advice with which the element is returned."""
-        found = {"obligations": [duty.id for duty in evaluated.obligations], "advice": [duty.id for duty in evaluated.advice]}
+        found = {"obligations": [duty.id for duty in evaluated.obligations],
+                 "advice": [duty.id for duty in evaluated.advice]}
         return {name: held for name, held in found.items() if held}
 
 
@@ -220,8 +231,8 @@ def because(algorithm: str, decision: str, settling: list[dict], children: list[
     if not children:
         return f"{algorithm}: there are no children"
     if not settling:
-        none = "none of them applies" if all(child.decision == "NotApplicable"
-                                             for child in children) else f"none of them changes {decision_shown(decision)}"
+        none = ("none of them applies" if all(child.decision == "NotApplicable" for child in children)
+                else f"none of them changes {decision_shown(decision)}")
         return f"{algorithm} ({rule}): {none}"
     found = " and ".join(f"{label(one)} is {one['decision']}"
                          for one in settling[:3]) + (" and more" if len(settling) > 3 else "")
@@ -229,9 +240,11 @@ def because(algorithm: str, decision: str, settling: list[dict], children: list[
 
 
 def individuals(held: bytes) -> list[tuple[list | None, str]] | None:
-    """The Category objects of each individual request, or None for one that refers to what isn't there, with what tells it from the others.
+    """The Category objects of each individual request, or None for one that refers to what isn't there, with what
+    tells it from the others.
 
-    None where the request as a whole gets one result: it is none of the profile, asks for a combined decision, or for too many.
+    None where the request as a whole gets one result: it is none of the profile, asks for a combined
+    decision, or for too many.
     """
     try:
         (combined, _), found, named = requests.request_of(held)
@@ -255,7 +268,8 @@ def told(found: list, places: list[int]) -> str:
 
 
 def explained(setting: Setting, held: bytes, moment: int) -> list[dict[str, object]] | None:
-    """To each individual request the tree, and how it comes to its decision; None where the request as a whole gets one result or none."""
+    """To each individual request the tree, and how it comes to its decision; None where the request as a whole gets
+    one result or none."""
     asked, found, tree = individuals(held), [], setting.tree()
     if asked is None:
         return None

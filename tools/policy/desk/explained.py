@@ -3,19 +3,22 @@ from __future__ import annotations
 
 from .text import decided, labelled, painted, wrapped
 
-MARKS = {"Match": ("matches", "green"), "NoMatch": ("doesn't match", "yellow"), "Indeterminate": ("Indeterminate", "red")}
+MARKS = {"Match": ("matches", "green"), "NoMatch": ("doesn't match", "yellow"),
+         "Indeterminate": ("Indeterminate", "red")}
 FROM = {"request": "from the request", "clock": "from the clock", "nowhere": "found nowhere"}
 
 
 def line(depth: int, text: str, *styles: str) -> str:
     """A line of the text, indented."""
     indent = "  " * depth
-    return painted(wrapped(text, indent, indent + "    "), *styles) if styles else wrapped(text, indent, indent + "    ")
+    return (painted(wrapped(text, indent, indent + "    "), *styles)
+            if styles else wrapped(text, indent, indent + "    "))
 
 
 def found_shown(found: dict) -> str:
     """`"doctor" from the rows of "alice"`."""
-    values = ", ".join(found["values"]) + (f" and {found['count'] - len(found['values'])} more" if "count" in found else "")
+    values = (", ".join(found["values"])
+              + (f" and {found['count'] - len(found['values'])} more" if "count" in found else ""))
     source = FROM.get(found["from"]) or "from the rows" + (f' of "{found["entity"]}"' if "entity" in found else "")
     return f"{values} {source}" if found["values"] else source
 
@@ -35,7 +38,8 @@ def match_shown(match: dict, depth: int) -> list[str]:
     """A match: whether it is true, and with what."""
     because = f"; {match['because']}" if "because" in match else ""
     verdict = {"Match": "true", "NoMatch": "false", "Indeterminate": "Indeterminate"}[match["is"]]
-    text = f"{verdict}: {match['match']} with {match['attribute']}: {found_shown(match)}{because} (line {match['line']})"
+    text = (f"{verdict}: {match['match']} with {match['attribute']}: "
+            f"{found_shown(match)}{because} (line {match['line']})")
     return [line(depth, text)] + near_shown(match, depth + 2)
 
 
@@ -121,7 +125,8 @@ def shown(results: list[dict]) -> str:
             lines += ["", painted(f"Result {number} of {len(results)}{name}", "bold")]
         if "tree" in result:
             lines += part_shown(result["tree"])
-            lines += [line(0, f"named, where ReturnPolicyIdList asks for it: {', '.join(result['names'])}")] if "names" in result else []
+            lines += ([line(0, f"named, where ReturnPolicyIdList asks for it: {', '.join(result['names'])}")]
+                      if "names" in result else [])
         else:
             lines += [f"{decided(result['decision'])}, {result['status']}", labelled("because", result["because"])]
     return "\n".join(lines).strip("\n")

@@ -10,7 +10,8 @@ MOST_SHOWN = 60
 
 @dataclass
 class Remark:
-    """What is said of a place: a fault with the server's code, or a warning or a note with a name by which it is switched off."""
+    """What is said of a place: a fault with the server's code, or a warning or a note with a name by which
+    it is switched off."""
     level: str
     code: str
     source: Source
@@ -54,8 +55,8 @@ class Remarks:
 
     def slip(self, source: Source, slip: Slip) -> None:
         """Says that the text is no JSON at a place."""
-        self.found.append(Remark("fault", "NotJson", source, slip.start, slip.end, slip.pointer, slip.advice, slip.expected,
-                                 slip.found))
+        self.found.append(Remark("fault", "NotJson", source, slip.start, slip.end, slip.pointer, slip.advice,
+                                 slip.expected, slip.found))
 
     def warning(self, name: str, node: Node, sentence: str, **more: str) -> None:
         """Warns of a value, under a name."""

@@ -26,7 +26,8 @@ def shown(path: pathlib.Path) -> str:
 
 
 def is_document(path: pathlib.Path) -> bool:
-    """Whether a file of a folder is meant as a policy document: its one member is Policy or PolicySet, or it has an id of one."""
+    """Whether a file of a folder is meant as a policy document: its one member is Policy or PolicySet, or
+    it has an id of one."""
     text = held(path)
     node, slips = read(Source(str(path), text))
     if node is None or slips:

@@ -9,7 +9,6 @@ from .model import identifiers
 from .xml_reading import Attribute, Element
 from .xml_tables import VERSION_3
 
-SECTIONS = ("Subject", "Resource", "Action", "Environment")
 CATEGORIES = {"Resource": identifiers.SHORTHANDS["Resource"], "Action": identifiers.SHORTHANDS["Action"],
               "Environment": identifiers.SHORTHANDS["Environment"],
               "Subject": identifiers.SHORTHANDS["AccessSubject"]}

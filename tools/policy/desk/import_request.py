@@ -18,7 +18,8 @@ MOST_BYTES = 524_288
 XML_ID = f"{{{xml_reading.XML_NAMESPACE}}}id"
 COMBINED = ("The server doesn't combine decisions: it answers this request as a whole with Indeterminate, "
             "processing-error.")
-POLICY_IDS = ("The server names policies by a rule of its own: those that decide Permit or Deny, up to the one that ends "
+POLICY_IDS = ("The server names policies by a rule of its own: those that decide Permit or Deny, "
+              "up to the one that ends "
               "their set.")
 
 

@@ -1,6 +1,7 @@
 """The type check of policy documents: all its faults, in the order in which the server looks for them.
 
-A kind is a type's name, of a bag with `bag ` before it, and None where a fault leaves it unknown; what rests on an unknown kind is no fault.
+A kind is a type's name, of a bag with `bag ` before it, and None where a fault leaves it unknown; what rests on an
+unknown kind is no fault.
 """
 from __future__ import annotations
 
@@ -89,7 +90,8 @@ class Kinds:
             return self.variable(held)
         if held.form == "function":
             self.ill_typed("WrongType", held.node,
-                           "A Function stands only first in an Apply of any-of, all-of, any-of-any, map, all-of-any or all-of-all.",
+                           "A Function stands only first in an Apply of any-of, all-of, any-of-any, map, "
+                           "all-of-any or all-of-all.",
                            expected="a value or a bag", found="a Function")
             return None
         return self.apply(held, depth)
@@ -98,7 +100,8 @@ class Kinds:
         """Whether the expression stands inside too many; it is remarked."""
         if depth > expressions.MAX_DEPTH:
             self.ill_typed("TooDeep", held.node,
-                           f"At most {expressions.MAX_DEPTH} expressions stand inside one another: give a part a name by a VariableDefinition.",
+                           f"At most {expressions.MAX_DEPTH} expressions stand inside one another: "
+                           "give a part a name by a VariableDefinition.",
                            expected=f"at most {expressions.MAX_DEPTH}", found=f"the {depth}th")
         return depth > expressions.MAX_DEPTH
 
@@ -108,11 +111,14 @@ class Kinds:
             return self.variables.get(held.name)
         nearest = names.nearest(held.name, self.variables)
         if held.name in self.later:
-            sentence = f'The variable "{held.name}" is defined only in line {self.later[held.name]}: a definition may refer to those before it alone.'
+            sentence = (f'The variable "{held.name}" is defined only in line {self.later[held.name]}: '
+                        'a definition may refer to those before it alone.')
         else:
-            sentence = f'No variable "{held.name}" is defined in this policy.' + (f' Did you mean "{nearest}"?' if nearest else "")
+            sentence = (f'No variable "{held.name}" is defined in this policy.'
+                        + (f' Did you mean "{nearest}"?' if nearest else ""))
         self.ill_typed("UnknownVariable", held.node, sentence,
-                       expected=f"one of {listed(list(self.variables))}" if self.variables else "no variable", found=held.name,
+                       expected=f"one of {listed(list(self.variables))}" if self.variables else "no variable",
+                       found=held.name,
                        nearest=nearest)
         return None
 
@@ -129,7 +135,8 @@ class Kinds:
         takes, gives = known
         if not functions.takes_so_many(takes, len(kinds)):
             self.ill_typed("WrongCount", held.node,
-                           f'"{names.short(held.name)}" takes {takes_shown(takes)}, and has {counted(len(kinds), "argument")} here.',
+                           f'"{names.short(held.name)}" takes {takes_shown(takes)}, '
+                           f'and has {counted(len(kinds), "argument")} here.',
                            expected=takes_shown(takes), found=counted(len(kinds), "argument"))
         else:
             self.fit(held, takes, kinds)
@@ -138,8 +145,8 @@ class Kinds:
     def unknown_function(self, held: Expression, known=None) -> None:
         """Remarks a function that isn't there, with the nearest that is."""
         sentence, nearest = names.unknown_function(held.name, known)
-        self.ill_typed("UnknownFunction", held.node.at("FunctionId") or held.node, sentence, expected="the name of a function",
-                       found=held.name, nearest=nearest)
+        self.ill_typed("UnknownFunction", held.node.at("FunctionId") or held.node, sentence,
+                       expected="the name of a function", found=held.name, nearest=nearest)
 
     def fit(self, held: Expression, takes: list[str], kinds: list[str | None], first: int = 0) -> None:
         """Remarks each argument that doesn't fit."""
@@ -148,7 +155,8 @@ class Kinds:
         for place in wrong:
             wanted, found = wanted_at(takes, place), kinds[place]
             way = f"write {better}" if better else way_from(found, wanted)
-            sentence = f'Argument {place + 1} of "{names.short(held.name)}" is {names.kind_shown(wanted)}, and this is {names.kind_shown(found)}'
+            sentence = (f'Argument {place + 1} of "{names.short(held.name)}" is {names.kind_shown(wanted)}, '
+                        f'and this is {names.kind_shown(found)}')
             self.ill_typed("WrongType", held.arguments[place + first].node, sentence + (f"; {way}." if way else "."),
                            expected=names.kind_shown(wanted),
                            found=names.kind_shown(found) + (f"; {way}" if way else ""), nearest=better)
@@ -170,14 +178,16 @@ class Kinds:
         if len(kinds) != 2 if verb in PAIRS else not functions.takes_so_many(takes, len(kinds)):
             count = "two bags" if verb in PAIRS else f"{takes_shown(takes)}, one of them as a bag"
             self.ill_typed("WrongCount", held.node,
-                           f'"{verb}" takes behind this Function {count}, and has {counted(len(kinds), "argument")} there.',
+                           f'"{verb}" takes behind this Function {count}, '
+                           f'and has {counted(len(kinds), "argument")} there.',
                            expected=count,
                            found=counted(len(kinds), "argument"))
         elif None not in kinds:
             self.fit_inner(verb, held, takes, kinds)
         if verb != "map" and gives != "boolean":
             self.ill_typed("WrongType", held.arguments[0].node,
-                           f'"{verb}" asks a function that gives a boolean, and this one gives {names.kind_shown(gives)}.',
+                           f'"{verb}" asks a function that gives a boolean, '
+                           f'and this one gives {names.kind_shown(gives)}.',
                            expected="a function that gives a boolean", found=names.kind_shown(gives))
         return "bag " + gives if verb == "map" else "boolean"
 
@@ -186,7 +196,8 @@ class Kinds:
         if held is None or self.is_too_deep(held, depth):
             return None
         if held.form != "function":
-            self.ill_typed("WrongType", held.node, f'First in "{verb}" stands a Function: {{"Function": {{"FunctionId": ..}}}}.',
+            self.ill_typed("WrongType", held.node,
+                           f'First in "{verb}" stands a Function: {{"Function": {{"FunctionId": ..}}}}.',
                            expected="a Function", found=f"a {held.form}")
             return None
         if held.name is not None and held.name not in functions.FUNCTIONS:
@@ -207,7 +218,8 @@ class Kinds:
         wanted = len(kinds) if verb in PAIRS else 1
         if verb != "any-of-any" and len(bags) != wanted:
             self.ill_typed("WrongType", held.node,
-                           f'"{verb}" takes {"bags alone" if verb in PAIRS else "exactly one bag"} behind the Function, and has {counted(len(bags), "bag")} here.',
+                           f'"{verb}" takes {"bags alone" if verb in PAIRS else "exactly one bag"} behind the '
+                           f'Function, and has {counted(len(bags), "bag")} here.',
                            expected=counted(wanted, "bag"), found=counted(len(bags), "bag"))
 
     # Targets, rules, documents.
@@ -224,11 +236,14 @@ class Kinds:
                            nearest=nearest)
         elif None not in kinds and (known is None or known[1] != "boolean" or not functions.fits(known[0], kinds)):
             better = function_for(held.function, kinds)
-            takes = f'takes {takes_shown(known[0])} and gives {names.kind_shown(known[1])}' if known else "is a higher-order function"
+            takes = (f'takes {takes_shown(known[0])} and gives {names.kind_shown(known[1])}'
+                     if known else "is a higher-order function")
             self.ill_typed("WrongType", node,
-                           f'A match asks a function of the literal\'s and the designator\'s types that gives a boolean; "{names.short(held.function)}" {takes}.'
+                           'A match asks a function of the literal\'s and the designator\'s types that gives a '
+                           f'boolean; "{names.short(held.function)}" {takes}.'
                            + (f" Write {better}." if better else ""),
-                           expected=f"a function of {names.kind_shown(kinds[0])} and {names.kind_shown(kinds[1])} that gives a boolean",
+                           expected=f"a function of {names.kind_shown(kinds[0])} and {names.kind_shown(kinds[1])} that "
+                                    "gives a boolean",
                            found=names.short(held.function), nearest=better)
 
     def target(self, held: Target | None) -> None:
@@ -248,9 +263,11 @@ class Kinds:
         self.target(held.target)
         kind = self.kind(held.condition)
         if kind not in (None, "boolean"):
-            way = "wrap it in boolean-one-and-only" if kind == "bag boolean" else "ask something of it, as an -equal or -is-in does"
+            way = ("wrap it in boolean-one-and-only"
+                   if kind == "bag boolean" else "ask something of it, as an -equal or -is-in does")
             self.ill_typed("WrongType", held.condition.node,
-                           f"A condition is a boolean, and this is {names.kind_shown(kind)}; {way}.", expected="a boolean",
+                           f"A condition is a boolean, and this is {names.kind_shown(kind)}; {way}.",
+                           expected="a boolean",
                            found=f"{names.kind_shown(kind)}; {way}")
         self.duties(held.duties)
 

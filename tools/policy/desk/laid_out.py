@@ -16,8 +16,9 @@ def attribute_line(held: dict) -> str:
     """`urn:example:who = "alice" (string)`."""
     issuer = f" by {held['Issuer']}" if "Issuer" in held else ""
     category = f"{names.category_shown(held['Category'])} " if "Category" in held else ""
-    return wrapped(f"{category}{held['AttributeId']}{issuer} = {value_shown(held['Value'])} ({names.short(held['DataType'])})",
-                   "      ", "          ")
+    return wrapped(
+        f"{category}{held['AttributeId']}{issuer} = {value_shown(held['Value'])} ({names.short(held['DataType'])})",
+        "      ", "          ")
 
 
 def duties_lines(word: str, duties: list[dict]) -> list[str]:
@@ -32,11 +33,13 @@ def duties_lines(word: str, duties: list[dict]) -> list[str]:
 def identifiers_lines(found: dict) -> list[str]:
     """The policies and sets that the result names."""
     return [wrapped(f"{word} {held['Id']} {held['Version']}", "    ", "        ")
-            for word, name in (("policy", "PolicyIdReference"), ("policy set", "PolicySetIdReference")) for held in found.get(name, [])]
+            for word, name in (("policy", "PolicyIdReference"), ("policy set", "PolicySetIdReference"))
+            for held in found.get(name, [])]
 
 
 def result_shown(result: dict) -> str:
-    """A result: its decision, obligations, advice, the policies that it names, and the attributes that the request wants to see again."""
+    """A result: its decision, obligations, advice, the policies that it names, and the attributes that the request
+    wants to see again."""
     status = names.short(result["Status"]["StatusCode"]["Value"])
     lines = [decided(result["Decision"]) + (f"  status {status}" if status != "ok" else "")]
     lines += duties_lines("obligation",

@@ -32,7 +32,8 @@ ELEMENTS = {
                           "Take them out where the algorithm is one of the standard's.",
     "Content": "XML content is left out: nothing of it can be reached by a policy. Give what the policies "
                "ask for as attributes.",
-    "PolicyIdentifierList": "The server names policies by a rule of its own, so a list that is expected isn't compared.",
+    "PolicyIdentifierList": "The server names policies by a rule of its own, "
+                            "so a list that is expected isn't compared.",
 }
 ELEMENTS |= {f"{of}CombinerParameters": ELEMENTS["CombinerParameters"]
              for of in ("Rule", "Policy", "PolicySet")}

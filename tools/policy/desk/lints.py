@@ -84,7 +84,8 @@ class Lints:
         """Warns of members that don't count, since their name stands again."""
         for member in node.repeated():
             remarks.warning("repeated-member", name_node(member),
-                            f'"{member.name}" stands in this object more than once: the last one counts, and this one is ignored.', found=member.name)
+                            f'"{member.name}" stands in this object more than once: the last one counts, '
+                            'and this one is ignored.', found=member.name)
         for inner in [member.node for member in node.members] + (node.value if node.kind == "array" else []):
             self.repeated_members(remarks, inner)
 
@@ -96,16 +97,19 @@ class Lints:
                 continue
             first = seen.setdefault(rule.id, rule)
             if first is not rule:
-                remarks.warning("repeated-rule", rule.node.at("RuleId") or rule.node,
-                                f'The rule of line {first.node.place.line} has the id "{rule.id}" too: nobody can tell them apart.',
-                                expected="another RuleId", found=rule.id)
+                remarks.warning(
+                    "repeated-rule", rule.node.at("RuleId") or rule.node,
+                    f'The rule of line {first.node.place.line} has the id "{rule.id}" too: nobody can tell them apart.',
+                    expected="another RuleId", found=rule.id)
 
     def no_rules(self, remarks: Remarks, held: Document) -> None:
         """Warns of a policy without rules, and of a set without children."""
         if not held.children:
             what, inner = ("policy", "rules") if held.form == "Policy" else ("set", "children")
-            result = {"deny-unless-permit": "Deny", "permit-unless-deny": "Permit"}.get(held.algorithm or "", "NotApplicable")
-            remarks.warning("no-rules", held.node, f"This {what} has no {inner}: where its target matches it is always {result}.",
+            result = {"deny-unless-permit": "Deny",
+                      "permit-unless-deny": "Permit"}.get(held.algorithm or "", "NotApplicable")
+            remarks.warning("no-rules", held.node,
+                            f"This {what} has no {inner}: where its target matches it is always {result}.",
                             expected=inner, found="none")
 
     def deny_rules(self, remarks: Remarks, held: Document) -> None:
@@ -118,8 +122,10 @@ class Lints:
             for designator in found:
                 if designator.must_be_present is False:
                     remarks.warning("may-be-missing", designator.node.at("MustBePresent") or designator.node,
-                                    f'Where {attribute(designator)} is missing, the Deny rule "{rule.id}" is passed over in '
-                                    "silence. With MustBePresent true it is Indeterminate.", expected="true", found="false")
+                                    f'Where {attribute(designator)} is missing, '
+                                    f'the Deny rule "{rule.id}" is passed over in '
+                                    "silence. With MustBePresent true it is Indeterminate.", expected="true",
+                                    found="false")
 
     def unused_variables(self, remarks: Remarks, held: Document) -> None:
         """Warns of variables that nothing names."""
@@ -139,7 +145,8 @@ class Lints:
         for rule in held.rules():
             if effect is not None and rule.effect == effect:
                 remarks.warning("idle-rule", rule.node,
-                                f'Under {kind} what no rule {"permits" if effect == "Deny" else "denies"} is {effect} anyway: this {effect} rule decides nothing.')
+                                f'Under {kind} what no rule {"permits" if effect == "Deny" else "denies"} is {effect} '
+                                f'anyway: this {effect} rule decides nothing.')
         self.behind_unconditional(remarks, held, kind)
         if kind == "only-one-applicable":
             self.always_two(remarks, held)
@@ -149,19 +156,21 @@ class Lints:
         wanted = {"deny-overrides": "Deny", "permit-overrides": "Permit", "deny-unless-permit": "Permit",
                   "permit-unless-deny": "Deny"}.get(kind)
         rules = held.rules()
-        first = next((rule for rule in rules if is_unconditional(rule) and (kind == "first-applicable" or rule.effect == wanted)),
-                     None)
+        first = next((rule for rule in rules if is_unconditional(rule)
+                      and (kind == "first-applicable" or rule.effect == wanted)), None)
         if first is None or kind not in ("first-applicable", *SETTLED):
             return
         for rule in rules[rules.index(first)
                           + 1:] if kind == "first-applicable" else [rule for rule in rules if rule is not first
                                                                     and rule.effect == wanted]:
             remarks.warning("idle-rule", rule.node,
-                            f'The rule "{first.id}" in line {first.node.place.line} has no target and no condition: under {kind} it always decides, and this one never.')
+                            f'The rule "{first.id}" in line {first.node.place.line} has no target and no condition: '
+                            f'under {kind} it always decides, and this one never.')
         for rule in rules if kind != "first-applicable" else []:
             if rule.effect not in (None, wanted) and kind in ("deny-overrides", "permit-overrides"):
                 remarks.warning("idle-rule", rule.node,
-                                f'The {wanted} rule "{first.id}" in line {first.node.place.line} has no target and no condition: under {kind} it always decides, and this '
+                                f'The {wanted} rule "{first.id}" in line {first.node.place.line} has no target and no '
+                                f'condition: under {kind} it always decides, and this '
                                 f"{rule.effect} rule never.")
 
     def always_two(self, remarks: Remarks, held: Document) -> None:
@@ -170,7 +179,8 @@ class Lints:
                   and (child.target is None or not child.target.parts) and "Target" not in (child.node.last() or {})]
         for child in always[1:]:
             remarks.warning("idle-rule", child.node,
-                            f"Two children without a target apply always, this one and that of line {always[0].node.place.line}: under only-one-applicable the set is "
+                            "Two children without a target apply always, this one and that of line "
+                            f"{always[0].node.place.line}: under only-one-applicable the set is "
                             "always Indeterminate.")
 
     # Types of attributes.
@@ -201,9 +211,11 @@ class Lints:
             why = f"The rows have {attribute(held)} as {names.kind_shown(wanted)}"
         elif first.data_type != held.data_type:
             wanted = first.data_type
-            why = f"{first.node.source.path}:{first.node.place.line} asks for {attribute(held)} as {names.kind_shown(wanted)}"
+            why = (f"{first.node.source.path}:{first.node.place.line} asks for {attribute(held)} as "
+                   f"{names.kind_shown(wanted)}")
         if wanted:
-            remarks.warning("other-type", node, f"{why}: asked for as {names.kind_shown(held.data_type)} it isn't found there.",
+            remarks.warning("other-type", node,
+                            f"{why}: asked for as {names.kind_shown(held.data_type)} it isn't found there.",
                             expected=wanted, found=held.data_type, nearest=wanted)
 
     # Rows.
@@ -223,9 +235,11 @@ class Lints:
                 first = next(row.category_node for row in rows.rows if row.category_node is not None
                              and row.category_node.value == name)
                 entity = contexts.entity_id(uri)
-                when = f"the request's {names.short(entity)} of this category is the row's Entity" if entity else "the row's Entity is the empty text"
+                when = (f"the request's {names.short(entity)} of this category is the row's Entity"
+                        if entity else "the row's Entity is the empty text")
                 rows.remarks.note("shorthand", first,
-                                  f"{name} is a shorthand for {uri}. Such rows ({counts[name]}) are found where {when}.",
+                                  f"{name} is a shorthand for {uri}. Such rows ({counts[name]}) "
+                                  f"are found where {when}.",
                                   found=name)
 
 

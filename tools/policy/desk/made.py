@@ -16,7 +16,8 @@ PLAIN = {"string": ["", "another"], "boolean": [True, False], "integer": [0, 1, 
 
 @dataclass
 class Pools:
-    """Of each attribute that the policies ask for the values that they compare it with, and the moments that they speak of."""
+    """Of each attribute that the policies ask for the values that they compare it with, and the moments
+    that they speak of."""
     of_attribute: dict[tuple[str, str, str], list] = field(default_factory=dict)
     of_type: dict[str, list] = field(default_factory=dict)
     issuers: dict[tuple[str, str, str], set] = field(default_factory=dict)
@@ -50,7 +51,8 @@ class Pools:
         seconds = values.key(value) // values.SECOND
         if value[0] != "time":
             seconds -= values.key(values.read("dateTime", "1970-01-01T00:00:00Z")) // values.SECOND
-        self.clocks += [moment for moment in (seconds - 1, seconds, seconds + 1) if FIRST_MOMENT <= moment <= LAST_MOMENT]
+        self.clocks += [moment
+                        for moment in (seconds - 1, seconds, seconds + 1) if FIRST_MOMENT <= moment <= LAST_MOMENT]
 
 
 def designators_in(held: Expression) -> list[Designator]:
@@ -127,7 +129,8 @@ class Maker:
             return plain(self.random.choice(pool))
         if others and self.random.random() < 0.6:
             return plain(self.random.choice(others))
-        return self.random.choice(PLAIN[place[2]]) if place[2] in PLAIN else plain(self.random.choice(others or pool)) if others or pool else None
+        return (self.random.choice(PLAIN[place[2]]) if place[2] in PLAIN else plain(self.random.choice(others or pool))
+                if others or pool else None)
 
     def attribute(self, place: tuple[str, str, str]) -> dict | None:
         """The attribute with one value mostly, or none or two; None where it is left out."""

@@ -15,7 +15,8 @@ LEFT_OUT = {
     "x500Name": "names of directories are left out",
     "rfc822Name": "mail addresses are left out", "ipAddress": "network addresses are left out",
     "dnsName": "network addresses are left out",
-    "xpath": "XPath is left out", "any-of-all": "any-of-all is left out", "anyURI-substring": "anyURI-substring is left out",
+    "xpath": "XPath is left out", "any-of-all": "any-of-all is left out",
+    "anyURI-substring": "anyURI-substring is left out",
     "access-permitted": "access-permitted is left out",
 }
 LEFT_OUT_TYPES = ("double", "x500Name", "rfc822Name", "ipAddress", "dnsName", "xpathExpression")
@@ -47,7 +48,8 @@ def nearest(name: str, known: Iterable[str]) -> str:
 
 
 def nearest_by_end(name: str, known: Iterable[str]) -> str:
-    """The known URI whose last part is most like the last part of the name, and of such the one that is most like it as a whole."""
+    """The known URI whose last part is most like the last part of the name, and of such the one that is most
+    like it as a whole."""
     end = short(name)
     best = nearest(end, sorted({short(other) for other in known}))
     alike = [other for other in known if short(other) == best]
@@ -86,8 +88,8 @@ def unknown_algorithm(name: str, known: dict[str, str], of_others: dict[str, str
     """A sentence on a combining algorithm that is none here, and the nearest name."""
     if name in of_others:
         found = next((uri for uri, its in known.items() if its == of_others[name]), "")
-        sentence = f"This algorithm doesn't combine {what}: " + (f"write {found}."
-                                                                 if found else f"no algorithm of {what} does what it does.")
+        sentence = (f"This algorithm doesn't combine {what}: "
+                    + (f"write {found}." if found else f"no algorithm of {what} does what it does."))
         return sentence, found
     found = nearest_by_end(name, known)
     same = f' "{short(found)}" is there under this name: {found}.' if found and short(found) == short(name) else ""
@@ -97,10 +99,8 @@ def unknown_algorithm(name: str, known: dict[str, str], of_others: dict[str, str
 
 def category_nearest(name: str) -> str:
     """The shorthand of a category that is nearest to the name, or the known URI."""
-    return nearest(name,
-                   identifiers.SHORTHANDS) or (""
-                                               if ":" not in name else nearest(name,
-                                                                               identifiers.SHORTHANDS.values())) or containing(name)
+    return (nearest(name, identifiers.SHORTHANDS)
+            or ("" if ":" not in name else nearest(name, identifiers.SHORTHANDS.values())) or containing(name))
 
 
 def containing(name: str) -> str:

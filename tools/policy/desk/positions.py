@@ -1,7 +1,8 @@
-"""JSON with places: each value and each member's name with its line, its column and its JSON Pointer (RFC 8259, RFC 6901).
+"""JSON with places: each value and each member's name with its line, its column and its JSON
+Pointer (RFC 8259, RFC 6901).
 
-What is JSON, and what stands for a number in it, is the model's reading; here each slip has its place besides, and reading goes on behind
-comments and superfluous or forgotten commas.
+What is JSON, and what stands for a number in it, is the model's reading; here each slip has its place besides, and
+reading goes on behind comments and superfluous or forgotten commas.
 """
 from __future__ import annotations
 
@@ -51,7 +52,8 @@ class Member:
 
 @dataclass
 class Node:
-    """A JSON value with its place: `value` is a text, a number (None where 64 bits don't hold it), a boolean, or the items of an array."""
+    """A JSON value with its place: `value` is a text, a number (None where 64 bits don't hold it), a boolean, or
+    the items of an array."""
     source: Source
     pointer: str
     kind: str
@@ -196,7 +198,8 @@ class Reader:
                 return Node(self.source, pointer, kind, self.offset - len(word), self.offset, held)
         advice = {"'": "Texts stand in double quotes."}
         raise self.stop(pointer, "a JSON value",
-                        advice.get(letter, "A text stands in double quotes; true, false and null are written in small letters."))
+                        advice.get(letter, "A text stands in double quotes; true, "
+                                           "false and null are written in small letters."))
 
     def nested(self, letter: str, pointer: str) -> Node:
         """The object or array that begins here, which may not stand in too many."""
@@ -241,7 +244,8 @@ class Reader:
         return found
 
     def ends(self, bracket: str, pointer: str, is_behind: bool) -> bool:
-        """Whether the object or array ends here; behind an item a comma is passed over, and noted where it is missing or superfluous."""
+        """Whether the object or array ends here; behind an item a comma is passed over, and noted where it is
+        missing or superfluous."""
         self.skip(pointer)
         letter, comma = self.text[self.offset:self.offset + 1], self.offset
         if letter == "," and is_behind:
@@ -277,8 +281,8 @@ class Reader:
                 raise self.stop(pointer, "a closing quote on the same line",
                                 "This text isn't closed; a line break in a text is written \\n.", found.end())
             else:
-                raise self.stop(pointer, "no control character in a text", f"Write \\u{ord(letter):04x} for this character.",
-                                self.offset + 1)
+                raise self.stop(pointer, "no control character in a text",
+                                f"Write \\u{ord(letter):04x} for this character.", self.offset + 1)
 
     def escape(self, pointer: str) -> str:
         """The letter of the escape here."""
@@ -288,14 +292,15 @@ class Reader:
             return ESCAPES[letter]
         unit = self.unit(self.offset)
         if unit is None:
-            raise self.stop(pointer, 'one of \\" \\\\ \\/ \\b \\f \\n \\r \\t \\uXXXX', "A backslash itself is written \\\\.",
-                            self.offset + 2)
+            raise self.stop(pointer, 'one of \\" \\\\ \\/ \\b \\f \\n \\r \\t \\uXXXX',
+                            "A backslash itself is written \\\\.", self.offset + 2)
         if not 0xD800 <= unit < 0xE000:
             self.offset += 6
             return chr(unit)
         low = self.unit(self.offset + 6)
         if unit >= 0xDC00 or low is None or not 0xDC00 <= low < 0xE000:
-            raise self.stop(pointer, "a pair of surrogates", "Half of a pair of surrogates is no character.", self.offset + 6)
+            raise self.stop(pointer, "a pair of surrogates", "Half of a pair of surrogates is no character.",
+                            self.offset + 6)
         self.offset += 12
         return chr(0x10000 + (unit - 0xD800) * 0x400 + low - 0xDC00)
 
@@ -311,18 +316,22 @@ class Reader:
             raise self.stop(pointer, "a number", "A minus stands before a digit.")
         after = self.text[found.end():found.end() + 1]
         if found.group() in ("0", "-0") and after.isdigit() or after in (".", "e", "E"):
-            raise self.stop(pointer, "a number", "A number has no leading zeros, and digits behind a point and an exponent.",
+            raise self.stop(pointer, "a number",
+                            "A number has no leading zeros, and digits behind a point and an exponent.",
                             found.end() + 1)
         try:
-            held = json_texts.fraction(found.group()) if found.group(1) or found.group(2) else json_texts.number(found.group())
+            held = (json_texts.fraction(found.group()) if found.group(1)
+                    or found.group(2) else json_texts.number(found.group()))
         except (ValueError, OverflowError):
-            raise self.stop(pointer, "a number that a float can hold", "This number is too large.", found.end()) from None
+            raise self.stop(pointer, "a number that a float can hold", "This number is too large.",
+                            found.end()) from None
         start, self.offset = self.offset, found.end()
         return Node(self.source, pointer, "number", start, self.offset, held if isinstance(held, int) else None)
 
 
 def read(source: Source) -> tuple[Node | None, list[Slip]]:
-    """The JSON of the source and its slips: it is JSON where there is none. With slips the value is what could be read."""
+    """The JSON of the source and its slips: it is JSON where there is none. With slips the value is
+    what could be read."""
     reader = Reader(source)
     found = reader.whole()
     return found, reader.slips

@@ -1,7 +1,7 @@
-"""The proved program xa_trials, which answers rows of inputs: where it stands, whether it is of these sources, and what it answers."""
+"""The proved program xa_trials, which answers rows of inputs: where it stands, whether it is of these sources,
+and what it answers."""
 from __future__ import annotations
 
-import hashlib
 import os
 import pathlib
 import shutil
@@ -33,24 +33,6 @@ def part(text: str) -> str:
     return "".join(ESCAPED.get(letter, letter) for letter in rows.encoded(text))
 
 
-def sources() -> list[pathlib.Path]:
-    """The files of the code that the program is built of."""
-    return sorted(path for path in TOP.glob("crates/*/src/**/*.rt") if path.relative_to(TOP).parts[1] != "pdpd")
-
-
-def fingerprint() -> str:
-    """A digest of all that code."""
-    found = hashlib.sha256()
-    for path in sources():
-        found.update(str(path.relative_to(TOP)).encode() + b"\0" + path.read_bytes() + b"\0")
-    return found.hexdigest()
-
-
-def stamp_of(path: pathlib.Path) -> pathlib.Path:
-    """The file that says of which sources `policy build` made the program."""
-    return path.with_name(path.name + ".sources")
-
-
 @dataclass
 class Program:
     """A program that answers rows; `warning` says what isn't sure about it."""
@@ -72,7 +54,8 @@ class Program:
     def run(self, held: str) -> str:
         """What the program writes to the rows."""
         try:
-            ran = subprocess.run(self.command, input=held.encode("ascii"), capture_output=True, timeout=SECONDS, check=False)
+            ran = subprocess.run(self.command, input=held.encode("ascii"), capture_output=True, timeout=SECONDS,
+                                 check=False)
         except (OSError, subprocess.TimeoutExpired) as fault:
             raise ProgramFailed(f"{self.command[0]} doesn't run: {fault}") from None
         if ran.returncode != 0:
@@ -84,13 +67,16 @@ class Program:
         lines = held.splitlines(keepends=True)
         with tempfile.TemporaryDirectory() as folder:
             for first in range(0, len(lines), ROWS_A_FILE):
-                pathlib.Path(folder, f"{first:09}").write_text("".join(lines[first:first + ROWS_A_FILE]), encoding="ascii")
+                some = "".join(lines[first:first + ROWS_A_FILE])
+                pathlib.Path(folder, f"{first:09}").write_text(some, encoding="ascii")
             ran = subprocess.run([*self.command, folder], cwd=CRATE, capture_output=True, check=False)
-        return "".join(line + "\n" for line in ran.stdout.decode("latin-1").split("\n")[:-1] if not line.startswith("== "))
+        return "".join(line + "\n"
+                       for line in ran.stdout.decode("latin-1").split("\n")[:-1] if not line.startswith("== "))
 
 
 def found(named: str = "") -> Program | None:
-    """The program: the one that is named, here or by DESK_PROGRAM in the environment, the proved one, or None. `try` is the one that `rt try` compiles, unproved."""
+    """The program: the one that is named, here or by DESK_PROGRAM in the environment, the proved one, or None. `try`
+    is the one that `rt try` compiles, unproved."""
     named = named or os.environ.get("DESK_PROGRAM", "")
     if named == "none":
         return None
@@ -106,20 +92,18 @@ def found(named: str = "") -> Program | None:
 
 
 def is_of_these(path: pathlib.Path) -> bool:
-    """Whether the program there is known to be proved, of the sources as they are now: by what `policy build`
-    notes, or by what `make prove` does (tests/programs.py)."""
-    stamp = stamp_of(path)
-    if stamp.is_file() and stamp.read_text(encoding="ascii").strip() == fingerprint():
-        return True
+    """Whether the program there is known to be proved, of the sources as they are now: by the note beside it, which
+    `policy build` and `make prove` leave (tests/programs.py)."""
     try:
-        return path == PLACES[0] and programs.proved(CRATE.name) is not None
+        return programs.is_of(path, programs.fingerprint(CRATE.name))
     except programs.NotBuilt:  # there is no toolchain to compare with
         return False
 
 
 def warning_of(path: pathlib.Path) -> str:
     """What isn't sure about the program there."""
-    return "" if is_of_these(path) else (f"whether {path.relative_to(TOP)} is proved, and of these sources, isn't known: "
+    return "" if is_of_these(path) else (f"whether {path.relative_to(TOP)} is proved, and of these sources, "
+                                         "isn't known: "
                                          "`tools/policy/policy.py build` proves and builds it.")
 
 
@@ -148,9 +132,11 @@ def built() -> int:
         print(f"{name} is proved, but answers its stored rows otherwise.")
         return 1
     programs.ended(made_of)
-    stamp_of(PLACES[0]).write_text(fingerprint() + "\n", encoding="ascii")
+    if not is_built():
+        print(f"{name} is proved, but a source changed meanwhile.")
+        return 1
     PLACES[1].parent.mkdir(exist_ok=True)
-    for path in (PLACES[0], stamp_of(PLACES[0])):
+    for path in (PLACES[0], programs.note_of(PLACES[0])):
         shutil.copy2(path, PLACES[1].parent / path.name)
     print(f"{name} is proved, and answers its stored rows.")
     return 0

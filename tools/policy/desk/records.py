@@ -23,7 +23,7 @@ from dataclasses import dataclass, field
 from . import setting
 from .check import Checked
 from .domain import root_body
-from .live import RECORD_ID, Key, Live, is_record, path_of, version_shown
+from .live import RECORD_ID, Key, Live, path_of, version_shown
 from .model import documents as documents_of_model
 from .model import route_bodies, versions
 from .wire import ServerFault
@@ -255,8 +255,3 @@ def has_no_root(live: Live) -> bool:
     Indeterminate."""
     held = json.loads(live.client.asked("POST", "pdp", b'{"Request":{}}').body)
     return held["Response"][0]["Decision"] == "NotApplicable"
-
-
-def parts_of_records(live: Live) -> int:
-    """How many documents of the domain are parts of records."""
-    return sum(map(is_record, live.documents))

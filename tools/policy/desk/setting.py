@@ -31,7 +31,8 @@ def moment_of(text: str | None) -> int:
         try:
             held = values.read("dateTime", text if "T" in text else text + "T00:00:00Z")
         except values.Fault:
-            raise Usage(f'the time "{text}" is no dateTime, as 2026-11-23T10:00:00Z, and no number of seconds since 1970') from None
+            raise Usage(f'the time "{text}" is no dateTime, as 2026-11-23T10:00:00Z, '
+                        'and no number of seconds since 1970') from None
         since = values.key(held) - values.key(values.read("dateTime", "1970-01-01T00:00:00Z"))
         seconds = since // values.SECOND
     if not FIRST_MOMENT <= seconds <= LAST_MOMENT:
@@ -69,7 +70,8 @@ class Setting:
     def source_rows(self) -> list[contexts.SourceRow]:
         """The source rows of the model."""
         found = self.rows.rows if self.rows else []
-        return [contexts.SourceRow(row.category, row.entity, row.attribute_id, row.literal.value, row.issuer) for row in found]
+        return [contexts.SourceRow(row.category, row.entity, row.attribute_id, row.literal.value, row.issuer)
+                for row in found]
 
     def view(self) -> decisions.View:
         """The view of the model."""
@@ -97,13 +99,15 @@ class Setting:
 
 
 def root_of(text: str | None, documents: list[Checked]) -> versions.Reference | None:
-    """The root that is meant: an id, with `policy:` or `set:` before it where both kinds have it; without one the only document."""
+    """The root that is meant: an id, with `policy:` or `set:` before it where both kinds have it; without
+    one the only document."""
     if text is None:
         if len(documents) != 1:
             raise Usage("--root ID says at which of the documents a decision begins")
         return versions.Reference(documents[0].document.kind, documents[0].document.id, None, None, None)
     kind, name = text.split(":", 1) if text.startswith(("policy:", "set:")) else (None, text)
-    kinds = sorted({one.document.kind for one in documents if one.document.id == name and kind in (None, one.document.kind)})
+    kinds = sorted({one.document.kind
+                    for one in documents if one.document.id == name and kind in (None, one.document.kind)})
     if len(kinds) > 1:
         raise Usage(f"{name} is a policy and a policy set: write --root policy:{name} or --root set:{name}")
     return versions.Reference(kinds[0] if kinds else kind or "policy", name, None, None, None)
@@ -117,7 +121,8 @@ def no_document(reference: versions.Reference, documents: list[Document]) -> tup
         known = ", ".join(document.version for document in fitting)
         return f"{reference.id} is there in version {known}, which doesn't fit the reference.", ""
     if same:
-        return f"{reference.id} is a {KIND_NAMES[same[0].kind]}, and the reference is to a {KIND_NAMES[reference.kind]}.", ""
+        return (f"{reference.id} is a {KIND_NAMES[same[0].kind]}, "
+                f"and the reference is to a {KIND_NAMES[reference.kind]}.", "")
     nearest = names.nearest(reference.id, {document.id for document in documents if document.id is not None})
     return f"No document given has the id {reference.id}." + (f" Did you mean {nearest}?" if nearest else ""), nearest
 
@@ -130,7 +135,8 @@ def check_root(setting: Setting, remarks: Remarks) -> None:
     sentence, nearest = no_document(root, [one.document for one in setting.documents])
     first = setting.documents[0]
     node = Node(first.source, "", "object", first.node.start, first.node.end)
-    remarks.fault("leads-nowhere", node, f"The root leads nowhere. {sentence} Every decision is Indeterminate, processing-error.",
+    remarks.fault("leads-nowhere", node,
+                  f"The root leads nowhere. {sentence} Every decision is Indeterminate, processing-error.",
                   nearest=nearest, found=root.id)
     remarks.found[-1].end = remarks.found[-1].start
 

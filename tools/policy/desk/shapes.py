@@ -1,14 +1,16 @@
-"""The shape of policy documents: all its faults, in the order in which the server looks for them, and the parts with their places.
+"""The shape of policy documents: all its faults, in the order in which the server looks for them, and the
+parts with their places.
 
-The tables of members, the names and the texts are the model's. Behind a fault the reading goes on with what is there; a misspelt member is
-read as the one that was meant.
+The tables of members, the names and the texts are the model's. Behind a fault the reading goes on with what is there;
+a misspelt member is read as the one that was meant.
 """
 from __future__ import annotations
 
 from collections.abc import Callable
 
 from . import names
-from .elements import AllOf, AnyOf, Assignment, Designator, Document, Duty, Expression, Literal, Match, Reference, Rule, Target, Variable
+from .elements import (
+    AllOf, AnyOf, Assignment, Designator, Document, Duty, Expression, Literal, Match, Reference, Rule, Target, Variable)
 from .faults import Remarks
 from .model import documents, identifiers, values, versions
 from .positions import Member, Node
@@ -16,14 +18,18 @@ from .text import listed
 
 FORMS = {"AttributeValue": "value", "AttributeDesignator": "designator", "Apply": "apply", "Function": "function",
          "VariableReference": "variable"}
-KINDS = {"object": "an object", "array": "an array", "string": "a text", "number": "a number", "boolean": "true or false",
-         "null": "null"}
+KINDS = {"object": "an object", "array": "an array", "string": "a text", "number": "a number",
+         "boolean": "true or false", "null": "null"}
 SHAPES = {
-    "boolean": "true or false", "integer": "digits with a sign or none, from -9223372036854775808 to 9223372036854775807",
-    "date": 'YYYY-MM-DD with a time zone or none, as "2026-11-23Z"', "time": 'hh:mm:ss with a time zone or none, as "09:00:00Z"',
+    "boolean": "true or false",
+    "integer": "digits with a sign or none, from -9223372036854775808 to 9223372036854775807",
+    "date": 'YYYY-MM-DD with a time zone or none, as "2026-11-23Z"',
+    "time": 'hh:mm:ss with a time zone or none, as "09:00:00Z"',
     "dateTime": 'YYYY-MM-DDThh:mm:ss with a time zone or none, as "2026-11-23T09:00:00Z"',
-    "dayTimeDuration": 'days, hours, minutes and seconds, as "P1DT2H30M"', "yearMonthDuration": 'years and months, as "P1Y6M"',
-    "hexBinary": "pairs of hexadecimal digits", "base64Binary": "base64 with its padding", "anyURI": "a text", "string": "a text",
+    "dayTimeDuration": 'days, hours, minutes and seconds, as "P1DT2H30M"',
+    "yearMonthDuration": 'years and months, as "P1Y6M"',
+    "hexBinary": "pairs of hexadecimal digits", "base64Binary": "base64 with its padding", "anyURI": "a text",
+    "string": "a text",
 }
 WHERE = {"Policy": "A policy", "PolicySet": "A policy set", "Reference": "A reference", "AnyOf": "An item of AnyOf",
          "AllOf": "An item of AllOf",
@@ -36,10 +42,12 @@ def name_node(member: Member) -> Node:
 
 
 def form_of(known: list[str], node: Node) -> str:
-    """The form of which the object has members, though it should have that form alone; the empty text where there is none."""
+    """The form of which the object has members, though it should have that form alone; the empty text
+    where there is none."""
     tables = {form: {row.rstrip("?") for row in names.table_of("Reference" if form.endswith("IdReference") else form)}
               for form in known}
-    alike = {form: len(rows & set(node.last())) / len(node.last()) for form, rows in tables.items()} if node.members else {}
+    alike = ({form: len(rows & set(node.last())) / len(node.last()) for form, rows in tables.items()}
+             if node.members else {})
     best = max(alike, key=alike.get, default="")
     return best if best and alike[best] >= 0.5 else ""
 
@@ -50,7 +58,8 @@ def kind_of(node: Node) -> str:
         return "true" if node.value else "false"
     if node.kind == "number":
         return f"the number {node.text}"
-    return f"the text {node.text if len(node.text) <= 40 else node.text[:37] + '...'}" if node.kind == "string" else KINDS[node.kind]
+    return (f"the text {node.text if len(node.text) <= 40 else node.text[:37] + '...'}"
+            if node.kind == "string" else KINDS[node.kind])
 
 
 def example_of(data_type: str, node: Node) -> str:
@@ -63,8 +72,8 @@ def example_of(data_type: str, node: Node) -> str:
              "yearMonthDuration": [f"P{held.upper()}", held.upper()], "base64Binary": [held + "=", held + "=="]}
     for text in tried.get(data_type, []):
         try:
-            return values.to_text(values.read(data_type,
-                                              text)) if data_type == "boolean" else values.read(data_type, text) and text
+            found = values.read(data_type, text)
+            return values.to_text(found) if data_type == "boolean" else found and text
         except values.Fault:
             continue
     return ""
@@ -80,7 +89,8 @@ class Shapes:
 
     def wrong_kind(self, node: Node, wanted: str, sentence: str = "") -> None:
         """Remarks a value that is of another kind than is wanted."""
-        self.remarks.fault("BadValue", node, sentence or f"Here belongs {wanted}.", expected=wanted, found=kind_of(node))
+        self.remarks.fault("BadValue", node, sentence or f"Here belongs {wanted}.", expected=wanted,
+                           found=kind_of(node))
 
     def members(self, table: str, node: Node, label: str = "") -> dict[str, Node] | None:
         """The values of an object's members, by the names of the table; None where it is no object."""
@@ -96,7 +106,8 @@ class Shapes:
                 self.unknown_member(label, name, member, known, found)
         for name in rows:
             if not name.endswith("?") and name not in found:
-                self.remarks.fault(f"MissingMember({name})", node, f'{label} needs the member "{name}", which is missing.',
+                self.remarks.fault(f"MissingMember({name})", node,
+                                   f'{label} needs the member "{name}", which is missing.',
                                    expected=f"the member {name}",
                                    found=listed(list(node.last()), "and"))
         return found
@@ -109,8 +120,8 @@ class Shapes:
             ask = f' "{meant}" is there already.'
         elif meant:
             found[meant] = member.node
-        self.remarks.fault("UnknownMember", name_node(member), f'{label} has no member "{name}".{ask}', expected=listed(known),
-                           found=name, nearest=meant)
+        self.remarks.fault("UnknownMember", name_node(member), f'{label} has no member "{name}".{ask}',
+                           expected=listed(known), found=name, nearest=meant)
 
     def one_of(self, kind: str, node: Node, label: str) -> tuple[str, Node] | None:
         """The name and the value of the one member that the object has, or that was meant."""
@@ -122,12 +133,13 @@ class Shapes:
         bare = "" if there else form_of(known, node)
         if bare:
             first = node.members[0]
-            self.unknown_form(first, f'{label} is an object of one member: put {{"{bare}": {{..}}}} around these.', known, bare)
+            self.unknown_form(first, f'{label} is an object of one member: put {{"{bare}": {{..}}}} around these.',
+                              known, bare)
             return bare, node
         meant = self.strays(known, there, node, label)
         if not node.members:
-            self.remarks.fault(f"MissingMember({known[0]})", node, f"{label} is empty.", expected=f"one of {listed(known)}",
-                               found="{}")
+            self.remarks.fault(f"MissingMember({known[0]})", node, f"{label} is empty.",
+                               expected=f"one of {listed(known)}", found="{}")
         return (there[0], node.at(there[0])) if there else meant
 
     def strays(self, known: list[str], there: list[str], node: Node, label: str) -> tuple[str, Node] | None:
@@ -137,7 +149,8 @@ class Shapes:
             if name not in known:
                 near = names.nearest(name, known)
                 self.unknown_form(member,
-                                  f'{label} has no member "{name}".' + (f' Did you mean "{near}"?' if near and not there else ""),
+                                  f'{label} has no member "{name}".'
+                                  + (f' Did you mean "{near}"?' if near and not there else ""),
                                   known, near)
                 meant = meant or (near, member.node) if near else meant
             elif name in there[1:]:
@@ -146,8 +159,8 @@ class Shapes:
 
     def unknown_form(self, member: Member, sentence: str, known: list[str], nearest: str) -> None:
         """Remarks a member that stands where another one alone may."""
-        self.remarks.fault("UnknownMember", name_node(member), sentence, expected=f"one of {listed(known)}", found=member.name,
-                           nearest=nearest)
+        self.remarks.fault("UnknownMember", name_node(member), sentence, expected=f"one of {listed(known)}",
+                           found=member.name, nearest=nearest)
 
     def optional(self, reads: Callable, found: dict[str, Node], name: str):
         """What is read of a member, where it is there."""
@@ -163,8 +176,8 @@ class Shapes:
             self.wrong_kind(node, "an array", f'"{name}" is an array.{inner}')
             return [reads(node)] if node.kind == "object" else []
         if len(node.value) < least:
-            self.remarks.fault("BadValue", node, f'"{name}" has at least {least} item.', expected=f"an array of at least {least}",
-                               found="an empty array")
+            self.remarks.fault("BadValue", node, f'"{name}" has at least {least} item.',
+                               expected=f"an array of at least {least}", found="an empty array")
         return [reads(item) for item in node.value]
 
     # Texts and names.
@@ -190,7 +203,8 @@ class Shapes:
         if held is None or held in known:
             return held
         sentence, nearest = say(held)
-        self.remarks.fault(code, node, sentence, expected=listed(known) if len(known) <= 12 else "", found=held, nearest=nearest)
+        self.remarks.fault(code, node, sentence, expected=listed(known) if len(known) <= 12 else "", found=held,
+                           nearest=nearest)
         return None
 
     def effect(self, node: Node) -> str | None:
@@ -238,18 +252,21 @@ class Shapes:
     def version(self, shape: str) -> Callable[[Node], list[str] | None]:
         """Reads the parts of a version, or of a pattern of versions."""
         what = "A version" if shape == versions.VERSION else "A pattern of versions"
-        wanted = "numbers with dots between, as 1.0" + (""
-                                                        if shape == versions.VERSION else ", with * for one number and + for one or more at the end")
+        wanted = ("numbers with dots between, as 1.0"
+                  + ("" if shape == versions.VERSION else ", with * for one number and + for one or more at the end"))
 
         def reads(node: Node) -> list[str] | None:
-            held = self.text(node) if node.kind == "string" else self.wrong_kind(node, f"a text, {wanted}", f"{what} is a text: write it in quotes.")
+            held = (self.text(node) if node.kind == "string"
+                    else self.wrong_kind(node, f"a text, {wanted}", f"{what} is a text: write it in quotes."))
             if held is None:
                 return None
             try:
                 return versions.parts(shape, held)
             except versions.NoVersion as fault:
-                why = f"has at most {versions.MAX_NUMBERS} numbers of at most {versions.MAX_DIGITS} digits" if str(fault) == "TooLong" else f"is {wanted}"
-                advice = " A * or + stands in a reference's Version alone." if shape == versions.VERSION and set(held) & set("*+") else ""
+                why = (f"has at most {versions.MAX_NUMBERS} numbers of at most {versions.MAX_DIGITS} digits"
+                       if str(fault) == "TooLong" else f"is {wanted}")
+                advice = (" A * or + stands in a reference's Version alone." if shape == versions.VERSION
+                          and set(held) & set("*+") else "")
                 self.remarks.fault("BadValue", node, f"{what} {why}.{advice}", expected=wanted, found=held)
                 return None
         return reads
@@ -292,7 +309,8 @@ class Shapes:
                                                       "time": "09:00:00Z"}.get(data_type, "")
             as_text = f' as "{example}"' if example else " in quotes"
             self.remarks.fault("BadValue", node,
-                               f"A value of type {data_type} is written as a text{as_text if data_type != 'string' else ' in quotes'}.",
+                               f"A value of type {data_type} is written as a "
+                               f"text{as_text if data_type != 'string' else ' in quotes'}.",
                                expected=f"a text: {shape}" if shape != "a text" else "a text", found=kind_of(node))
             return None
         try:
@@ -305,9 +323,9 @@ class Shapes:
         """Remarks a text that is no value of the type."""
         meant = example_of(data_type, node)
         ask = f' Did you mean "{meant}"?' if meant else ""
-        what = "has the shape of" if why == "OutOfRange" else "is no"
-        sentence = f"This text {what} {names.kind_shown(data_type).removeprefix('a ').removeprefix('an ') if why != 'OutOfRange' else names.kind_shown(data_type)}"
-        sentence += ", but a part is out of its range." if why == "OutOfRange" else "."
+        kind = names.kind_shown(data_type)
+        sentence = (f"This text has the shape of {kind}, but a part is out of its range." if why == "OutOfRange" else
+                    f"This text is no {kind.removeprefix('a ').removeprefix('an ')}.")
         self.remarks.fault("BadValue", node, sentence + ask, expected=shape, found=node.text, nearest=meant)
 
     def designator(self, node: Node) -> Designator | None:
@@ -315,8 +333,8 @@ class Shapes:
         found = self.members("AttributeDesignator", node)
         if found is None:
             return None
-        held = self.optional(self.category, found, "Category"), self.optional(self.text, found,
-                                                                              "AttributeId"), self.optional(self.data_type, found, "DataType")
+        held = (self.optional(self.category, found, "Category"), self.optional(self.text, found, "AttributeId"),
+                self.optional(self.data_type, found, "DataType"))
         return Designator(node, *held, self.optional(self.flag, found, "MustBePresent"),
                           self.optional(self.text, found, "Issuer"))
 
@@ -387,8 +405,10 @@ class Shapes:
 
     def duties(self, found: dict[str, Node]) -> list[Duty | None]:
         """Obligations, and then advice."""
-        obligations = self.each(self.duty("ObligationExpression", "ObligationId", "FulfillOn"), found, "ObligationExpressions")
-        return obligations + self.each(self.duty("AdviceExpression", "AdviceId", "AppliesTo"), found, "AdviceExpressions")
+        obligations = self.each(self.duty("ObligationExpression", "ObligationId", "FulfillOn"), found,
+                                "ObligationExpressions")
+        return (obligations
+                + self.each(self.duty("AdviceExpression", "AdviceId", "AppliesTo"), found, "AdviceExpressions"))
 
     def rule(self, node: Node) -> Rule | None:
         """A rule."""
@@ -422,8 +442,10 @@ class Shapes:
         if found is None:
             return None
         held = self.key(found, "PolicyId", self.algorithm("rules"), "RuleCombiningAlgId")
-        target, variables = self.optional(self.target, found, "Target"), self.each(self.variable({}), found, "VariableDefinition")
-        return Document(node, "Policy", *held, target, variables, self.each(self.rule, found, "Rule"), self.duties(found))
+        target, variables = (self.optional(self.target, found, "Target"),
+                             self.each(self.variable({}), found, "VariableDefinition"))
+        return Document(node, "Policy", *held, target, variables, self.each(self.rule, found, "Rule"),
+                        self.duties(found))
 
     def key(self, found: dict[str, Node], name: str, algorithm: Callable, algorithm_name: str) -> tuple:
         """Id, version and algorithm of a policy or a set, whose description is looked at too."""
@@ -437,7 +459,8 @@ class Shapes:
         """A policy set inside this many, itself counted."""
         if node.kind == "object" and sets > documents.MAX_SETS:
             self.remarks.fault("TooLarge", node,
-                               f"At most {documents.MAX_SETS} policy sets stand inside one another: refer to this one by a PolicySetIdReference.",
+                               f"At most {documents.MAX_SETS} policy sets stand inside one another: "
+                               "refer to this one by a PolicySetIdReference.",
                                expected=f"at most {documents.MAX_SETS}", found=f"the {sets}th")
             return None
         found = self.members("PolicySet", node)
@@ -455,9 +478,11 @@ class Shapes:
             return None
         first = len(self.remarks.found)
         held = self.optional(self.text, found, "Id"), self.optional(self.version(versions.PATTERN), found, "Version")
-        bounds = [self.optional(self.version(versions.VERSION), found, name) for name in ("EarliestVersion", "LatestVersion")]
+        bounds = [self.optional(self.version(versions.VERSION), found, name)
+                  for name in ("EarliestVersion", "LatestVersion")]
         is_read = held[0] is not None and len(self.remarks.found) == first
-        whole = versions.Reference(kind, *held, *(bound and versions.numbered(bound) for bound in bounds)) if is_read else None
+        whole = (versions.Reference(kind, *held, *(bound and versions.numbered(bound) for bound in bounds))
+                 if is_read else None)
         return Reference(node, kind, held[0], whole)
 
     def child(self, node: Node, sets: int) -> Document | Reference | None:
@@ -468,10 +493,9 @@ class Shapes:
         name, inner = named
         if name == "Policy":
             return self.policy(inner)
-        return self.policy_set(inner,
-                               sets
-                               + 1) if name == "PolicySet" else self.reference("policy" if name == "PolicyIdReference" else "set",
-                                                                               inner)
+        if name == "PolicySet":
+            return self.policy_set(inner, sets + 1)
+        return self.reference("policy" if name == "PolicyIdReference" else "set", inner)
 
     def document(self, node: Node) -> Document | None:
         """The document of a whole text."""

@@ -38,8 +38,8 @@ def wrapped(text: str, indent: str = "", hanging: str | None = None) -> str:
     """The text in lines of at most 80 columns, behind an indent; words that are longer stand whole."""
     text = harmless(text)
     hanging = indent if hanging is None else hanging
-    return "\n".join(textwrap.wrap(text, WIDTH, initial_indent=indent, subsequent_indent=hanging, break_long_words=False,
-                                   break_on_hyphens=False)) or indent.rstrip()
+    return "\n".join(textwrap.wrap(text, WIDTH, initial_indent=indent, subsequent_indent=hanging,
+                                   break_long_words=False, break_on_hyphens=False)) or indent.rstrip()
 
 
 def cut(text: str, room: int) -> str:
@@ -69,11 +69,13 @@ def remark_shown(remark: Remark) -> str:
     place = f"{remark.source.path}:{remark.place.line}:{remark.place.column}"
     head = painted(remark.level, "bold", LEVELS[remark.level]) + " " + painted(remark.code, "bold")
     lines = [f"{painted(place, 'bold')}: {head}", wrapped(remark.sentence, "    ")]
-    for label, text in (("at", remark.pointer or "(the whole document)"), ("text", remark.text), ("expected", remark.expected),
+    for label, text in (("at", remark.pointer or "(the whole document)"), ("text", remark.text),
+                        ("expected", remark.expected),
                         ("found", remark.found),
                         ("nearest", remark.nearest)):
         if text and label == "at":
-            lines.append(("\n" + " " * 14).join([f"    {label:9} " + (parts := broken(text, WIDTH - 14))[0], *parts[1:]]))
+            first, *others = broken(text, WIDTH - 14)
+            lines.append(("\n" + " " * 14).join([f"    {label:9} {first}", *others]))
         elif text:
             lines.append(labelled(label, text))
     if remark.is_first:

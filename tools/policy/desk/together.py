@@ -39,7 +39,8 @@ class Together:
         for one in self.known:
             for reference in one.document.references():
                 self.check_target(one.remarks, reference)
-        targets = {place for one in self.known for reference in one.document.references() for place in [self.place(reference)]
+        targets = {place for one in self.known for reference in one.document.references()
+                   for place in [self.place(reference)]
                    if place is not None}
         roots = [place for place in range(len(self.known)) if place not in targets]
         for place in roots + list(range(len(self.known))):
@@ -53,10 +54,11 @@ class Together:
             other = first.setdefault((kind, name, tuple(version)), one)
             if other is not one:
                 same = other.source.held == one.source.held
-                one.remarks.fault("same-key", one.document.node, f"{other.source.path} has the same kind, id and version"
-                                  + (", and the same text."
-                                     if same else ": the server takes one of them, and refuses the other (SameVersionOtherText)."),
-                                  expected="another Version", found=f"{name} {one.document.version}")
+                one.remarks.fault(
+                    "same-key", one.document.node, f"{other.source.path} has the same kind, id and version"
+                    + (", and the same text."
+                       if same else ": the server takes one of them, and refuses the other (SameVersionOtherText)."),
+                    expected="another Version", found=f"{name} {one.document.version}")
 
     def place(self, reference: Reference) -> int | None:
         """The place of the document for which the reference stands."""
@@ -77,7 +79,8 @@ class Together:
         except TooLarge:
             node = self.known[place].document.node
             self.known[place].remarks.fault("tree-too-large", node,
-                                            f"With all references followed this tree has more than {linking.MOST_IN_A_TREE} policies and sets:"
+                                            "With all references followed this tree has more than "
+                                            f"{linking.MOST_IN_A_TREE} policies and sets:"
                                             " with it as root every decision is Indeterminate, processing-error.",
                                             expected=f"at most {linking.MOST_IN_A_TREE}", found="more")
 
@@ -98,10 +101,12 @@ class Together:
         place = self.place(reference)
         if place in path:
             way = " -> ".join(self.keys[one][1] for one in [*path[path.index(place):], place])
-            self.once("circle", reference, remarks, f"This reference leads back to where it came from, so {EFFECT}: {way}.")
+            self.once("circle", reference, remarks,
+                      f"This reference leads back to where it came from, so {EFFECT}: {way}.")
         elif len(path) == linking.MOST_ON_A_PATH:
             self.once("way-too-long", reference, remarks,
-                      f"More than {linking.MOST_ON_A_PATH} documents refer to one another on the way through this reference, so {EFFECT} here.")
+                      f"More than {linking.MOST_ON_A_PATH} documents refer to one another on the way through this "
+                      f"reference, so {EFFECT} here.")
         else:
             self.walk(self.known[place].document, self.known[place].remarks, [*path, place])
 

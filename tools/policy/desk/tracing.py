@@ -1,4 +1,5 @@
-"""How the values of expressions and targets come about: each with the attributes that were looked up, and where these came from.
+"""How the values of expressions and targets come about: each with the attributes that were looked up, and
+where these came from.
 
 Every value is the model's own; what is noted here is which parts were asked for, and what they gave.
 """
@@ -38,13 +39,14 @@ def fault_shown(fault: values.Fault) -> str:
 def attribute_shown(designator: expressions.Designator) -> str:
     """`Resource urn:example:kind (string)`."""
     issuer = f" by {designator.issuer}" if designator.issuer is not None else ""
-    return f"{names.category_shown(designator.category)} {names.attribute_shown(designator.attribute_id)}{issuer} ({designator.data_type})"
+    return (f"{names.category_shown(designator.category)} {names.attribute_shown(designator.attribute_id)}{issuer} "
+            f"({designator.data_type})")
 
 
 def attribute_members(designator: expressions.Designator) -> dict[str, object]:
     """The attribute in a few words, and whole."""
-    held = {"attribute": attribute_shown(designator), "category": designator.category, "attribute_id": designator.attribute_id,
-            "data_type": designator.data_type}
+    held = {"attribute": attribute_shown(designator), "category": designator.category,
+            "attribute_id": designator.attribute_id, "data_type": designator.data_type}
     return held if designator.issuer is None else {**held, "issuer": designator.issuer}
 
 
@@ -83,7 +85,8 @@ class Origins(contexts.Context):
             for attribute in held.attributes:
                 same = (held.category == category, attribute.id == attribute_id, attribute.data_type == data_type,
                         issuer in (None, attribute.issuer))
-                if sum(same) == 3 and attribute.values and (same[1] or names.likeness(attribute.id, attribute_id) >= MOST_ALIKE):
+                if (sum(same) == 3 and attribute.values
+                    and (same[1] or names.likeness(attribute.id, attribute_id) >= MOST_ALIKE)):
                     found.append(self.said("the request has it", same, held.category, attribute.id, attribute.data_type,
                                            attribute.issuer))
         entity = self.entity(category)
@@ -93,12 +96,13 @@ class Origins(contexts.Context):
             if all(same):
                 found.append(f'a row has it for the entity "{row.entity}", and the request names '
                              + (f'"{entity}"' if entity else "none"))
-            elif sum(same) == 3 and row.entity == entity and (same[1]
-                                                              or names.likeness(row.attribute_id, attribute_id) >= MOST_ALIKE):
+            elif (sum(same) == 3 and row.entity == entity
+                  and (same[1] or names.likeness(row.attribute_id, attribute_id) >= MOST_ALIKE)):
                 found.append(self.said("a row has it", same, row.category, row.attribute_id, row.value[0], row.issuer))
         return list(dict.fromkeys(found))
 
-    def said(self, who: str, same: tuple[bool, ...], category: str, attribute_id: str, data_type: str, issuer: str | None) -> str:
+    def said(self, who: str, same: tuple[bool, ...], category: str, attribute_id: str, data_type: str,
+             issuer: str | None) -> str:
         """How an attribute differs from the one that is wanted, in words."""
         other = [f"in the category {names.category_shown(category)}", f"as {names.attribute_shown(attribute_id)}",
                  f"as {names.kind_shown(data_type)}",
@@ -107,7 +111,8 @@ class Origins(contexts.Context):
 
 
 class Tracing(expressions.Evaluation):
-    """An evaluation that notes each expression that it evaluates, with its place and what it gave; `plain` is one that notes nothing."""
+    """An evaluation that notes each expression that it evaluates, with its place and what it gave; `plain` is one
+    that notes nothing."""
 
     def __init__(self, context: Origins, definitions: dict[str, tuple]):
         super().__init__(context.values_of, definitions)

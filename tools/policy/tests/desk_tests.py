@@ -83,7 +83,8 @@ def checked(text: str, off: tuple[str, ...] = (), rows: str | None = None) -> ch
 
 
 def run(*words: str, files: dict[str, str] | None = None, program: str = "none") -> tuple[int, str, str]:
-    """The status of the command in a folder with these files, and what it wrote; an argument @NAME is the file NAME there."""
+    """The status of the command in a folder with these files, and what it wrote; an argument @NAME is
+    the file NAME there."""
     with tempfile.TemporaryDirectory() as folder:
         for name, held in (files or {}).items():
             path = pathlib.Path(folder, name)
@@ -109,7 +110,8 @@ def executed(*words: str) -> subprocess.CompletedProcess:
 class DeskTest(unittest.TestCase):
     """A test of remarks."""
 
-    def remark(self, remarks: faults.Remarks, code: str, offset: int, *words: str, level: str = "fault") -> faults.Remark:
+    def remark(self, remarks: faults.Remarks, code: str, offset: int, *words: str,
+               level: str = "fault") -> faults.Remark:
         """The remark of this code at this offset, whose text for people has these words and fits 80 columns."""
         found = [one for one in remarks.found if one.code == code and one.start == offset and one.level == level]
         said = [(one.level, one.code, one.place.line, one.place.column, one.sentence) for one in remarks.found]
@@ -121,7 +123,8 @@ class DeskTest(unittest.TestCase):
         return found[0]
 
     def narrow(self, written: str) -> None:
-        """What is written for people fits 80 columns, but for words that are longer and a response as the server writes it."""
+        """What is written for people fits 80 columns, but for words that are longer and a response as
+        the server writes it."""
         for line in written.split("\n"):
             self.assertTrue(len(line) <= 80 or len(line.split()) <= 2 or line.startswith('{"Response"'),
                             f"wider than 80 columns: {line}")

@@ -1,7 +1,7 @@
 """Random policy documents with faults put in at known places.
 
-A document is written with the offset of each value and of each member's name noted by its pointer, so that where a fault stands is known apart
-from the desk's own reading.
+A document is written with the offset of each value and of each member's name noted by its pointer, so that where a
+fault stands is known apart from the desk's own reading.
 """
 from __future__ import annotations
 
@@ -9,7 +9,7 @@ import json
 from collections.abc import Callable, Iterator
 from dataclasses import dataclass, field
 
-from .desk_tests import TOP  # noqa: F401
+from . import desk_tests  # noqa: F401  (it makes the modules of the model importable)
 
 import agree  # noqa: E402
 from documents import ONE_OF, TABLES, DocumentFault, document_of  # noqa: E402
@@ -24,18 +24,18 @@ TABLE_OF = {name: name
             for name in ("Policy", "PolicySet", "Rule", "Target", "AnyOf", "AllOf", "Match", "VariableDefinition",
                          "AttributeValue", "AttributeDesignator", "Apply", "Function",
                                     "VariableReference", "AttributeAssignmentExpression")}
-TABLE_OF.update(ObligationExpressions="ObligationExpression", AdviceExpressions="AdviceExpression", PolicyIdReference="Reference",
-                PolicySetIdReference="Reference")
+TABLE_OF.update(ObligationExpressions="ObligationExpression", AdviceExpressions="AdviceExpression",
+                PolicyIdReference="Reference", PolicySetIdReference="Reference")
 # what is wrong as the value of a member of this name, and the code of it
 WRONG = {
     "Effect": ("Permitt", "BadValue"), "FulfillOn": ("permit", "BadValue"), "AppliesTo": ("", "BadValue"),
     "DataType": ("str", "BadValue"), "MustBePresent": ("true", "BadValue"),
-    "PolicyId": ("", "BadValue"), "PolicySetId": (5, "BadValue"), "RuleId": (5, "BadValue"), "Category": (None, "BadValue"),
-    "Issuer": (True, "BadValue"), "Description": (5, "BadValue"),
+    "PolicyId": ("", "BadValue"), "PolicySetId": (5, "BadValue"), "RuleId": (5, "BadValue"),
+    "Category": (None, "BadValue"), "Issuer": (True, "BadValue"), "Description": (5, "BadValue"),
     "RuleCombiningAlgId": ("deny-overrides", "UnknownAlgorithm"), "PolicyCombiningAlgId": ("urn:x", "UnknownAlgorithm"),
     "AttributeId": ([], "BadValue"), "Id": (7, "BadValue"),
-    "Value": ([], "BadValue"), "ObligationId": ({}, "BadValue"), "AdviceId": (1, "BadValue"), "MatchId": (1, "BadValue"),
-    "FunctionId": (False, "BadValue"), "VariableId": (1, "BadValue"),
+    "Value": ([], "BadValue"), "ObligationId": ({}, "BadValue"), "AdviceId": (1, "BadValue"),
+    "MatchId": (1, "BadValue"), "FunctionId": (False, "BadValue"), "VariableId": (1, "BadValue"),
     "EarliestVersion": ("1.*", "BadValue"), "LatestVersion": ("x", "BadValue"), "Match": ([], "BadValue"),
     "AllOf": ([], "BadValue"), "Rule": ({}, "BadValue"), "Children": ("", "BadValue"),
     "Version": ("1.x", "BadValue"),
@@ -45,7 +45,8 @@ STRAY = "Qqqqqqqqqqqq"
 
 @dataclass(frozen=True)
 class Put:
-    """A fault that was put in: its code, the pointer of its place, and whether that is a member's name; what is around it has no other."""
+    """A fault that was put in: its code, the pointer of its place, and whether that is a member's name; what is
+    around it has no other."""
     code: str
     pointer: str
     is_name: bool
@@ -133,11 +134,13 @@ class Faulty:
     def typed(self, pointer: str, name: str, held: dict) -> list[tuple[Put, Callable[[], None]]]:
         """Faults of the type check at the object."""
         if name == "VariableReference":
-            return [self.setting(held, "VariableId", "no-such", Put("IllTyped(UnknownVariable)", pointer, False, pointer))]
+            return [self.setting(held, "VariableId", "no-such",
+                                 Put("IllTyped(UnknownVariable)", pointer, False, pointer))]
         if name in ("Apply", "Match"):
             member = "FunctionId" if name == "Apply" else "MatchId"
             found = [self.setting(held, member, "urn:no-such:function",
-                                  Put("IllTyped(UnknownFunction)", f"{pointer}/{member}", False, f"{pointer}/{member}"))]
+                                  Put("IllTyped(UnknownFunction)", f"{pointer}/{member}", False,
+                                      f"{pointer}/{member}"))]
             takes = FUNCTIONS.get(held.get(member), [None])[0] if name == "Apply" else None
             return found + ([self.ill_typed(pointer, held, takes)] if takes and held.get("Expression") else [])
         if name == "Rule" and "Condition" in held:
@@ -170,7 +173,8 @@ class Faulty:
             renamed = {slipped if name == member else name: value for name, value in held.items()}
             held.clear()
             held.update(renamed)
-        return [(Put("UnknownMember", f"{pointer}/{slipped}", True, f"{pointer}/{member}"), change)] * (slipped not in NAMES)
+        return ([(Put("UnknownMember", f"{pointer}/{slipped}", True, f"{pointer}/{member}"), change)]
+                * (slipped not in NAMES))
 
     def wrong(self, pointer: str, held: dict, member: str) -> tuple[Put, Callable[[], None]]:
         """A member with a value that it can't have."""
@@ -192,11 +196,13 @@ class Faulty:
                        if self.random.random() < 0.05 else None)
         made.put(draft, "", self.random.choice)
         found = [(put, (made.names if put.is_name else made.values)[put.pointer]) for put in puts]
-        return made.text, found + [(Put("NotJson", made.comment_at, False, ""), made.comment)] * (made.comment_at is not None)
+        return (made.text,
+                found + [(Put("NotJson", made.comment_at, False, ""), made.comment)] * (made.comment_at is not None))
 
 
 def conflict(one: Put, other: Put) -> bool:
     """Whether one fault may hide the other."""
-    if other.code == "IllTyped(UnknownVariable)" and "/VariableDefinition/" in one.around and one.around.endswith("/VariableId"):
+    if (other.code == "IllTyped(UnknownVariable)" and "/VariableDefinition/" in one.around
+        and one.around.endswith("/VariableId")):
         return True
     return f"{one.around}/".startswith(f"{other.around}/")

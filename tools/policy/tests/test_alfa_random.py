@@ -5,7 +5,6 @@ import json
 import unittest
 from unittest import mock
 
-from .desk_tests import TOP  # noqa: F401
 from .test_random_documents import shares
 
 import agree  # noqa: E402

@@ -10,7 +10,8 @@ from unittest import mock
 from . import test_commands, test_lints, test_positions, test_random_decisions, test_random_documents, test_slips
 from .desk_tests import PROGRAM, check, faults, lints, positions, together
 
-from desk import ask, asking, cases, contradictions, coverage, explain, kinds, laid_out, made, names, setting, shapes, tracing  # noqa: E402, F401
+from desk import (  # noqa: E402
+    ask, asking, cases, contradictions, coverage, explain, kinds, laid_out, made, names, setting, shapes, tracing)
 from desk.model import policies  # noqa: E402
 
 HALF, SEEDS = 60, range(3, 9)
@@ -21,7 +22,8 @@ def nothing(*_: object, **__: object) -> None:
 
 
 def misses() -> bool:
-    """Whether the test of random documents finds something, with one seed after another: a rare kind of fault isn't among the documents of the first."""
+    """Whether the test of random documents finds something, with one seed after another: a rare kind of fault isn't
+    among the documents of the first."""
     try:
         return any(missed for seed in SEEDS for _, _, missed in test_random_documents.share(seed, HALF))
     except check.Disagreement:
@@ -45,7 +47,8 @@ def fails(case: type[unittest.TestCase], name: str) -> Callable[[], bool]:
 
 def shifted(remarks: faults.Remarks, code: str, node: positions.Node, sentence: str, **more: str) -> None:
     """A fault one letter behind its place."""
-    remarks.found.append(faults.Remark("fault", code, node.source, node.start + 1, node.end, node.pointer, sentence, **more))
+    remarks.found.append(faults.Remark("fault", code, node.source, node.start + 1, node.end, node.pointer,
+                                       sentence, **more))
 
 
 def last_first(found: list[faults.Remark]) -> str | None:
@@ -72,7 +75,8 @@ BREAKS: list[tuple[object, str, object, Callable[[], bool]]] = [
     (check, "marked", last_first, misses),
     (positions.Reader, "slip", nothing, misses),
     (explain.Explainer, "rule", lambda self, tracing, rule,
-     element: ({"element": "rule", "id": "", "target": {"is": "Match"}, "decision": "Permit", "status": "ok"}, permits()),
+     element: ({"element": "rule", "id": "", "target": {"is": "Match"}, "decision": "Permit", "status": "ok"},
+               permits()),
      unexplained),
     (explain.Explainer, "children", lambda self, tree, *_: ([], []), unexplained),
     (explain, "individuals", lambda held: [], unexplained),
@@ -91,8 +95,10 @@ BREAKS: list[tuple[object, str, object, Callable[[], bool]]] = [
     (contradictions, "empty_range", nothing, fails(test_lints.Contradictions, "test_against_all_integers")),
     (together.Together, "follow", nothing, fails(test_lints.Together, "test_circles")),
     (together.Together, "check_target", nothing, fails(test_lints.Together, "test_a_reference_that_leads_nowhere")),
-    (positions, "ESCAPES", {**positions.ESCAPES, "n": "x"}, fails(test_positions.Positions, "test_the_value_is_the_models")),
-    (positions.Source, "place", lambda self, offset: positions.Place(1, offset), fails(test_positions.Positions, "test_places")),
+    (positions, "ESCAPES", {**positions.ESCAPES, "n": "x"},
+     fails(test_positions.Positions, "test_the_value_is_the_models")),
+    (positions.Source, "place", lambda self, offset: positions.Place(1, offset),
+     fails(test_positions.Positions, "test_places")),
     (laid_out, "shown", lambda results: "", fails(test_commands.Commands, "test_ask")),
     (ask.Answer, "agrees", True, fails(test_commands.Commands, "test_a_program_that_says_otherwise")),
     (tracing.Origins, "near", lambda self, designator: [], fails(test_commands.Commands, "test_what_is_nearly_found")),

@@ -21,12 +21,14 @@ FILES = {"p.json": POLICY, "r.json": REQUEST, "rows.json": ROWS}
 ASK = ("--policy", "@p.json", "--request", "@r.json", "--at", "2026-11-23T10:00:00Z")
 LIAR = "#!/bin/sh\nwhile read -r line; do printf '%%s\\n' '%s'; done\n"
 CASES = {"Policy": "p.json", "Case": [
-    {"Name": "staff by day", "Request": json.loads(REQUEST), "At": "2026-11-23T10:00:00Z", "Decision": "Permit", "Status": "ok",
+    {"Name": "staff by day", "Request": json.loads(REQUEST), "At": "2026-11-23T10:00:00Z", "Decision": "Permit",
+     "Status": "ok",
      "Obligations": []},
     {"Name": "staff at night", "Request": "r.json", "At": "2026-11-23T20:00:00Z", "Decision": "NotApplicable"}]}
 
 
-def ask(request: str, at: str = "2026-11-23T10:00:00Z", *more: str, word: str = "ask", **files: str) -> tuple[int, str, str]:
+def ask(request: str, at: str = "2026-11-23T10:00:00Z", *more: str, word: str = "ask",
+        **files: str) -> tuple[int, str, str]:
     return run(word, "--policy", "@p.json", "--request", "@r.json", "--at", at, *more,
                files={**FILES, "r.json": request, **files})
 
@@ -39,13 +41,16 @@ class Commands(DeskTest):
                       ["ask", *ASK[:-1], "99999999999999"], ["diff", "@p.json", "@p.json"],
                       ["ask", "--policy", "@p.json", "@q.json", *ASK[2:]], ["test", "@none.json"]):
             with self.subTest(words):
-                self.assertEqual(run(*words, files={**FILES, "q.json": POLICY.replace("urn:test:shop", "urn:test:other")})[0], 2)
+                self.assertEqual(
+                    run(*words, files={**FILES, "q.json": POLICY.replace("urn:test:shop", "urn:test:other")})[0], 2)
 
     def test_check(self) -> None:
         status, written, said = run("check", "@p.json", files=FILES)
-        self.assertEqual((status, written), (0, "p.json: policy urn:test:shop 1.0: taken\n0 faults, 0 warnings, 0 notes.\n"))
+        self.assertEqual((status, written),
+                         (0, "p.json: policy urn:test:shop 1.0: taken\n0 faults, 0 warnings, 0 notes.\n"))
         self.assertIn("only the model in Python spoke", " ".join(said.split()))
-        status, written, _ = run("check", "@p.json", "--json", files={"p.json": edited(POLICY, ('"Permit"', '"Permitt"'))})
+        status, written, _ = run("check", "@p.json", "--json",
+                                 files={"p.json": edited(POLICY, ('"Permit"', '"Permitt"'))})
         self.assertEqual(status, 1)
         self.assertEqual([(one["line"], one["column"], one["pointer"], one["code"], one["nearest"], one["answered"])
                           for one in json.loads(written)],
@@ -55,11 +60,14 @@ class Commands(DeskTest):
 
     def test_a_long_chain_of_variables(self) -> None:
         chain = [{"VariableId": "100", "Expression": {"AttributeValue": {"DataType": "boolean", "Value": True}}}]
-        chain += [{"VariableId": str(name), "Expression": {"VariableReference": {"VariableId": str(name - 1)}}} for name in range(101, 947)]
+        chain += [{"VariableId": str(name), "Expression": {"VariableReference": {"VariableId": str(name - 1)}}}
+                  for name in range(101, 947)]
         condition = {"VariableReference": {"VariableId": "946"}}
         held = json.dumps({"Policy": {
-            "PolicyId": "p", "Version": "1", "RuleCombiningAlgId": "urn:oasis:names:tc:xacml:3.0:rule-combining-algorithm:deny-overrides",
-            "VariableDefinition": chain, "Rule": [{"RuleId": "", "Effect": "Permit", "Condition": condition}]}}, separators=(",", ":"))
+            "PolicyId": "p", "Version": "1",
+            "RuleCombiningAlgId": "urn:oasis:names:tc:xacml:3.0:rule-combining-algorithm:deny-overrides",
+            "VariableDefinition": chain, "Rule": [{"RuleId": "", "Effect": "Permit", "Condition": condition}]}},
+                          separators=(",", ":"))
         for word in ("ask", "explain"):
             with self.subTest(word):
                 status, written, _ = ask(REQUEST, word=word, **{"p.json": held})
@@ -68,8 +76,8 @@ class Commands(DeskTest):
 
     def test_a_program_that_says_otherwise(self) -> None:
         files = {**FILES, "cases.json": json.dumps(CASES)}
-        for words in (["check", "@p.json", "--rows", "@rows.json"], ["ask", *ASK], ["explain", *ASK], ["test", "@cases.json"],
-                      ["diff", "@p.json", "@p.json", "--requests", "@cases.json"]):
+        for words in (["check", "@p.json", "--rows", "@rows.json"], ["ask", *ASK], ["explain", *ASK],
+                      ["test", "@cases.json"], ["diff", "@p.json", "@p.json", "--requests", "@cases.json"]):
             for lie in ("!NotJson", '{"Response":[]}', "x", "\\xff"):
                 with self.subTest(words[0], lie=lie), tempfile.NamedTemporaryFile("w", delete=False) as liar:
                     liar.write(LIAR % lie)
@@ -85,27 +93,42 @@ class Commands(DeskTest):
         self.assertEqual(run("ask", *ASK, files=FILES, program="/no/such")[0], 3)
 
     def test_which_program_is_known_to_be_proved(self) -> None:
-        """One of which `policy build` or `make prove` has noted that it is of these sources, and no other."""
-        built, no_note = program.CRATE / "out" / "no-such", program.programs.NotBuilt("no toolchain")
-        with mock.patch.object(program, "PLACES", (built, built)):
-            for found, is_known in ((mock.Mock(return_value=built), True), (mock.Mock(return_value=None), False),
-                                    (mock.Mock(side_effect=no_note), False)):
-                with mock.patch.object(program.programs, "proved", found):
-                    self.assertEqual(program.warning_of(built) == "", is_known)
-                    self.assertFalse(program.is_built())
+        """One of which `policy build` or `make prove` has noted that it, as it is, is of these
+        sources, and no other."""
+        these, no_kit = (mock.Mock(return_value="these"),
+                         mock.Mock(side_effect=program.programs.NotBuilt("no toolchain")))
+        kinds = ((None, "one", these, False), ("these", "one", these, True), ("these", "another", these, False),
+                 ("others", "one", these, False), ("these", "one", no_kit, False), ("these", None, these, False))
+        with tempfile.TemporaryDirectory() as folder:
+            built = pathlib.Path(folder, "xa_trials")
+            with mock.patch.multiple(program, PLACES=(built, built), TOP=built.parent):
+                for noted, held, found, is_known in kinds:
+                    built.write_text("one", encoding="ascii")
+                    built.chmod(0o700)
+                    if noted:
+                        program.programs.note(built, noted)
+                    if held is None:
+                        built.unlink()
+                    else:
+                        built.write_text(held, encoding="ascii")
+                    patched = mock.patch.object(program.programs, "fingerprint", found)
+                    with self.subTest(noted=noted, held=held), patched:
+                        self.assertEqual(program.warning_of(built) == "", is_known)
+                        self.assertEqual(program.is_built(), is_known)
 
     def test_ask(self) -> None:
         status, written, _ = run("ask", *ASK, files=FILES)
         self.assertEqual(status, 0)
         self.assertTrue(written.startswith("Permit\n"))
-        body = '{"Response":[{"Decision":"Permit","Status":{"StatusCode":{"Value":"urn:oasis:names:tc:xacml:1.0:status:ok"}}}]}'
+        body = ('{"Response":[{"Decision":"Permit",'
+                '"Status":{"StatusCode":{"Value":"urn:oasis:names:tc:xacml:1.0:status:ok"}}}]}')
         self.assertIn(body, written)
         self.assertEqual(run("ask", *ASK, "--raw", files=FILES)[1], body + "\n")
         self.assertTrue(run("ask", *ASK[:-1], "2026-11-23T20:00:00Z", files=FILES)[1].startswith("NotApplicable\n"))
         self.assertTrue(ask(edited(REQUEST, ("alice", "thief")))[1].startswith("Deny\n"))
-        status, written, _ = run("ask", *ASK, "--rows", "@rows.json",
-                                 files={**FILES, "r.json": edited(REQUEST, ('{"AttributeId": "urn:test:role", "Value": "staff"}',
-                                 '{"AttributeId": "urn:oasis:names:tc:xacml:1.0:subject:subject-id", "Value": "alice"}'))})
+        asked = edited(REQUEST, ('"urn:test:role", "Value": "staff"',
+                                 '"urn:oasis:names:tc:xacml:1.0:subject:subject-id", "Value": "alice"'))
+        status, written, _ = run("ask", *ASK, "--rows", "@rows.json", files={**FILES, "r.json": asked})
         self.assertEqual((status, written.split("\n")[0]), (0, "Permit"))
 
     def test_requests_with_faults(self) -> None:
@@ -113,9 +136,11 @@ class Commands(DeskTest):
                                    "NotProfile", 'needs the member "AttributeId"'),
                                   (edited(REQUEST, ('"staff"', "5.5")), "NotProfile", "A number is whole here"),
                                   (edited(REQUEST, ('"staff"', '["staff", 5]')), "NotProfile", "of one kind"),
-                                  (edited(REQUEST, ('"Value": "staff"', '"Value": "x", "DataType": "integer"')), "NotProfile",
+                                  (edited(REQUEST, ('"Value": "staff"', '"Value": "x", "DataType": "integer"')),
+                                   "NotProfile",
                                    "This is no integer"),
-                                  (edited(REQUEST, ('"Value": "staff"', '"Value": "x", "DataType": "str"')), "NotProfile",
+                                  (edited(REQUEST, ('"Value": "staff"', '"Value": "x", "DataType": "str"')),
+                                   "NotProfile",
                                    'Did you mean "string"?'),
                                   (REQUEST.replace("Request", "Requst", 1), "NotProfile", 'Did you mean "Request"?'),
                                   (REQUEST[:-4], "NotJson", "ends too early")):
@@ -124,7 +149,8 @@ class Commands(DeskTest):
                 self.assertEqual(status, 1)
                 self.assertIn(f"fault {code}", written)
                 self.assertIn(words, " ".join(written.split()))
-                self.assertIn('{"Error":"NotJson"}' if code == "NotJson" else "Indeterminate  status syntax-error", written)
+                self.assertIn('{"Error":"NotJson"}'
+                              if code == "NotJson" else "Indeterminate  status syntax-error", written)
                 self.narrow(written)
 
     def test_documents_with_faults(self) -> None:
@@ -142,7 +168,8 @@ class Commands(DeskTest):
         self.narrow(written)
         status, written, _ = ask(edited(REQUEST, (',\n    {"AttributeId": "urn:test:name", "Value": "alice"}', "")),
                                  word="explain")
-        for words in ("Indeterminate{DP}", "status missing-attribute from: rule thieves, the first that is Indeterminate",
+        for words in ("Indeterminate{DP}",
+                      "status missing-attribute from: rule thieves, the first that is Indeterminate",
                       "status missing-attribute from: the condition",
                       "found nowhere; the attribute is missing, and must be present"):
             self.assertIn(words, " ".join(written.split()))
@@ -150,8 +177,9 @@ class Commands(DeskTest):
     def test_policies_that_are_named(self) -> None:
         written = " ".join(ask(REQUEST, word="explain")[1].split())
         self.assertIn("named, where ReturnPolicyIdList asks for it: policy urn:test:shop 1.0", written)
-        self.assertEqual(json.loads(ask(REQUEST, "2026-11-23T10:00:00Z", "--json", word="explain")[1])["results"][0]["names"],
-                         ["policy urn:test:shop 1.0"])
+        self.assertEqual(
+            json.loads(ask(REQUEST, "2026-11-23T10:00:00Z", "--json", word="explain")[1])["results"][0]["names"],
+            ["policy urn:test:shop 1.0"])
         self.assertNotIn("named", ask(REQUEST, "2026-11-23T20:00:00Z", word="explain")[1])
         asked = edited(REQUEST, ('{"Request": {', '{"Request": {"ReturnPolicyIdList": true, '))
         self.assertIn("\n    policy urn:test:shop 1.0\n", ask(asked)[1])
@@ -161,9 +189,11 @@ class Commands(DeskTest):
     def test_what_is_nearly_found(self) -> None:
         for old, new, words in (('"Value": "staff"', '"Value": "staff", "DataType": "anyURI"',
                                  "nearly: the request has it as an anyURI"),
-                                ('"AccessSubject": {"Attribute": [\n    {"AttributeId": "urn:test:role", "Value": "staff"},',
+                                ('"AccessSubject": {"Attribute": [\n'
+                                 '    {"AttributeId": "urn:test:role", "Value": "staff"},',
                                  '"Resource": {"Attribute": {"AttributeId": "urn:test:role", "Value": "staff"}}, '
-                                 '"AccessSubject": {"Attribute": [', "nearly: the request has it in the category Resource"),
+                                 '"AccessSubject": {"Attribute": [',
+                                 "nearly: the request has it in the category Resource"),
                                 ("urn:test:role", "urn:test:rol", "nearly: the request has it as urn:test:rol")):
             with self.subTest(words):
                 self.assertIn(words, " ".join(ask(edited(REQUEST, (old, new)), word="explain")[1].split()))
@@ -171,14 +201,16 @@ class Commands(DeskTest):
                       ('{"AttributeId": "urn:test:role", "Value": "staff"}',
                        '{"AttributeId": "urn:oasis:names:tc:xacml:1.0:subject:subject-id", "Value": "bob"}'))
         written = ask(held, "0", "--rows", "@rows.json", word="explain")[1]
-        self.assertIn('nearly: a row has it for the entity "alice", and the request names "bob"', " ".join(written.split()))
+        self.assertIn('nearly: a row has it for the entity "alice", and the request names "bob"',
+                      " ".join(written.split()))
 
     def test_rows_of_an_issuer(self) -> None:
         held = edited(REQUEST,
                       ('{"AttributeId": "urn:test:role", "Value": "staff"}',
                        '{"AttributeId": "urn:oasis:names:tc:xacml:1.0:subject:subject-id", "Value": "alice"}'))
         by_hr = edited(POLICY, ('"AttributeId": "urn:test:role",', '"AttributeId": "urn:test:role", "Issuer": "hr",'))
-        for issuer, words in (("", "nearly: a row has it without an issuer"), (', "Issuer": "it"', "nearly: a row has it by it"),
+        for issuer, words in (("", "nearly: a row has it without an issuer"),
+                              (', "Issuer": "it"', "nearly: a row has it by it"),
                               (', "Issuer": "hr"', '"staff" from the rows of "alice"')):
             rows = edited(ROWS, ('"Value": "staff"', f'"Value": "staff"{issuer}'))
             with self.subTest(words):
@@ -190,16 +222,20 @@ class Commands(DeskTest):
     def test_explanation_as_json(self) -> None:
         held = json.loads(ask(REQUEST, "2026-11-23T10:00:00Z", "--json", word="explain")[1])
         tree = held["results"][0]["tree"]
-        self.assertEqual((tree["decision"], tree["id"], tree["settled_by"]), ("Permit", "urn:test:shop", ["rule staff"]))
+        self.assertEqual((tree["decision"], tree["id"], tree["settled_by"]),
+                         ("Permit", "urn:test:shop", ["rule staff"]))
         self.assertEqual([(rule["id"], rule["decision"], rule["line"]) for rule in tree["children"]],
                          [("staff", "Permit", 14), ("thieves", "NotApplicable", 21)])
         self.assertEqual(tree["children"][0]["target"]["any_of"][0]["all_of"][0]["matches"][0]["from"], "request")
 
     def test_duties(self) -> None:
-        duty = '"ObligationExpressions": [{"ObligationId": "urn:o", "FulfillOn": "Permit", "AttributeAssignmentExpression": [{"AttributeId": "urn:who", "Expression": %s}]}],\n     "Target"'
-        given = duty % '{"AttributeDesignator": {"Category": "AccessSubject", "AttributeId": "urn:test:name", "DataType": "string", "MustBePresent": true}}'
+        duty = ('"ObligationExpressions": [{"ObligationId": "urn:o", "FulfillOn": "Permit", '
+                '"AttributeAssignmentExpression": [{"AttributeId": "urn:who", "Expression": %s}]}],\n     "Target"')
+        given = (duty % '{"AttributeDesignator": {"Category": "AccessSubject", "AttributeId": "urn:test:name", '
+                        '"DataType": "string", "MustBePresent": true}}')
         written = ask(REQUEST, word="explain", **{"p.json": edited(POLICY, ('"Target"', given))})[1]
-        for words in ("adds the obligation urn:o (line 16)", 'urn:who = "alice"', "is returned with the obligations urn:o"):
+        for words in ("adds the obligation urn:o (line 16)", 'urn:who = "alice"',
+                      "is returned with the obligations urn:o"):
             self.assertIn(words, " ".join(written.split()))
         absent = given.replace("urn:test:name", "urn:none")
         written = ask(REQUEST, word="explain", **{"p.json": edited(POLICY, ('"Target"', absent))})[1]
@@ -216,7 +252,8 @@ class Commands(DeskTest):
         self.assertIn("adds the obligation urn:b (line 24) its obligations and advice are not gathered", written)
 
     def test_a_file_doesnt_steer_the_terminal(self) -> None:
-        status, written, _ = run("check", "@p.json", files={"p.json": edited(POLICY, ('"1.0"', '"\\u001b]0;title\\u0007"'))})
+        status, written, _ = run("check", "@p.json",
+                                 files={"p.json": edited(POLICY, ('"1.0"', '"\\u001b]0;title\\u0007"'))})
         self.assertEqual(status, 1)
         self.assertNotIn("\x1b", written)
         self.assertIn("\\u001b]0;title\\u0007", written)
@@ -241,8 +278,8 @@ class Terminal(unittest.TestCase):
     def on_terminal(self, **environment: str) -> str:
         """What `check` writes to a terminal."""
         mine, its = pty.openpty()
-        ran = subprocess.Popen([str(TOP / "tools" / "policy" / "policy.py"), "check", "--program", "none", "examples/ward/policy.json"],
-                               cwd=TOP, stdout=its, stderr=subprocess.DEVNULL,
+        ran = subprocess.Popen([str(TOP / "tools" / "policy" / "policy.py"), "check", "--program", "none",
+                                "examples/ward/policy.json"], cwd=TOP, stdout=its, stderr=subprocess.DEVNULL,
                                env={**os.environ, "TERM": "xterm", **environment})
         os.close(its)
         held = b""
@@ -285,14 +322,16 @@ class Cases(DeskTest):
                 self.assertEqual(status, 1)
                 self.assertIn(words, written)
                 self.assertIn("1 ok, 1 failed", written)
-        several = {**CASES, "Case": [{"Request": "r.json", "Results": [{"Decision": "Permit"}, {"Decision": "Permit"}]}]}
+        several = {**CASES,
+                   "Case": [{"Request": "r.json", "Results": [{"Decision": "Permit"}, {"Decision": "Permit"}]}]}
         self.assertIn("expected 2 results, found 1", self.run_cases(several)[1])
 
     def test_faults_in_files_of_cases(self) -> None:
         for cases, words in ((self.changed(Decison="Deny"), 'Did you mean "Decision"?'),
                              (self.changed(Decision="Permitt"), "Did you mean Permit?"),
                              ({**CASES, "Polcy": 1}, 'Did you mean "Policy"?'),
-                             (self.changed(At="noon"), "is no dateTime"), ({"Case": []}, 'The member "Policy" is missing.')):
+                             (self.changed(At="noon"), "is no dateTime"),
+                             ({"Case": []}, 'The member "Policy" is missing.')):
             with self.subTest(words):
                 status, written, _ = self.run_cases(cases)
                 self.assertEqual(status, 1)
@@ -307,7 +346,8 @@ class Cases(DeskTest):
             path.unlink()
         suite = whole.find("testsuite")
         self.assertEqual((suite.get("tests"), suite.get("failures")), ("2", "1"))
-        self.assertEqual(suite.findall("testcase")[1].find("failure").get("message"), "expected Deny, found NotApplicable (ok)")
+        self.assertEqual(suite.findall("testcase")[1].find("failure").get("message"),
+                         "expected Deny, found NotApplicable (ok)")
 
     def test_coverage(self) -> None:
         _, written, _ = self.run_cases(CASES, "--coverage")
@@ -316,19 +356,22 @@ class Cases(DeskTest):
                       "p.json:21: condition of rule thieves: no case where it is true",
                       "2 of 5 rules, targets and conditions reached both ways"):
             self.assertIn(words, " ".join(written.split()))
-        more = [{"Request": edited_request, "Decision": decision, "At": "2026-11-23T10:00:00Z"} for edited_request, decision in (
-            (json.loads(edited(REQUEST, ("alice", "thief"))), "Deny"),
-            (json.loads(edited(REQUEST, ('"staff"', '"guest"'))), "NotApplicable"))]
+        more = [{"Request": edited_request, "Decision": decision, "At": "2026-11-23T10:00:00Z"}
+                for edited_request, decision in (
+                    (json.loads(edited(REQUEST, ("alice", "thief"))), "Deny"),
+                    (json.loads(edited(REQUEST, ('"staff"', '"guest"'))), "NotApplicable"))]
         self.assertIn("5 of 5 rules", self.run_cases({**CASES, "Case": CASES["Case"] + more}, "--coverage")[1])
 
     def test_diff(self) -> None:
         files = {**FILES, "cases.json": json.dumps(CASES), "q.json": edited(POLICY, ("17:00:00Z", "21:00:00Z"))}
         status, written, _ = run("diff", "@p.json", "@q.json", "--requests", "@cases.json", files=files)
         self.assertEqual(status, 0)
-        for words in ("staff at night at 2026-11-23T20:00:00Z", "before NotApplicable", "after Permit", "1 of 2 answers change"):
+        for words in ("staff at night at 2026-11-23T20:00:00Z", "before NotApplicable", "after Permit",
+                      "1 of 2 answers change"):
             self.assertIn(words, " ".join(written.split()))
         self.assertEqual(run("diff", "@p.json", "@q.json", "--requests", "@cases.json", "--strict", files=files)[0], 1)
-        self.assertIn("0 of 2 answers change", run("diff", "@p.json", "@p.json", "--requests", "@cases.json", files=files)[1])
+        self.assertIn("0 of 2 answers change",
+                      run("diff", "@p.json", "@p.json", "--requests", "@cases.json", files=files)[1])
 
     def test_random_requests_find_what_changes(self) -> None:
         for old, new in (("17:00:00Z", "17:00:02Z"), ('"staff"},\n        "Attr', '"stuff"},\n        "Attr'),
@@ -345,7 +388,8 @@ class Examples(DeskTest):
     """The examples of the repository, and what the desk's page shows."""
 
     def test_what_the_page_shows(self) -> None:
-        slipped = edited((TOP / "examples" / "ward" / "policy.json").read_text(encoding="utf-8"), ('"Condition"', '"Condtion"'))
+        slipped = edited((TOP / "examples" / "ward" / "policy.json").read_text(encoding="utf-8"),
+                         ('"Condition"', '"Condtion"'))
         written = run("check", "@policy.json", files={"policy.json": slipped})[1]
         page = (TOP / "tools" / "policy" / "README.md").read_text(encoding="utf-8")
         self.assertIn("".join(f"    {line}\n" for line in written.split("\n\n")[0].split("\n")), page)
@@ -360,8 +404,8 @@ class Examples(DeskTest):
         for folder, root in (("ward", "urn:example:ward:records"), ("company", "urn:example:company")):
             for request in sorted((TOP / "examples" / folder).glob("request-*.json")):
                 rows = ["--rows", "examples/ward/rows.json"] if folder == "ward" else []
-                ran = executed("explain", *program, "--policy", f"examples/{folder}", "--root", root, *rows, "--request",
-                               str(request), "--at", "2026-11-23T10:00:00Z")
+                ran = executed("explain", *program, "--policy", f"examples/{folder}", "--root", root, *rows,
+                               "--request", str(request), "--at", "2026-11-23T10:00:00Z")
                 self.assertEqual(ran.returncode, 0, ran.stdout)
                 self.narrow(ran.stdout)
 

@@ -23,7 +23,6 @@ from desk.model import documents, rows  # noqa: E402
 from desk.xml_tables import VERSION_3  # noqa: E402
 
 FILES = TOOL / "tests" / "imports"
-STRING = "http://www.w3.org/2001/XMLSchema#string"
 DENY_OVERRIDES = "urn:oasis:names:tc:xacml:3.0:rule-combining-algorithm:deny-overrides"
 PIECES = [b"<", b">", b"&", b"&#1;", b"&amp;", b"\xff", b"<!-- c -->", b"<a/>", b"x", b'"', b"<![CDATA[",
           b"\x00", b"  ", b"<?p q?>", b"\xc3\xa9"]

@@ -1,4 +1,5 @@
-"""Each lint warns of what it is for, at its place, is quiet where nothing is amiss, and can be switched off; documents together."""
+"""Each lint warns of what it is for, at its place, is quiet where nothing is amiss, and can be switched off;
+documents together."""
 from __future__ import annotations
 
 import json
@@ -31,8 +32,8 @@ def rule(name: str, effect: str, **more: object) -> dict:
 
 
 def policy(rules: list[dict], algorithm: str = DENY, **more: object) -> str:
-    return json.dumps({"Policy": {"PolicyId": "urn:p", "Version": "1", "RuleCombiningAlgId": algorithm, **more, "Rule": rules}},
-                      indent=1)
+    return json.dumps({"Policy": {"PolicyId": "urn:p", "Version": "1", "RuleCombiningAlgId": algorithm, **more,
+                                  "Rule": rules}}, indent=1)
 
 
 def policy_set(name: str, children: list[dict], algorithm: str = SETS) -> str:
@@ -47,17 +48,20 @@ def to_set(name: str) -> dict:
 A, B = match("string-equal", "string", "a"), match("string-equal", "string", "b")
 NEVER = {
     "two values": [target([[A, B]])], "two parts": [target([[A]], [[B]])],
-    "an empty range": [target([[match("integer-less-than", "integer", 5), match("integer-greater-than", "integer", 6)]])],
+    "an empty range": [target([[match("integer-less-than", "integer", 5),
+                                match("integer-greater-than", "integer", 6)]])],
     "a strict bound": [target([[match("integer-less-than", "integer", 5),
                                 match("integer-greater-than-or-equal", "integer", 5)]])],
-    "a value out of a range": [target([[match("integer-equal", "integer", 5), match("integer-less-than", "integer", 5)]])],
+    "a value out of a range": [target([[match("integer-equal", "integer", 5),
+                                        match("integer-less-than", "integer", 5)]])],
     "the greatest": [target([[match("integer-less-than", "integer", 2**63 - 1)]])],
     "nothing before the empty text": [target([[match("string-greater-than", "string", "")]])],
     "every alternative": [target([[A, B], [B, A]])],
 }
 SOMETIMES = {
     "one value": [target([[A]])], "either": [target([[A], [B]])],
-    "two attributes": [target([[A, match("string-equal", "string", "b", "urn:b")]])], "the same twice": [target([[A, A]])],
+    "two attributes": [target([[A, match("string-equal", "string", "b", "urn:b")]])],
+    "the same twice": [target([[A, A]])],
     "a range": [target([[match("integer-less-than", "integer", 5), match("integer-greater-than", "integer", 7)]])],
     "one of two": [target([[A], [B]], [[B]])],
     "at a bound": [target([[match("integer-less-than-or-equal", "integer", 5),
@@ -83,8 +87,9 @@ class Lints(DeskTest):
 
     def test_a_target_inside_another(self) -> None:
         held = policy([rule("r", "Permit", Target=target([[B]]))], Target=target([[A]]))
-        self.remark(checked(held).remarks, "never-matches", held.index("{", held.index('"Target"', held.index('"Rule"'))),
-                    "Inside the target of line", level="warning")
+        self.remark(checked(held).remarks, "never-matches",
+                    held.index("{", held.index('"Target"', held.index('"Rule"'))), "Inside the target of line",
+                    level="warning")
         self.assertEqual(self.codes(policy([rule("r", "Permit", Target=target([[A]]))], Target=target([[A], [B]]))), [])
 
     def test_idle_rules(self) -> None:
@@ -111,7 +116,8 @@ class Lints(DeskTest):
 
     def test_a_deny_rule_that_may_miss_its_attribute(self) -> None:
         held = policy([rule("r", "Deny", Target=target([[A]]))])
-        self.remark(checked(held).remarks, "may-be-missing", held.index("false"), "passed over in silence", level="warning")
+        self.remark(checked(held).remarks, "may-be-missing", held.index("false"), "passed over in silence",
+                    level="warning")
         self.assertEqual(self.codes(held.replace("false", "true")), [])
 
     def test_a_deny_condition_that_may_miss_its_attribute(self) -> None:
@@ -144,8 +150,8 @@ class Lints(DeskTest):
 
     def test_other_types(self) -> None:
         clock = edited(POLICY, (':current-time", "DataType": "time"', ':current-date", "DataType": "time"'))
-        self.remark(checked(clock).remarks, "other-type", clock.index('"time"'), "The clock gives current-date as a date",
-                    level="warning")
+        self.remark(checked(clock).remarks, "other-type", clock.index('"time"'),
+                    "The clock gives current-date as a date", level="warning")
         rows = edited(ROWS, ('"string", "Value": "staff"', '"integer", "Value": 5'))
         found = checked(POLICY, rows=rows)
         self.remark(found.remarks, "other-type", POLICY.index('"string", "MustBePresent": false'),
@@ -156,18 +162,21 @@ class Lints(DeskTest):
 
     def test_members_that_stand_twice(self) -> None:
         held = edited(POLICY, ('"Version": "1.0",', '"Version": "1.1",\n  "Version": "1.0",'))
-        self.remark(checked(held).remarks, "repeated-member", held.index('"Version"'), "the last one counts", level="warning")
+        self.remark(checked(held).remarks, "repeated-member", held.index('"Version"'), "the last one counts",
+                    level="warning")
 
     def test_each_lint_can_be_switched_off(self) -> None:
         every = policy([rule("r", "Deny", Target=target([[A, B]])),
                         rule("r", "Deny",
                              Target=target([[{**A,
-                                              "AttributeDesignator": {**A["AttributeDesignator"], "Category": "Subject"}}]]))],
+                                              "AttributeDesignator": {**A["AttributeDesignator"],
+                                                                      "Category": "Subject"}}]]))],
                        "urn:oasis:names:tc:xacml:3.0:rule-combining-algorithm:deny-unless-permit",
                        VariableDefinition=[{"VariableId": "v", "Expression": {"AttributeValue": A["AttributeValue"]}}])
         codes = self.codes(every)
         self.assertEqual(codes,
-                         ["idle-rule", "may-be-missing", "never-matches", "repeated-rule", "unknown-category", "unused-variable"])
+                         ["idle-rule", "may-be-missing", "never-matches", "repeated-rule", "unknown-category",
+                          "unused-variable"])
         for code in codes:
             self.assertEqual(self.codes(every, (code,)), [one for one in codes if one != code])
         self.assertEqual(run("check", "@p.json", "--off", "no-such", files={"p.json": every})[0], 2)
@@ -189,11 +198,13 @@ class Contradictions(unittest.TestCase):
     def test_against_all_integers(self) -> None:
         source, seen = random.Random(1), set()
         for _ in range(1500):
-            held = policy([rule("r", "Permit",
-                                Target=target([[match(f"integer-{source.choice(self.VERBS)}", "integer", source.randrange(6))
-                                                for _ in range(source.choice([1, 2, 3]))]]))])
+            held = policy([rule(
+                "r", "Permit",
+                Target=target([[match(f"integer-{source.choice(self.VERBS)}", "integer", source.randrange(6))
+                                for _ in range(source.choice([1, 2, 3]))]]))])
             matches = list(check.checked("p.json", held.encode()).document.children[0].target.matches())
-            passes = any(all(contradictions.holds(one, ("integer", value)) for one in matches) for value in range(-2, 9))
+            passes = any(all(contradictions.holds(one, ("integer", value)) for one in matches)
+                         for value in range(-2, 9))
             self.assertEqual(contradictions.contradiction(matches) is None, passes, held)
             seen.add(passes)
         self.assertEqual(seen, {True, False})
@@ -228,7 +239,8 @@ class Together(DeskTest):
 
     def test_ways_that_are_too_long(self) -> None:
         chain = [policy_set(f"urn:{place}", [to_set(f"urn:{place + 1}")] if place < 17 else []) for place in range(18)]
-        self.assertEqual(self.remarks_of(chain), [("way-too-long", "16.json/PolicySet/Children/0/PolicySetIdReference")])
+        self.assertEqual(self.remarks_of(chain),
+                         [("way-too-long", "16.json/PolicySet/Children/0/PolicySetIdReference")])
         self.assertEqual(self.remarks_of(chain[1:]), [])
 
     def test_trees_that_are_too_large(self) -> None:

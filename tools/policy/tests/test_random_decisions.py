@@ -3,7 +3,7 @@ from __future__ import annotations
 
 import unittest
 
-from .desk_tests import PROGRAM, TOP, check  # noqa: F401
+from .desk_tests import PROGRAM, check
 from .test_random_documents import shares
 
 import agree  # noqa: E402
@@ -20,11 +20,13 @@ def setting_of(row: list[str]) -> tuple[setting.Setting, bytes, int]:
     moments = [int(field[7:]) for field in row[1:-1] if field.startswith("moment:")]
     source = [decisions.row_of(field[4:]) for field in row[1:-1] if field.startswith("row:")]
     held = check.checked_rows("rows.json", route_bodies.rows_shown(source))
-    return setting.Setting(documents, root[0] if root else None, held), rows.decoded(row[-1]), moments[0] if moments else 0
+    return (setting.Setting(documents, root[0] if root else None, held), rows.decoded(row[-1]),
+            moments[0] if moments else 0)
 
 
 def share(seed: int, count: int = SHARE) -> list[tuple[list[str], list[str], str, bool]]:
-    """Random rows, each with the row that the desk asks, the model's response, and whether the explanation comes to the same."""
+    """Random rows, each with the row that the desk asks, the model's response, and whether the
+    explanation comes to the same."""
     source, found = agree.Rows(seed), []
     for _ in range(count):
         row = source.makers["decisions"]()

@@ -1,4 +1,5 @@
-"""Random documents with one to three faults at known places: each is named there, and the first of the server among them."""
+"""Random documents with one to three faults at known places: each is named there, and the first of
+the server among them."""
 from __future__ import annotations
 
 import concurrent.futures
@@ -14,7 +15,8 @@ COUNT, SHARE = 5000, 250
 def misses(found: check.Checked, puts: list) -> list[str]:
     """What the desk doesn't name at its place."""
     named = {(one.code, one.start) for one in found.remarks.faults()}
-    missed = [f"{put.code} at {put.pointer}, offset {offset}" for put, offset in puts if (put.code, offset) not in named]
+    missed = [f"{put.code} at {put.pointer}, offset {offset}"
+              for put, offset in puts if (put.code, offset) not in named]
     firsts = [one.code for one in found.remarks.faults() if one.is_first]
     return missed + [f"the server's first fault, {found.code}"] * (firsts != [found.code])
 

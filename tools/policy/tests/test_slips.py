@@ -1,4 +1,5 @@
-"""Slips that authors make: each is named at its place, in a sentence that helps, with the code that the server answers."""
+"""Slips that authors make: each is named at its place, in a sentence that helps, with the code that
+the server answers."""
 from __future__ import annotations
 
 import unittest
@@ -12,8 +13,10 @@ SLIPS = {
     "RuleCombiningAlgid": (("RuleCombiningAlgId", "RuleCombiningAlgid"), '"RuleCombiningAlgid"', "UnknownMember",
                            ['Did you mean "RuleCombiningAlgId"?']),
     "no Policy around": (('{"Policy": {', "{"), '"PolicyId"', "UnknownMember", ['put {"Policy": {..}} around']),
-    "a comment": (('"Version"', '// the first\n  "Version"'), "// the first", "NotJson", ["JSON has no comments", "Description"]),
-    "string-eq": (("1.0:function:string-equal", "1.0:function:string-eq"), f'"{FUNCTION}string-eq"', "IllTyped(UnknownFunction)",
+    "a comment": (('"Version"', '// the first\n  "Version"'), "// the first", "NotJson",
+                  ["JSON has no comments", "Description"]),
+    "string-eq": (("1.0:function:string-equal", "1.0:function:string-eq"), f'"{FUNCTION}string-eq"',
+                  "IllTyped(UnknownFunction)",
                   ['Did you mean "string-equal"?']),
     "time-in-range 1.0": (("2.0:function:time-in-range", "1.0:function:time-in-range"), f'"{FUNCTION}time-in-range"',
                           "IllTyped(UnknownFunction)",
@@ -25,10 +28,12 @@ SLIPS = {
             ['no data type "str"', 'Did you mean "string"?']),
     "Permitt": (('"Permit"', '"Permitt"'), '"Permitt"', "BadValue", ["Permit or Deny", "Did you mean Permit?"]),
     "1.x": (('"1.0"', '"1.x"'), '"1.x"', "BadValue", ["numbers with dots between, as 1.0"]),
-    "no MustBePresent": ((', "MustBePresent": false', ""), '{"Category": "AccessSubject"', "MissingMember(MustBePresent)",
+    "no MustBePresent": ((', "MustBePresent": false', ""), '{"Category": "AccessSubject"',
+                         "MissingMember(MustBePresent)",
                          ['needs the member "MustBePresent"']),
     "permit": (('"Permit"', '"permit"'), '"permit"', "BadValue", ["Did you mean Permit?"]),
-    "a policy's algorithm": (("3.0:rule-combining", "3.0:policy-combining"), '"urn:oasis:names:tc:xacml:3.0:policy-combining',
+    "a policy's algorithm": (("3.0:rule-combining", "3.0:policy-combining"),
+                             '"urn:oasis:names:tc:xacml:3.0:policy-combining',
                              "UnknownAlgorithm", ["doesn't combine rules"]),
     "a trailing comma": (('"thief"}}]}}}\n', '"thief"}}]}}},\n'), ",\n  ]\n}}", "NotJson", ["take it out"]),
     "true in quotes": (('"MustBePresent": true}}]}},\n        {', '"MustBePresent": "true"}}]}},\n        {'), '"true"',
@@ -39,12 +44,15 @@ SLIPS = {
     "an unknown variable": (('{"VariableId": "open"}}}', '{"VariableId": "opne"}}}'), '{"VariableId": "opne"}',
                             "IllTyped(UnknownVariable)", ['Did you mean "open"?']),
     "no Apply around": (('"Condition": {"Apply": {\n', '"Condition": {\n'),
-                        '"FunctionId": "urn:oasis:names:tc:xacml:1.0:function:string-equal",\n       "Expr', "UnknownMember",
+                        '"FunctionId": "urn:oasis:names:tc:xacml:1.0:function:string-equal",\n       "Expr',
+                        "UnknownMember",
                         ['put {"Apply": {..}} around']),
 }
-NO_ONE_AND_ONLY = ('{"Apply": {"FunctionId": "urn:oasis:names:tc:xacml:1.0:function:string-one-and-only",\n                    "Expression": [{"AttributeDesignator": {"Category": "AccessSubject", '
+NO_ONE_AND_ONLY = ('{"Apply": {"FunctionId": "urn:oasis:names:tc:xacml:1.0:function:string-one-and-only",\n'
+                   '                    "Expression": [{"AttributeDesignator": {"Category": "AccessSubject", '
                    '"AttributeId": "urn:test:name", "DataType": "string", "MustBePresent": true}}]}}',
-                   '{"AttributeDesignator": {"Category": "AccessSubject", "AttributeId": "urn:test:name", "DataType": "string", "MustBePresent": true}}')
+                   '{"AttributeDesignator": {"Category": "AccessSubject", "AttributeId": "urn:test:name", '
+                   '"DataType": "string", "MustBePresent": true}}')
 
 
 class Slips(DeskTest):
@@ -59,8 +67,8 @@ class Slips(DeskTest):
             with self.subTest(name):
                 held = edited(POLICY, pair)
                 if name in ("no Policy around", "no Apply around"):
-                    held = held[::-1].replace("}", "",
-                                              1)[::-1] if name == "no Policy around" else edited(held, ('"thief"}}]}}}', '"thief"}}]}}'))
+                    held = (held[::-1].replace("}", "", 1)[::-1]
+                            if name == "no Policy around" else edited(held, ('"thief"}}]}}}', '"thief"}}]}}')))
                 found = checked(held)
                 remark = self.remark(found.remarks, code, held.index(marker), *words)
                 self.assertTrue(remark.is_first, "it is the one that the server answers")
@@ -71,7 +79,8 @@ class Slips(DeskTest):
         remark = self.remark(checked(held).remarks, "IllTyped(WrongType)",
                              held.index('{"Category": "AccessSubject", "AttributeId": "urn:test:name"'),
                              "a bag of string; wrap it in string-one-and-only")
-        self.assertEqual((remark.expected, remark.found), ("a string", "a bag of string; wrap it in string-one-and-only"))
+        self.assertEqual((remark.expected, remark.found),
+                         ("a string", "a bag of string; wrap it in string-one-and-only"))
 
     def test_an_integer_where_a_function_takes_a_time(self) -> None:
         held = edited(POLICY, ('{"DataType": "time", "Value": "09:00:00Z"}', '{"DataType": "integer", "Value": 9}'))
@@ -83,7 +92,8 @@ class Slips(DeskTest):
                       ('"Condition": {"VariableReference": {"VariableId": "open"}}',
                        '"Condition": {"AttributeValue": {"DataType": "string", "Value": "yes"}}'))
         self.remark(checked(held, off=("unused-variable",)).remarks, "IllTyped(WrongType)",
-                    held.index('{"DataType": "string", "Value": "yes"}'), "A condition is a boolean, and this is a string")
+                    held.index('{"DataType": "string", "Value": "yes"}'),
+                    "A condition is a boolean, and this is a string")
 
     def test_a_category_that_is_none(self) -> None:
         held = edited(POLICY,
@@ -98,7 +108,8 @@ class Slips(DeskTest):
 
     def test_no_rules(self) -> None:
         held = POLICY[:POLICY.index(',\n  "Rule": [')] + "}}\n"
-        self.remark(checked(held).remarks, "no-rules", held.index("{", 1), "has no rules", "NotApplicable", level="warning")
+        self.remark(checked(held).remarks, "no-rules", held.index("{", 1), "has no rules", "NotApplicable",
+                    level="warning")
 
     def test_a_misspelt_member_of_a_request(self) -> None:
         held = edited(REQUEST, ("AccessSubject", "AccesSubject"))
@@ -113,7 +124,8 @@ class Slips(DeskTest):
         found = check.checked_rows("rows.json", ROWS.encode())
         lints.Lints([], found, set()).run()
         self.remark(found.remarks, "shorthand", ROWS.index('"AccessSubject"'),
-                    "is a shorthand for urn:oasis:names:tc:xacml:1.0:subject-category:access-subject", "subject-id", level="note")
+                    "is a shorthand for urn:oasis:names:tc:xacml:1.0:subject-category:access-subject", "subject-id",
+                    level="note")
 
     def test_rows_of_a_misspelt_category(self) -> None:
         held = edited(ROWS, ("AccessSubject", "AccesSubject"))
@@ -123,8 +135,8 @@ class Slips(DeskTest):
                     level="warning")
 
     def test_a_root_that_leads_nowhere(self) -> None:
-        status, written, _ = run("ask", "--policy", "@p.json", "--root", "urn:test:shp", "--request", "@r.json", "--at", "0",
-                                 files={"p.json": POLICY, "r.json": REQUEST})
+        status, written, _ = run("ask", "--policy", "@p.json", "--root", "urn:test:shp", "--request", "@r.json", "--at",
+                                 "0", files={"p.json": POLICY, "r.json": REQUEST})
         self.assertEqual(status, 1)
         self.assertIn("p.json:1:1: fault leads-nowhere", written)
         self.assertIn("Did you mean urn:test:shop?", " ".join(written.split()))
@@ -133,7 +145,8 @@ class Slips(DeskTest):
     def test_all_faults_and_not_the_first_alone(self) -> None:
         pairs = [pair for name,
                  (pair, *_) in SLIPS.items()
-                 if name in ("Condtion", "RuleCombiningAlgid", "string-eq", "9:00", "str", "Permitt", "1.x", "no MustBePresent",
+                 if name in ("Condtion", "RuleCombiningAlgid", "string-eq", "9:00", "str", "Permitt", "1.x",
+                             "no MustBePresent",
                              "a comment")]
         found = checked(edited(POLICY, *pairs))
         self.assertEqual(len(found.remarks.faults()), len(pairs))

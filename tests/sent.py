@@ -1,0 +1,54 @@
+"""Messages and replies as bytes, and what makes a domain of one policy: what tests and benchmarks send and expect."""
+
+OPERATOR = "operator-token-1"
+
+
+def message(method, path, token, body=None, more=""):
+    """The bytes of a message that shows that token."""
+    data = body if isinstance(body, bytes) else (body or "").encode()
+    length = "" if body is None else f"Content-Length: {len(data)}\r\n"
+    return f"{method} {path} HTTP/1.1\r\nAuthorization: Bearer {token}\r\n{more}{length}\r\n".encode() + data
+
+
+def reply(status, body, media="json", more=""):
+    return (f"HTTP/1.1 {status}\r\nContent-Type: application/{media}\r\nContent-Length: {len(body.encode())}\r\n"
+            f"{more}\r\n{body}".encode())
+
+
+def fault(status, code, more=""):
+    return reply(status, f'{{"Error":"{code}"}}', more=more)
+
+
+def decided(decision, status="ok"):
+    code = f'{{"StatusCode":{{"Value":"urn:oasis:names:tc:xacml:1.0:status:{status}"}}}}'
+    return reply("200 OK", f'{{"Response":[{{"Decision":"{decision}","Status":{code}}}]}}', "xacml+json")
+
+
+CREATED, DONE = reply("201 Created", "{}"), reply("200 OK", "{}")
+UNAUTHORIZED = fault("401 Unauthorized", "Unauthorized", "WWW-Authenticate: Bearer\r\n")
+BAD_HEAD, HEAD_TOO_LARGE = (fault("400 Bad Request", "BadHead"),
+                            fault("431 Request Header Fields Too Large", "HeadTooLarge"))
+EXISTS, ABSENT = fault("409 Conflict", "Exists"), fault("404 Not Found", "Absent")
+UNAVAILABLE = fault("503 Service Unavailable", "Unavailable")
+
+
+def policy_of(rules, policy_id="urn:p", version="1.0", description=None):
+    """A policy of these rules, which are JSON with commas between."""
+    told = "" if description is None else f'"Description":"{description}",'
+    return (f'{{"Policy":{{"PolicyId":"{policy_id}","Version":"{version}",{told}"RuleCombiningAlgId":'
+            f'"urn:oasis:names:tc:xacml:3.0:rule-combining-algorithm:deny-overrides","Rule":[{rules}]}}}}')
+
+
+def policy(effect="Permit", policy_id="urn:p", version="1.0", description=None):
+    """A policy of one rule, with that effect."""
+    return policy_of(f'{{"RuleId":"r","Effect":"{effect}"}}', policy_id, version, description)
+
+
+def making(name, token, text=None, operator=OPERATOR):
+    """Messages that make a domain whose root is that policy, each with its reply."""
+    at = f"/domains/{name}/pap"
+    return [(message("PUT", f"/operator/domains/{name}", operator), CREATED),
+            (message("POST", f"/operator/domains/{name}/tokens", operator, f'{{"Role":"admin","Token":"{token}"}}'),
+             DONE), (message("POST", f"{at}/policies", token, text or policy()), CREATED),
+            (message("PUT", f"{at}/policy/urn:p/1.0/active", token), DONE),
+            (message("PUT", f"{at}/root", token, '{"PolicyIdReference":{"Id":"urn:p"}}'), DONE)]
