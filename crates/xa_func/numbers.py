@@ -97,6 +97,7 @@ def main():
         return 0 if same else 1
     if not same:
         LEMMAS.write_text(wanted, encoding="utf-8")
+        print(f"wrote crates/xa_func/proofs/{LEMMAS.name}")
     return 0
 
 
