@@ -1,15 +1,13 @@
 -- Values of a type, put together and left out.
-use Rattle.std.proofs.Common.{◌≡◌, ap, sym, ◌∙◌, subst, ℕ, suc, zero, ◌-◌, ◌<◌, ◌≤◌, arith, List, [], ◌∷◌, ◌++◌, map, length, get_or, take, drop, drop-cons, append_assoc}
-use Rattle.std.proofs.lemmas.List.{take_rest, map-append}
+use Rattle.std.proofs.Common.{◌≡◌, ap, sym, ◌∙◌, subst, ℕ, suc, zero, ◌-◌, ◌<◌, ◌≤◌, arith, List, [], ◌∷◌, ◌++◌, length, get_or, take, drop, drop-cons}
+use Rattle.std.proofs.lemmas.List.{take_rest}
 use Rattle.xa_value.specs.declared.data_type.DataType.{DataType}
 use Rattle.xa_value.specs.declared.value.Value.{Value}
 use Rattle.xa_value.specs.Order.{type_of}
 use Rattle.xa_func.specs.declared.signature.Kind.{Kind}
 use Rattle.xa_func.specs.declared.signature.Kind.TheVariants as kind
 use Rattle.xa_func.specs.Signature.{kind_of}
-use Rattle.xa_bag.specs.declared.value_or_bag.ValueOrBag.{ValueOrBag}
 use Rattle.xa_bag.specs.Bag.{OfType}
-use Rattle.xa_bag.specs.ValueOrBag.{type_of_each, kind_of_each}
 
 -- one more value of the type
 pub of_type_push : (t : DataType) (vs : List Value) (v : Value) → OfType t vs → type_of v ≡ t → OfType t (vs ++ v ∷ [])
@@ -25,19 +23,6 @@ of_type_at t (w ∷ vs) (suc i) v typed is within = of_type_at t vs i v typed.1 
 -- a list is its first and the rest
 pub first_rest : {X : Type 0} (xs : List X) (x : X) → x ≡ get_or xs 0 x → 1 ≤ length xs → xs ≡ x ∷ take (length xs - 1) (drop 1 xs)
 first_rest xs x is some = drop-cons xs 0 x (omega arith) ∙ ap (λ y. y ∷ drop 1 xs) (sym is) ∙ ap (λ ys. x ∷ ys) (sym (take_rest xs 1))
-
--- what the function takes, as a value is chosen for the first argument
-pub can_choose : (can : List Kind → Type 0) (chosen pushed : List Value) (v : Value) (arguments : List ValueOrBag) (argument : ValueOrBag) (rest : List ValueOrBag)
-    → arguments ≡ argument ∷ rest → pushed ≡ chosen ++ v ∷ [] → type_of v ≡ type_of_each argument
-    → can (map kind_of chosen ++ map kind_of_each arguments) → can (map kind_of pushed ++ map kind_of_each rest)
-can_choose can chosen pushed v arguments argument rest whole put type may =
-    let kinds : map kind_of pushed ≡ map kind_of chosen ++ kind_of v ∷ [] = ap (map kind_of) put ∙ map-append kind_of chosen (v ∷ []) in
-    let e : map kind_of chosen ++ map kind_of_each arguments ≡ map kind_of pushed ++ map kind_of_each rest =
-    ap (λ a. map kind_of chosen ++ map kind_of_each a) whole
-    ∙ ap (λ t. map kind_of chosen ++ kind.Value t ∷ map kind_of_each rest) (sym type)
-    ∙ sym (append_assoc (map kind_of chosen) (kind_of v ∷ []) (map kind_of_each rest))
-    ∙ ap (λ ks. ks ++ map kind_of_each rest) (sym kinds) in
-    subst can e may
 
 -- what the function takes, with a value of the type in its place
 pub can_take : (can : List Kind → Type 0) (before after : List Kind) (v : Value) (t : DataType)

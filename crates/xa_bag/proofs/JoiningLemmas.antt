@@ -1,6 +1,5 @@
 -- Results joined one after another are the results of the whole list joined.
 use Rattle.std.proofs.Common.{◌≡◌, refl, ap, sym, ◌∙◌, subst, Bool, true, false, not, if◌then◌else◌, List, [], ◌∷◌, ◌++◌, map, append-nil, append_assoc}
-use Rattle.std.proofs.lemmas.List.{map-append}
 use Rattle.std.specs.Prelude.{Result, Ok, Err, flat_map, IsErrAnd}
 use mathlib.Core.Bool.{beq}
 use Rattle.xa_value.specs.declared.data_type.DataType.{DataType}
@@ -11,9 +10,7 @@ use Rattle.xa_value.specs.Gives.{Gives}
 use Rattle.xa_func.specs.Logic.{or_of, and_of}
 use Rattle.xa_bag.specs.declared.fault.BagFault.{BagFault}
 use Rattle.xa_bag.specs.Bag.{Contents, bag_of}
-use Rattle.xa_bag.specs.declared.value_or_bag.ValueOrBag.{ValueOrBag}
 use Rattle.xa_bag.specs.declared.value_or_bag.ValueOrBag.TheVariants as given
-use Rattle.xa_bag.specs.ValueOrBag.{values_of}
 use Rattle.xa_bag.specs.HigherOrder.{choices, EachInItsPlace, holds, with_first, collected, as_bag}
 
 -- or where the join stops at True, and where it stops at False
@@ -24,10 +21,6 @@ verdict stop rs = if stop then or_of rs else and_of rs
 abbrev pub stops_at : Bool → Bool → Bool
 stops_at true b = b
 stops_at false b = not b
-
--- what is found for each choice that begins with those chosen
-abbrev pub each_from : {R : Type 0} → (List Value → R) → List Value → List ValueOrBag → List R
-each_from f chosen arguments = map (λ vs. f (chosen ++ vs)) (choices arguments)
 
 -- of each value with the values of another list
 abbrev pub each_with : {F : Type 0} → Bool → (List Value → Result Value F) → List Value → List Value → Result Bool (BagFault F)
@@ -83,14 +76,8 @@ pub passed_on : {Y E : Type 0} (e : OrMemory E) (r : Result Y (OrMemory E)) (y :
 passed_on {Y} {E} e (Err d) y same gives = let P : OrMemory E → Type 0 = λ f. Gives {X = Y} (Err f) y in subst P (sym same) gives
 passed_on e (Ok x) y same gives = absurd same
 
--- the values of a walk from one value on, with several results each
-pub taken_next : {F : Type 0} (stop : Bool) (g : Value → List (Result Bool F)) (vs ws : List Value) (v : Value) (whole : Result Bool F)
-    → vs ≡ v ∷ ws → verdict stop (flat_map g vs) ≡ whole → then_verdict stop (verdict stop (g v)) (verdict stop (flat_map g ws)) ≡ whole
-taken_next stop g vs ws v whole taken so_far =
-    sym (verdict_append stop (g v) (flat_map g ws)) ∙ sym (ap (λ us. verdict stop (flat_map g us)) taken) ∙ so_far
-
--- and with one result each
-pub taken_one : {F : Type 0} (stop : Bool) (h : Value → Result Bool F) (vs ws : List Value) (v : Value) (whole : Result Bool F)
+-- a walk from one item on, with one result each
+pub taken_one : {X F : Type 0} (stop : Bool) (h : X → Result Bool F) (vs ws : List X) (v : X) (whole : Result Bool F)
     → vs ≡ v ∷ ws → verdict stop (map h vs) ≡ whole → then_verdict stop (h v) (verdict stop (map h ws)) ≡ whole
 taken_one stop h vs ws v whole taken so_far =
     sym (verdict_cons stop (h v) (map h ws)) ∙ sym (ap (λ us. verdict stop (map h us)) taken) ∙ so_far
@@ -140,12 +127,8 @@ none_left : {F : Type 0} (stop sought : Bool) (rs : List (Result Bool F)) (whole
 none_left true sought rs whole is none so_far = sym so_far ∙ ap (verdict true) none ∙ ap (λ b. Ok (not b)) (sym is)
 none_left false sought rs whole is none so_far = sym so_far ∙ ap (verdict false) none ∙ ap (λ b. Ok (not b)) (sym is)
 
--- of a walk with several results each, and with one
-pub none_left_of_each : {F : Type 0} (stop sought : Bool) (g : Value → List (Result Bool F)) (vs : List Value) (whole : Result Bool F)
-    → sought ≡ stop → vs ≡ [] → verdict stop (flat_map g vs) ≡ whole → whole ≡ Ok (not sought)
-none_left_of_each stop sought g vs whole is none so_far = none_left stop sought (flat_map g vs) whole is (ap (flat_map g) none) so_far
-
-pub none_left_of_one : {F : Type 0} (stop sought : Bool) (h : Value → Result Bool F) (vs : List Value) (whole : Result Bool F)
+-- of a walk with one result each
+pub none_left_of_one : {X F : Type 0} (stop sought : Bool) (h : X → Result Bool F) (vs : List X) (whole : Result Bool F)
     → sought ≡ stop → vs ≡ [] → verdict stop (map h vs) ≡ whole → whole ≡ Ok (not sought)
 none_left_of_one stop sought h vs whole is none so_far = none_left stop sought (map h vs) whole is (ap (map h) none) so_far
 
@@ -202,11 +185,11 @@ as_bag_fault : {F : Type 0} (t : DataType) (r : Result (List Value) F) (e : F) �
 as_bag_fault t (Ok vs) e same = cc
 as_bag_fault t (Err d) e same = cc
 
--- the values of a walk from one value on
-pub added_next : {F : Type 0} (xs : List Value) (g : Value → List (Result Value F)) (vs ws : List Value) (v : Value) (whole : Result (List Value) F)
-    → vs ≡ v ∷ ws → collected (map Ok xs ++ flat_map g vs) ≡ whole → collected ((map Ok xs ++ g v) ++ flat_map g ws) ≡ whole
-added_next xs g vs ws v whole taken so_far =
-    ap collected (append_assoc (map Ok xs) (g v) (flat_map g ws)) ∙ sym (ap (λ us. collected (map Ok xs ++ flat_map g us)) taken) ∙ so_far
+-- the results of a walk from one item on
+pub added_one : {X F : Type 0} (xs : List Value) (h : X → Result Value F) (vs ws : List X) (v : X) (whole : Result (List Value) F)
+    → vs ≡ v ∷ ws → collected (map Ok xs ++ map h vs) ≡ whole → collected ((map Ok xs ++ h v ∷ []) ++ map h ws) ≡ whole
+added_one xs h vs ws v whole taken so_far =
+    ap collected (append_assoc (map Ok xs) (h v ∷ []) (map h ws)) ∙ sym (ap (λ us. collected (map Ok xs ++ map h us)) taken) ∙ so_far
 
 -- a fault here is the result
 pub fault_ends : {E : Type 0} (t : DataType) (here next : List (Result Value E)) (whole : Result (List Value) E) (r : Result Contents (OrMemory E)) (e : OrMemory E)
@@ -231,41 +214,30 @@ value_added b next v found at put =
     ap (λ x. as_bag b.data_type (collected (map Ok b.values ++ x ∷ []))) at ∙ ap (as_bag b.data_type) (collected_put b.values v) ∙ ap Ok (sym put)
 
 -- where nothing is left, the values are all
-pub all_added : {E : Type 0} (t : DataType) (b : Contents) (g : Value → List (Result Value E)) (vs : List Value) (whole : Result (List Value) E)
-    → (b.data_type ≡ t) → vs ≡ [] → collected (map Ok b.values ++ flat_map g vs) ≡ whole → as_bag t whole ≡ Ok b
-all_added t b g vs whole type none so_far =
-    ap (as_bag t) (sym so_far ∙ ap (λ us. collected (map Ok b.values ++ flat_map g us)) none ∙ collected_none b.values) ∙ ap (λ s. Ok (bag_of s b.values)) (sym type)
+pub all_added : {X E : Type 0} (t : DataType) (b : Contents) (h : X → Result Value E) (vs : List X) (whole : Result (List Value) E)
+    → (b.data_type ≡ t) → vs ≡ [] → collected (map Ok b.values ++ map h vs) ≡ whole → as_bag t whole ≡ Ok b
+all_added t b h vs whole type none so_far =
+    ap (as_bag t) (sym so_far ∙ ap (λ us. collected (map Ok b.values ++ map h us)) none ∙ collected_none b.values) ∙ ap (λ s. Ok (bag_of s b.values)) (sym type)
 
 -- else the rest is still to be added
-pub rest_added : {E : Type 0} (t : DataType) (b : Contents) (here next : List (Result Value E)) (whole : Result (List Value) E)
+rest_added : {E : Type 0} (t : DataType) (b : Contents) (here next : List (Result Value E)) (whole : Result (List Value) E)
     → collected (here ++ next) ≡ whole → as_bag t (collected here) ≡ Ok b → collected (map Ok b.values ++ next) ≡ whole
 rest_added t b here next whole so_far at =
     after_values b.values next ∙ sym (collected_append here next ∙ ap (λ x. appended x (collected next)) (as_bag_values t (collected here) b at)) ∙ so_far
+
+-- under another name
+pub rest_to_add : {X E : Type 0} (t : DataType) (b : Contents) (here : List (Result Value E)) (h : X → Result Value E) (vs ws : List X) (whole : Result (List Value) E)
+    → vs ≡ ws → collected (here ++ map h vs) ≡ whole → as_bag t (collected here) ≡ Ok b → collected (map Ok b.values ++ map h ws) ≡ whole
+rest_to_add t b here h vs ws whole same so_far at =
+    sym (ap (λ us. collected (map Ok b.values ++ map h us)) same) ∙ rest_added t b here (map h vs) whole so_far at
 
 pub map_agrees : {X Y : Type 0} (f g : X → Y) → ((x : X) → f x ≡ g x) → (xs : List X) → map f xs ≡ map g xs
 map_agrees f g agree [] = refl
 map_agrees f g agree (x ∷ xs) = rw (agree x, map_agrees f g agree xs) refl
 
-map_flat_map : {X Y Z : Type 0} (f : Y → Z) (g : X → List Y) (h : X → List Z) → ((x : X) → h x ≡ map f (g x)) → (xs : List X) → flat_map h xs ≡ map f (flat_map g xs)
-map_flat_map f g h agree [] = refl
-map_flat_map f g h agree (x ∷ xs) = rw (agree x, map_flat_map f g h agree xs) (sym (map-append f (g x) (flat_map g xs)))
-
 pub map_after : {X Y Z : Type 0} (f : Y → Z) (g : X → Y) (h : X → Z) → ((x : X) → h x ≡ f (g x)) → (xs : List X) → map h xs ≡ map f (map g xs)
 map_after f g h agree [] = refl
 map_after f g h agree (x ∷ xs) = rw (agree x, map_after f g h agree xs) refl
-
--- the choices that begin with those chosen, by the value of the next argument
-chosen_next : {R : Type 0} (f : List Value → R) (chosen : List Value) (argument : ValueOrBag) (rest : List ValueOrBag)
-    → flat_map (λ v. each_from f (chosen ++ v ∷ []) rest) (values_of argument) ≡ each_from f chosen (argument ∷ rest)
-chosen_next f chosen argument rest =
-    map_flat_map (λ vs. f (chosen ++ vs)) (λ v. map (λ vs. v ∷ vs) (choices rest)) (λ v. each_from f (chosen ++ v ∷ []) rest)
-    (λ v. map_after (λ vs. f (chosen ++ vs)) (λ vs. v ∷ vs) (λ vs. f ((chosen ++ v ∷ []) ++ vs)) (λ vs. ap f (append_assoc chosen (v ∷ []) vs)) (choices rest))
-    (values_of argument)
-
-pub chosen_start : {R : Type 0} (f : List Value → R) (chosen : List Value) (arguments rest : List ValueOrBag) (argument : ValueOrBag) (vs : List Value)
-    → arguments ≡ argument ∷ rest → vs ≡ values_of argument → flat_map (λ v. each_from f (chosen ++ v ∷ []) rest) vs ≡ each_from f chosen arguments
-chosen_start f chosen arguments rest argument vs whole values =
-    ap (flat_map (λ v. each_from f (chosen ++ v ∷ []) rest)) values ∙ chosen_next f chosen argument rest ∙ ap (each_from f chosen) (sym whole)
 
 -- values alone have one choice
 one_choice : (vs : List Value) → choices (map given.Value vs) ≡ vs ∷ []

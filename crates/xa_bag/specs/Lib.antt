@@ -1,5 +1,6 @@
 pub mod Applying
 pub mod Bag
+pub mod Choosing
 pub mod Fault
 pub mod HigherOrder
 pub mod LogicAtOnce

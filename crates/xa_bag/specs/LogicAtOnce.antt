@@ -19,7 +19,7 @@ use Rattle.xa_bag.specs.ValueOrBag.{values_of, type_of_each}
 abbrev pub of_some_choice : Logic → List ValueOrBag → Result Bool FuncFault
 of_some_choice function arguments = or_of (map (logical function) (choices arguments))
 
--- with one more argument of these values, at least one: the most that are True
+-- the most that are True with one more argument, of these values; none where it has no value
 abbrev pub with_values : List Value → Option ℕ → Option ℕ
 with_values [] most = None
 with_values (v ∷ vs) most = option_map (λ n. if list_any is_true (v ∷ vs) then suc n else n) most

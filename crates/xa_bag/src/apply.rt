@@ -13,7 +13,7 @@ ghost use Rattle.xa_bag.specs.Applying.{higher_order_applied, kind_given};
 
 use crate::arguments::{one_bag, two_bags, value_and_bag};
 use crate::fault::BagFault;
-use crate::higher_order::{all_of, all_of_all, all_of_any, any_of, any_of_any};
+use crate::higher_order::{all_of, all_of_all, all_of_any, any_of};
 use crate::inner::Inner;
 use crate::value_or_bag::ValueOrBag;
 use crate::{higher_order, sets};
@@ -214,9 +214,10 @@ fn choice_by_choice<F: Inner>(
         kind_of_argument given ≡ kind_given higher_order (F.result_type function.now)) }
 {
     match higher_order {
-        HigherOrder::AnyOf => Ok(ValueOrBag::boolean(any_of(alloc, function, arguments)?)),
+        HigherOrder::AnyOf | HigherOrder::AnyOfAny => {
+            Ok(ValueOrBag::boolean(any_of(alloc, function, arguments)?))
+        }
         HigherOrder::AllOf => Ok(ValueOrBag::boolean(all_of(alloc, function, arguments)?)),
-        HigherOrder::AnyOfAny => Ok(ValueOrBag::boolean(any_of_any(alloc, function, arguments)?)),
         HigherOrder::Map => Ok(ValueOrBag::Bag(higher_order::map(alloc, function, arguments)?)),
         HigherOrder::AllOfAny => each_with_some(alloc, function, arguments),
         HigherOrder::AllOfAll => each_with_each(alloc, function, arguments),

@@ -7,20 +7,20 @@ use std::alloc::{AllocError, Global};
 use std::marker::Model;
 use xa_value::{DataType, Shared, Value};
 
-/// From how many values on those of a bag are lent.
+/// From how many values on those of a bag are lent: fewer don't repay the allocation that a share takes.
 const MANY: usize = 8;
 
 /// A bag: any number of values of one data type, in order (XACML 3.0, core, section 7.3.2). They
-/// are its own, or those that are lent to it.
+/// are its own, or its copies share them.
 #[derive(Debug, Drop)]
 pub struct Bag {
     /// The type of the values.
     data_type: DataType,
-    /// Its own values, of which there are none if others are lent to it. The list is there in either
-    /// case, since it knows the allocator that the bag was made with.
+    /// Its own values, of which there are none if they are shared. The list is there in either case,
+    /// since it knows the allocator that the bag was made with.
     own: Vec<Value>,
-    /// The values that are lent to it, which its copies share.
-    lent: Option<Shared<Vec<Value>>>,
+    /// The values that its copies share.
+    shared: Option<Shared<Vec<Value>>>,
 }
 
 impl Model for Bag {
@@ -31,10 +31,11 @@ impl Model for Bag {
 
     ghost view = { λ b. record {
       data_type = b.data_type;
-      values = option_map_or (λ values. values.items) b.lent b.own.items;
+      values = option_map_or (λ values. values.items) b.shared b.own.items;
     } };
 
-    ghost invariant = { λ b. OfType b.data_type (option_map_or (λ values. values.items) b.lent b.own.items) };
+    ghost invariant = { λ b.
+        OfType b.data_type (option_map_or (λ values. values.items) b.shared b.own.items) };
 }
 
 impl Bag {
@@ -47,23 +48,23 @@ impl Bag {
         Bag {
             data_type,
             own: Vec::new(alloc),
-            lent: None,
+            shared: None,
         }
     }
 
-    /// The same bag. From eight values on they are lent from now on: a copy of the bag takes no
-    /// time, however many there are.
+    /// The same bag. From eight values on its copies share them from now on: a copy takes no time,
+    /// however many there are.
     pub fn lent(self) -> Result<Bag, AllocError>
         ensures { IfOk result (λ bag. bag ≡ self) }
     {
-        if self.len() < MANY || self.lent.is_some() {
+        if self.len() < MANY || self.shared.is_some() {
             return Ok(self);
         }
         let alloc = self.allocator();
         Ok(Bag {
             data_type: self.data_type,
             own: Vec::new(alloc),
-            lent: Some(Shared::new(alloc, self.own)?),
+            shared: Some(Shared::new(alloc, self.own)?),
         })
     }
 
@@ -79,7 +80,7 @@ impl Bag {
         ensures values { result.now ≡ self.now.values }
         ensures of_type { OfType self.now.data_type result.now }
     {
-        match &self.lent {
+        match &self.shared {
             Some(values) => values.get().as_slice(),
             None => self.own.as_slice(),
         }
@@ -118,10 +119,10 @@ impl Bag {
         ensures ok { OnOk result (self.new ≡ bag_of self.old.data_type (self.old.values ++ value ∷ [])) }
         ensures err { OnErr result (self.new ≡ self.old) }
     {
-        match &self.lent {
+        match &self.shared {
             Some(values) => {
                 self.own = with_value(values.get(), value)?;
-                self.lent = None;
+                self.shared = None;
                 Ok(())
             }
             None => {
@@ -160,16 +161,16 @@ impl Clone for Bag {
     ghost is_clone = { λ bag copy. copy ≡ bag };
 
     fn clone(&self) -> Result<Bag, AllocError> {
-        match &self.lent {
+        match &self.shared {
             Some(values) => Ok(Bag {
                 data_type: self.data_type,
                 own: Vec::new(self.allocator()),
-                lent: Some(values.clone()?),
+                shared: Some(values.clone()?),
             }),
             None => Ok(Bag {
                 data_type: self.data_type,
                 own: self.own.clone()?,
-                lent: None,
+                shared: None,
             }),
         }
     }

@@ -10,7 +10,8 @@ use xa_value::OrMemory;
 /// Why a function of bags gives no value, where `F` says why its inner function gives none.
 #[derive(Clone, Copy, Debug, PartialEq, Eq, Error)]
 pub enum BagFault<F> {
-    /// The one value of a bag was asked for that does not have exactly one.
+    /// The one value of a bag was asked for that does not have exactly one; or all-of-any or all-of-all
+    /// was given other than two bags.
     #[error("the bag does not have exactly one value")]
     NotOne,
     /// The function that was applied to the values gave this fault.

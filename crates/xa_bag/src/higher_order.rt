@@ -1,7 +1,6 @@
 //! The higher-order functions (XACML 3.0, core, appendix A.3.12), of any inner function. Each stops
 //! at the result that decides.
-ghost use Rattle.std.specs.Prelude.{◌≡◌, List, [], ◌∷◌, ◌++◌, map, if◌then◌else◌, Ok, IfOk};
-ghost use Rattle.xa_value.specs.declared.value.Value.{Value};
+ghost use Rattle.std.specs.Prelude.{◌≡◌, [], ◌∷◌, ◌++◌, map, if◌then◌else◌, Ok, IfOk};
 ghost use Rattle.xa_value.specs.Gives.{Gives};
 ghost use Rattle.xa_value.specs.Order.{type_of};
 ghost use Rattle.xa_func.specs.declared.signature.Kind.TheVariants as kind;
@@ -13,11 +12,12 @@ ghost use Rattle.xa_bag.specs.Quantifier.{settling};
 ghost use Rattle.xa_bag.specs.ValueOrBag.{kind_of_each};
 
 use crate::bag::Bag;
+use crate::choosing::{choose_firsts, choose_next, push_copy};
 use crate::fault::BagFault;
 use crate::inner::Inner;
 use crate::quantifier::Quantifier;
 use crate::value_or_bag::ValueOrBag;
-use std::alloc::{AllocError, Global};
+use std::alloc::Global;
 use xa_value::{OrMemory, Value, map_error};
 
 /// Whether the value is True.
@@ -54,76 +54,53 @@ fn holds<F: Inner>(
     Ok(is_true(&value))
 }
 
-/// Puts a copy of the value at the end.
-pub fn push_copy(values: &mut Vec<Value>, value: &Value) -> Result<(), AllocError>
-    ensures { IfOk result (λ _. values.new.items ≡ values.old.items ++ value.now ∷ []) }
-{
-    values.push(value.clone()?)?;
-    Ok(())
-}
-
-/// Takes the last value away.
-fn drop_last(values: &mut Vec<Value>)
-    ensures { (kept : List Value) (v : Value) → values.old.items ≡ kept ++ v ∷ [] → values.new.items ≡ kept }
-{
-    values.pop();
-}
-
-/// Whether the function gives True for any or all of the choices that begin with those chosen. No
-/// choice is tried after one that settles it or gives a fault.
-#[tactic(auto, using(crate::proofs::JoiningLemmas::verdict_one))]
+/// Whether the function gives True for any or all of the choices of a value of each argument. No choice is
+/// tried after one that settles it or gives a fault.
 fn holds_of_choices<F: Inner>(
     alloc: Global,
     function: &F,
     quantifier: Quantifier,
-    chosen: &mut Vec<Value>,
     arguments: &[ValueOrBag],
 ) -> Result<bool, OrMemory<BagFault<F::Fault>>>
-    requires { F.can function.now (map kind_of chosen.old.items ++ map kind_of_each arguments.now) }
-    ensures value { let found = map (λ vs. holds (F.gives function.now) (chosen.old.items ++ vs))
-        (choices arguments.now) in
+    requires { F.can function.now (map kind_of_each arguments.now) }
+    ensures { let found = map (holds (F.gives function.now)) (choices arguments.now) in
         Gives result (if settling quantifier then or_of found else and_of found) }
-    ensures kept { IfOk result (λ _. chosen.new.items ≡ chosen.old.items) }
 {
-    let [argument, rest @ ..] = arguments else {
-        return holds(alloc, function, chosen.as_slice());
-    };
     let sought = quantifier.settling();
-    for value in argument.values() {
-        push_copy(chosen, value)?;
-        let answer = holds_of_choices(alloc, function, quantifier, chosen, rest)?;
-        drop_last(chosen);
+    let mut chosen = Vec::new(alloc);
+    let mut places = Vec::new(alloc);
+    let mut is_left = choose_firsts(arguments, &mut chosen, &mut places)?;
+    while is_left {
+        let answer = holds(alloc, function, chosen.as_slice())?;
         if answer == sought {
             return Ok(sought);
         }
+        is_left = choose_next(arguments, &mut chosen, &mut places)?;
     }
     Ok(!sought)
 }
 
-/// Puts what the function gives for each of the choices that begin with those chosen, up to the first fault.
+/// Puts what the function gives for each choice of a value of each argument, up to the first fault.
 fn results_of_choices<F: Inner>(
     alloc: Global,
     function: &F,
-    chosen: &mut Vec<Value>,
     arguments: &[ValueOrBag],
     mut results: Bag,
 ) -> Result<Bag, OrMemory<BagFault<F::Fault>>>
-    requires can { F.can function.now (map kind_of chosen.old.items ++ map kind_of_each arguments.now) }
+    requires can { F.can function.now (map kind_of_each arguments.now) }
     requires of_type { results.data_type ≡ F.result_type function.now }
     ensures value { Gives result
         (as_bag results.data_type
         (collected (map Ok results.values
-        ++ map (λ vs. outcome (F.gives function.now (chosen.old.items ++ vs))) (choices arguments.now)))) }
+        ++ map (λ vs. outcome (F.gives function.now vs)) (choices arguments.now)))) }
     ensures typed { IfOk result (λ bag. bag.data_type ≡ results.data_type) }
-    ensures kept { IfOk result (λ _. chosen.new.items ≡ chosen.old.items) }
 {
-    let [argument, further @ ..] = arguments else {
-        return push_result(alloc, function, chosen.as_slice(), results);
-    };
-    for value in argument.values() {
-        push_copy(chosen, value)?;
-        results = results_of_choices(alloc, function, chosen, further, results)?;
-        drop_last(chosen);
+    let mut chosen = Vec::new(alloc);
+    let mut places = Vec::new(alloc);
+    let mut is_left = choose_firsts(arguments, &mut chosen, &mut places)?;
+    while is_left {
+        results = push_result(alloc, function, chosen.as_slice(), results)?;
+        is_left = choose_next(arguments, &mut chosen, &mut places)?;
     }
     Ok(results)
 }
@@ -207,8 +184,8 @@ fn holds_of_both<F: Inner>(
     holds(alloc, function, arguments.as_slice())
 }
 
-/// Any-of: whether the function gives True with some value of the bag in the bag's place, if one
-/// argument is a bag.
+/// Any-of and any-of-any: whether the function gives True for some choice of a value of each argument,
+/// the last argument fastest. If one argument is a bag, it is given each of its values in the bag's place.
 pub(crate) fn any_of<F: Inner>(
     alloc: Global,
     function: &F,
@@ -217,8 +194,7 @@ pub(crate) fn any_of<F: Inner>(
     requires { F.can function.now (map kind_of_each arguments.now) }
     ensures { Gives result (any_of (F.gives function.now) arguments.now) }
 {
-    let mut chosen = Vec::new(alloc);
-    holds_of_choices(alloc, function, Quantifier::Any, &mut chosen, arguments)
+    holds_of_choices(alloc, function, Quantifier::Any, arguments)
 }
 
 /// All-of: whether the function gives True with each value of the bag in the bag's place, if one
@@ -231,21 +207,7 @@ pub(crate) fn all_of<F: Inner>(
     requires { F.can function.now (map kind_of_each arguments.now) }
     ensures { Gives result (all_of (F.gives function.now) arguments.now) }
 {
-    let mut chosen = Vec::new(alloc);
-    holds_of_choices(alloc, function, Quantifier::All, &mut chosen, arguments)
-}
-
-/// Any-of-any: whether the function gives True for some choice of a value of each argument, the
-/// last argument fastest.
-pub(crate) fn any_of_any<F: Inner>(
-    alloc: Global,
-    function: &F,
-    arguments: &[ValueOrBag],
-) -> Result<bool, OrMemory<BagFault<F::Fault>>>
-    requires { F.can function.now (map kind_of_each arguments.now) }
-    ensures { Gives result (any_of (F.gives function.now) arguments.now) }
-{
-    any_of(alloc, function, arguments)
+    holds_of_choices(alloc, function, Quantifier::All, arguments)
 }
 
 /// Map: the bag of what the function gives with each value of the bag in the bag's place, if one
@@ -260,9 +222,8 @@ pub(crate) fn map<F: Inner>(
         (bag_of_results (F.result_type function.now) (F.gives function.now) arguments.now) }
     ensures of_type { IfOk result (λ bag. bag.data_type ≡ F.result_type function.now) }
 {
-    let mut chosen = Vec::new(alloc);
     let results = Bag::new(alloc, function.result_type());
-    results_of_choices(alloc, function, &mut chosen, arguments, results)
+    results_of_choices(alloc, function, arguments, results)
 }
 
 /// All-of-any: whether for each value of the first bag the function gives True with some value of the second.

@@ -1,17 +1,19 @@
 //! Bags of values, and the bag, set and higher-order functions of XACML 3.0 (core, appendix A.3.10
 //! to A.3.12).
 //!
-//! A function is given a `value_or_bag` for each argument. `apply` takes them apart by `arguments`, and calls
-//! `sets` or `higher_order`. Sets of many values are searched as `members`, and made as `distinct`.
+//! A function is given a `value_or_bag` for each argument: a value, or a `bag` of them. `apply` takes them
+//! apart by `arguments`, and calls `sets` or `higher_order`. Sets of many values are searched as `members`,
+//! and made as `distinct`. A `fault` says why there is no value.
 //!
-//! A higher-order function calls an `inner` one for each choice, up to the one that settles its `quantifier`.
-//! A `function` of values is inner: where it can be asked at once of all choices, that is by `relation` or
-//! `logic_at_once`.
+//! A higher-order function calls an `inner` one for each choice that `choosing` finds, up to the one that
+//! settles its `quantifier`. A `function` of values is inner: where it can be asked at once of all choices,
+//! that is by `relation` or `logic_at_once`.
 #![tactic(auto)]
 
 mod apply;
 mod arguments;
 mod bag;
+mod choosing;
 mod distinct;
 mod fault;
 mod function;
@@ -26,8 +28,8 @@ mod value_or_bag;
 
 pub use apply::{apply_bag_function, apply_higher_order};
 pub use bag::Bag;
+pub use choosing::push_copy;
 pub use fault::BagFault;
-pub use higher_order::push_copy;
 pub use inner::Inner;
 pub use members::Members;
 pub use quantifier::Quantifier;

@@ -70,7 +70,7 @@ fn and_of_some_choice(arguments: &[ValueOrBag]) -> bool
 }
 
 /// Whether this many are True of so many booleans, of which so many are.
-fn are_this_many(wanted: usize, trues: usize, booleans: usize) -> Result<bool, FuncFault>
+fn are_this_many(trues: usize, booleans: usize, wanted: usize) -> Result<bool, FuncFault>
     ensures { result ≡ (if nat_lt booleans wanted then Err Position else Ok (nat_le wanted trues)) }
 {
     if wanted > booleans {
@@ -86,7 +86,7 @@ fn n_of_counted(trues: usize, booleans: usize, wanted: i64) -> Result<bool, Func
     if wanted < 0 {
         return Err(FuncFault::Position);
     }
-    are_this_many(wanted.unsigned_abs() as usize, trues, booleans)
+    are_this_many(trues, booleans, wanted.unsigned_abs() as usize)
 }
 
 /// N-of by its number as a value, if so many of so many booleans are True.

@@ -28,7 +28,7 @@ pub(crate) enum Relation {
 impl Relation {
     /// What the higher-order function gives for two bags, of the function that compares so, if
     /// it takes two bags. The work grows by the sum of the bags' sizes, of equality by that and its
-    /// logarithm.
+    /// logarithm if there is memory for keys.
     pub(crate) fn of_bags(
         self,
         higher_order: HigherOrder,
@@ -185,7 +185,8 @@ fn all_equal(first: &Bag, second: &Bag) -> bool
     let Some(other) = others.first() else {
         return true;
     };
-    // All three are asked, since the proof is by what all of them answer: no `&&` and no `||`.
+    // All three are asked, since the proof is by what all of them answer: no `&&` and no `||`. So the
+    // second bag is looked at also where the first has settled it.
     let alike = are_all(first.values(), other) & are_all(others, other);
     first.is_empty() | alike
 }
