@@ -855,7 +855,7 @@ def memory():
 
 def most_arguments():
     """A policy whose condition calls a function choice by choice, with nearly as many arguments as a document
-    holds: the evaluation goes one call deeper for each."""
+    holds. None of them may take room on the stack."""
     functions = "urn:oasis:names:tc:xacml:%s:function:"
     true = {"AttributeValue": {"DataType": "boolean", "Value": True}}
     apply = lambda function, *arguments: {"Apply": {"FunctionId": function, "Expression": arguments}}

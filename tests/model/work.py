@@ -335,16 +335,11 @@ class Charged:
 
     @staticmethod
     def units_beside_calls(verb, inner, lists):
-        """Of the arguments; where values are searched for, as often as they are compared; and of the choices that are begun, where a bag is empty."""
+        """Of the arguments; and where values are searched for, as often as they are compared."""
         whole = sum(map(units, lists))
         if verb in ("any-of-any", "all-of-any") and is_equality(inner):
             return whole * (among(min(map(len, lists))) if len(lists) == 2 else 1)
-        if all(lists):
-            return whole
-        begun, choices = 0, 1
-        for values in lists:
-            begun, choices = begun + choices * units(values), choices * len(values)
-        return begun
+        return whole
 
     def match(self, name, literal, designator):
         if is_equality(name):

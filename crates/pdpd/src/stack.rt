@@ -1,7 +1,7 @@
 //! Room on the stack.
 
-/// How many pages of the stack are touched: 2 MiB. The most that a message is known to need is 0.8, for a
-/// function that is called choice by choice with as many arguments as a document holds.
+/// How many pages of the stack are touched: 2 MiB, more than any message is known to need. What goes deeper
+/// are the levels of a JSON text, of an expression and of a policy with what it refers to.
 const PAGES: u32 = 512;
 
 /// The bytes of a page.

@@ -27,8 +27,9 @@ pub const LOOK: u64 = STEP / 4;
 /// them once more.
 pub(crate) const VALUE: u64 = 16;
 
-/// With how many values of a bag one that is searched for is compared at most: from that many on they are
-/// ordered, and then it is compared with as many as the logarithm of their number.
+/// With how many values of a bag one that is searched for is compared at most: from that many on, which is
+/// `ORDERED_FROM` of `xa_bag`, they are ordered, and then it is compared with as many as the logarithm of
+/// their number.
 const MOST_COMPARISONS: u64 = 32;
 
 /// What is left of the work that a message may ask for, in units: a byte of text or of a value that is
@@ -72,10 +73,10 @@ fn units_of_bytes(count: usize) -> u64 {
 /// The units of a value that is made, copied or compared: 16, and the bytes of its text or its binary.
 pub fn units_of(value: &Value) -> u64 {
     match value {
-        Value::String(text) => units_of_bytes(text.as_bytes().len()),
-        Value::AnyUri(text) => units_of_bytes(text.as_bytes().len()),
-        Value::HexBinary(bytes) => units_of_bytes(bytes.as_slice().len()),
-        Value::Base64Binary(bytes) => units_of_bytes(bytes.as_slice().len()),
+        Value::String(text) | Value::AnyUri(text) => units_of_bytes(text.as_bytes().len()),
+        Value::HexBinary(bytes) | Value::Base64Binary(bytes) => {
+            units_of_bytes(bytes.as_slice().len())
+        }
         _ => VALUE,
     }
 }
@@ -166,7 +167,8 @@ fn comparisons_of_all(arguments: &[ValueOrBag]) -> u64 {
 }
 
 /// The units of what a higher-order function does beside the calls of its inner function, which are
-/// counted one by one. With equality of the values of two bags it searches, and calls nothing.
+/// counted one by one: by equality any-of-any and all-of-any search; else each value of the arguments is
+/// taken once.
 pub(crate) fn units_of_higher_order(
     function: HigherOrder,
     inner: FuncId,
@@ -176,32 +178,6 @@ pub(crate) fn units_of_higher_order(
         (HigherOrder::AnyOfAny | HigherOrder::AllOfAny, FuncId::Equal(_)) => {
             units_of_arguments(arguments).saturating_mul(comparisons_of_both(arguments))
         }
-        _ => units_of_choices(arguments),
+        _ => units_of_arguments(arguments),
     }
-}
-
-/// The units of the choices of arguments that are begun and for which the inner function is not called:
-/// where one of the bags is empty, each choice of the values of those before it. Where none is, those of
-/// the arguments alone, for each beginning leads to a call.
-fn units_of_choices(arguments: &[ValueOrBag]) -> u64 {
-    if arguments
-        .iter()
-        .any(|argument| argument.values().is_empty())
-    {
-        units_of_beginnings(arguments)
-    } else {
-        units_of_arguments(arguments)
-    }
-}
-
-/// The units of all beginnings of choices of the arguments: of the values of the first, of those of the
-/// second for each of these, and so on.
-fn units_of_beginnings(arguments: &[ValueOrBag]) -> u64 {
-    let mut units = 0u64;
-    let mut choices = 1u64;
-    for argument in arguments {
-        units = units.saturating_add(choices.saturating_mul(units_of_given(argument)));
-        choices = choices.saturating_mul(argument.values().len() as u64);
-    }
-    units
 }
