@@ -47,7 +47,8 @@ same_kinds [] [] = true
 same_kinds (k ∷ ks) (l ∷ ls) = same_kind k l && same_kinds ks ls
 same_kinds _ _ = false
 
--- every argument is of the kind that belongs at its place
+-- every argument is of the kind that belongs at its place: the test of `Fits` of xa_func/specs/Signature, and below
+-- `accepted` that of `AcceptsKinds`; `accepts` of src/checking answers by both
 abbrev pub fits : Parameters → List Kind → Bool
 fits (One k) ks = same_kinds ks (k ∷ [])
 fits (Two k l) ks = same_kinds ks (k ∷ l ∷ [])

@@ -1,5 +1,5 @@
--- The type check of expressions (XACML 3.0, core, sections 5.25, 5.27 to 5.29, 5.31 and 7.4, appendix A.3): from an
--- expression as a policy has it to one whose functions and variables are found, or its first fault.
+-- The type check of expressions (XACML 3.0, core, sections 5.24, 5.25, 5.27 to 5.29, 5.31 and 7.4, appendix A.3): from
+-- an expression as a policy has it to one whose functions and variables are found, or its first fault.
 use Rattle.std.specs.Prelude.{◌≡◌, ℕ, suc, not, nat_lt, bytes_eq, if◌then◌else◌, List}
 use Rattle.std.specs.Prelude.{[], ◌∷◌, map, length, Option, Some, None, Result, Ok, Err}
 use Rattle.xa_value.specs.Gives.{◌>>=◌}

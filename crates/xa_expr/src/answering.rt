@@ -1,5 +1,5 @@
 //! What the function of a match says.
-ghost use Rattle.std.specs.Prelude.{◌≡◌, map, Ok, IfOk};
+ghost use Rattle.std.specs.Prelude.{◌≡◌, map, IfOk};
 ghost use Rattle.xa_func.specs.Application.{applied};
 ghost use Rattle.xa_func.specs.Signature.{TakesKinds, kind_of};
 ghost use Rattle.xa_expr.specs.Fault.{of_function};
@@ -21,26 +21,16 @@ pub(crate) fn answer_for(
     ensures { IfOk result (λ m. m ≡ matching_of (of_function (applied function arguments.now))) }
 {
     let answer = memory_apart(function.apply(alloc, arguments))?;
-    Ok(matching_of_answer(answer))
+    Ok(matching_of(answer))
 }
 
 /// What the function's answer says of a match.
-fn matching_of_answer(answer: Result<Value, FuncFault>) -> Matching
+fn matching_of(answer: Result<Value, FuncFault>) -> Matching
     ensures { result ≡ matching_of (of_function answer) }
 {
     match answer {
-        Ok(value) => matching_of(&value),
+        Ok(Value::Boolean(true)) => Matching::Match,
+        Ok(_) => Matching::NoMatch,
         Err(fault) => Matching::Indeterminate(Fault::with(fault.status())),
-    }
-}
-
-/// What the boolean says of a match.
-fn matching_of(value: &Value) -> Matching
-    ensures { result ≡ matching_of (Ok value.now) }
-{
-    if matches!(value, Value::Boolean(true)) {
-        Matching::Match
-    } else {
-        Matching::NoMatch
     }
 }

@@ -5,8 +5,9 @@ ghost use Rattle.xa_value.specs.declared.or_memory.OrMemory.TheVariants.{Error};
 use thiserror::Error;
 use xa_value::OrMemory;
 
-/// Why an expression or a match has no type: the first fault found, from the outside to the inside and
-/// from the first argument to the last.
+/// Why an expression or a match has no type: the first fault found. An unknown function, and too many
+/// expressions inside one another, are told before the arguments are looked at; then come the faults of
+/// the arguments from the first to the last, then their number, then their kinds.
 #[derive(Clone, Copy, Debug, PartialEq, Eq, Error)]
 pub enum CheckError {
     /// No function has this name, or none that may stand here.

@@ -23,11 +23,12 @@ use std::alloc::Global;
 use xa_func::{FuncId, HasKind, HigherOrder, Kind, Signature};
 use xa_value::{DataType, Items, OrMemory, Text};
 
-/// How many expressions may stand inside one another.
+/// How many expressions may stand inside one another: native stack is taken for each, where it is checked
+/// and where it is evaluated.
 const MAX_DEPTH: usize = 24;
 
-/// The expression with its functions and variables found, or its first fault (core, sections 5.25, 5.27
-/// to 5.29, 5.31 and appendix A.3): of an Apply that its function is unknown, then the faults of its
+/// The expression with its functions and variables found, or its first fault (core, sections 5.24, 5.25,
+/// 5.27 to 5.29, 5.31 and appendix A.3): of an Apply that its function is unknown, then the faults of its
 /// arguments from the first to the last, then their number, then their kinds. At most 24 expressions may
 /// stand inside one another. Clause `typed`: what passes has its kind under those of the variables;
 /// `unknown`: that the function of an Apply is unknown is told whatever memory there is.

@@ -121,13 +121,15 @@ fn apply_logic<'a, C: Context>(
     }
 }
 
+// The last arm of each of the next three functions is never reached: a type check lets nothing else through
+// (`MeetsNoMisfit` of specs/Misfits).
+
 /// Whether what an argument gives is True.
 fn truth(given: &ValueOrBag) -> bool
     ensures { result ≡ truth given.now }
 {
     match given {
         ValueOrBag::Value(Value::Boolean(boolean)) => *boolean,
-        // a type check lets no other through: `MeetsNoMisfit` of specs/Misfits
         _ => false,
     }
 }
@@ -138,7 +140,6 @@ fn number(given: &ValueOrBag) -> i64
 {
     match given {
         ValueOrBag::Value(Value::Integer(number)) => *number,
-        // a type check lets no other through: `MeetsNoMisfit` of specs/Misfits
         _ => 0,
     }
 }
@@ -149,7 +150,6 @@ fn value_in(given: ValueOrBag) -> Value
 {
     match given {
         ValueOrBag::Value(value) => value,
-        // a type check lets no other through: `MeetsNoMisfit` of specs/Misfits
         ValueOrBag::Bag(_) => Value::Boolean(false),
     }
 }

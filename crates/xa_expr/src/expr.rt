@@ -2,8 +2,8 @@
 use crate::designator::Designator;
 use xa_value::{Items, Text, Value};
 
-/// An expression as a policy has it (core, sections 5.25, 5.27 to 5.29, 5.31): functions and variables
-/// are there by their names.
+/// An expression as a policy has it (core, sections 5.24, 5.25, 5.27 to 5.29, 5.31): functions and
+/// variables are there by their names.
 #[derive(Debug, Drop)]
 pub enum Expr {
     /// A literal.

@@ -123,12 +123,12 @@ impl Match {
         requires { OfType self.now.designator.data_type values.now }
         ensures { IfOk result (λ m. m ≡ some_match (map (answer self.now) values.now)) }
     {
-        context.spend(STEP.saturating_add(self.units_of_calls(values)))?;
+        context.spend(STEP.saturating_add(self.units_of_asking(values)))?;
         self.found_true(alloc, values)
     }
 
     /// The units of a call for a copy of each of the values, beside one of the literal.
-    fn units_of_calls(&self, values: &[Value]) -> u64 {
+    fn units_of_asking(&self, values: &[Value]) -> u64 {
         let count = values.len() as u64;
         let literal = units_of(&self.literal);
         let arguments = literal

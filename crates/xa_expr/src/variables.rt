@@ -86,8 +86,8 @@ impl Variables {
     }
 
     /// Checks the expression under the variables so far, and puts its definition behind them. Where a
-    /// variable of the name is there already, the answer is false, whatever the expression. Then, and
-    /// where the expression has a fault, nothing changes.
+    /// variable of the name is there already, the answer is false, whatever the expression. Where the
+    /// expression has a fault, the error is that of `check`. In both cases nothing changes.
     pub fn define(
         &mut self,
         alloc: Global,

@@ -1,21 +1,18 @@
 -- Whole numbers without bound, and what of them fits 64 bits (XACML 3.0, core, appendix A.3.2).
-use Rattle.std.specs.Prelude.{Bool, ◌&&◌, if◌then◌else◌, List, [], ◌∷◌, ℤ, pos, neg_ℤ, unsigned_abs}
-use Rattle.std.specs.Prelude.{int_le, int_div, int_rem, ◌+ℤ◌, ◌-ℤ◌, ◌*ℤ◌, Result, Ok, Err}
+use Rattle.std.specs.Prelude.{if◌then◌else◌, List, [], ◌∷◌, ℤ, pos, unsigned_abs}
+use Rattle.std.specs.Prelude.{int_div, int_rem, ◌+ℤ◌, ◌-ℤ◌, ◌*ℤ◌, Result, Ok, Err}
 use Rattle.std.specs.Ordering.{int_eq}
 use Rattle.xa_func.specs.declared.func_id.Arithmetic.{Arithmetic}
 use Rattle.xa_func.specs.declared.func_id.Arithmetic.TheVariants.{Add, Multiply, Subtract, Divide, Mod}
 use Rattle.xa_func.specs.declared.fault.FuncFault.{FuncFault}
 use Rattle.xa_func.specs.declared.fault.FuncFault.TheVariants.{ZeroDivisor, Overflow}
 use Rattle.xa_value.specs.Gives.{◌>>=◌}
+use Rattle.xa_value.specs.Plain.{is_integer}
 use Rattle.xa_func.specs.Arguments.{misfit}
-
--- the number lies in 64 bits
-abbrev pub fits : ℤ → Bool
-fits z = int_le (neg_ℤ (pos 9_223_372_036_854_775_808)) z && int_le z (pos 9_223_372_036_854_775_807)
 
 -- a number outside 64 bits is a fault
 unfoldable pub within : ℤ → Result ℤ FuncFault
-within z = if fits z then Ok z else Err Overflow
+within z = if is_integer z then Ok z else Err Overflow
 
 -- truncated toward zero
 unfoldable pub quotient : ℤ → ℤ → Result ℤ FuncFault

@@ -1,4 +1,4 @@
--- Values as strings, and strings as values (XACML 3.0, core, appendix A.3.9).
+-- Strings as values (XACML 3.0, core, appendix A.3.9).
 use Rattle.std.specs.Prelude.{ℕ, List, Result, Ok, Err}
 use Rattle.xa_value.specs.declared.data_type.DataType.{DataType}
 use Rattle.xa_value.specs.declared.value.Value.{Value}

@@ -34,32 +34,32 @@ abbrev pub question : Parameters → Signature
 question parameters = of_values parameters type.Boolean
 
 -- one value of the type, and two
-abbrev pub one : DataType → Parameters
-one t = One (kind.Value t)
+abbrev pub one_value : DataType → Parameters
+one_value t = One (kind.Value t)
 
-abbrev pub pair : DataType → Parameters
-pair t = Two (kind.Value t) (kind.Value t)
+abbrev pub two_values : DataType → Parameters
+two_values t = Two (kind.Value t) (kind.Value t)
 
 -- the functions of integers
-abbrev pub integers : Arithmetic → Parameters
-integers arithmetic.Add = AtLeast 2 (kind.Value type.Integer)
-integers arithmetic.Multiply = AtLeast 2 (kind.Value type.Integer)
-integers arithmetic.Subtract = pair type.Integer
-integers arithmetic.Divide = pair type.Integer
-integers arithmetic.Mod = pair type.Integer
+abbrev pub arithmetic_parameters : Arithmetic → Parameters
+arithmetic_parameters arithmetic.Add = AtLeast 2 (kind.Value type.Integer)
+arithmetic_parameters arithmetic.Multiply = AtLeast 2 (kind.Value type.Integer)
+arithmetic_parameters arithmetic.Subtract = two_values type.Integer
+arithmetic_parameters arithmetic.Divide = two_values type.Integer
+arithmetic_parameters arithmetic.Mod = two_values type.Integer
 
 -- the functions of booleans
-abbrev pub booleans : Logic → Parameters
-booleans logic.Or = AtLeast 0 (kind.Value type.Boolean)
-booleans logic.And = AtLeast 0 (kind.Value type.Boolean)
-booleans logic.NOf = OneAndMore (kind.Value type.Integer) (kind.Value type.Boolean)
-booleans logic.Not = one type.Boolean
+abbrev pub logic_parameters : Logic → Parameters
+logic_parameters logic.Or = AtLeast 0 (kind.Value type.Boolean)
+logic_parameters logic.And = AtLeast 0 (kind.Value type.Boolean)
+logic_parameters logic.NOf = OneAndMore (kind.Value type.Integer) (kind.Value type.Boolean)
+logic_parameters logic.Not = one_value type.Boolean
 
 -- the functions that give a text
-abbrev pub texts : TextFunction → Parameters
-texts text.NormalizeSpace = one type.String
-texts text.Concatenate = AtLeast 2 (kind.Value type.String)
-texts text.Substring = Three (kind.Value type.String) (kind.Value type.Integer) (kind.Value type.Integer)
+abbrev pub text_parameters : TextFunction → Parameters
+text_parameters text.NormalizeSpace = one_value type.String
+text_parameters text.Concatenate = AtLeast 2 (kind.Value type.String)
+text_parameters text.Substring = Three (kind.Value type.String) (kind.Value type.Integer) (kind.Value type.Integer)
 
 -- a value of the first type, moved by one of the second
 abbrev pub moving : DataType → DataType → Signature
@@ -84,15 +84,15 @@ bag_signature bag.SetEquals t = question (Two (kind.Bag t) (kind.Bag t))
 
 -- the table of all functions
 abbrev pub signature_of : FuncId → Signature
-signature_of (function.Equal t) = question (pair t)
-signature_of (function.Compare c t) = question (pair (ordered_type t))
-signature_of (function.Arithmetic f) = of_values (integers f) type.Integer
-signature_of function.IntegerAbs = of_values (one type.Integer) type.Integer
-signature_of (function.Logic f) = question (booleans f)
-signature_of (function.Text f) = of_values (texts f) type.String
+signature_of (function.Equal t) = question (two_values t)
+signature_of (function.Compare c t) = question (two_values (ordered_type t))
+signature_of (function.Arithmetic f) = of_values (arithmetic_parameters f) type.Integer
+signature_of function.IntegerAbs = of_values (one_value type.Integer) type.Integer
+signature_of (function.Logic f) = question (logic_parameters f)
+signature_of (function.Text f) = of_values (text_parameters f) type.String
 signature_of (function.Part p t) = question (Two (kind.Value type.String) (kind.Value (text_type t)))
-signature_of (function.StringFrom t) = of_values (one (printed_type t)) type.String
-signature_of (function.FromString t) = of_values (one type.String) (printed_type t)
+signature_of (function.StringFrom t) = of_values (one_value (printed_type t)) type.String
+signature_of (function.FromString t) = of_values (one_value type.String) (printed_type t)
 signature_of (function.Move m d) = move_signature m
 signature_of function.TimeInRange =
     question (Three (kind.Value type.Time) (kind.Value type.Time) (kind.Value type.Time))

@@ -44,8 +44,8 @@ fn equal(data_type: DataType, arguments: &[Value]) -> Result<Value, FuncFault>
     Ok(Value::Boolean(left.same(right)))
 }
 
-/// How two values of the type lie in their order. The type is of the contract alone.
-fn compare(
+/// Whether two values of the type lie in their order as asked. The type is of the contract alone.
+fn lies_as_asked(
     comparison: Comparison,
     ordered: OrderedType,
     arguments: &[Value],
@@ -135,8 +135,8 @@ fn n_true(arguments: &[Value]) -> Result<Value, FuncFault>
     Ok(Value::Boolean(n_of(integer_of(wanted), booleans)?))
 }
 
-/// A text, made of others.
-fn compose(
+/// A text, made of the arguments.
+fn give_text(
     alloc: Global,
     function: TextFunction,
     arguments: &[Value],
@@ -179,7 +179,7 @@ fn string_substring(alloc: Global, arguments: &[Value]) -> Result<Value, OrMemor
 }
 
 /// Whether the first text stands in the second.
-fn find_part(place: TextPart, text_type: TextType, arguments: &[Value]) -> Result<Value, FuncFault>
+fn is_part(place: TextPart, text_type: TextType, arguments: &[Value]) -> Result<Value, FuncFault>
     requires { AcceptsKinds (signature_of (function_id.Part place text_type)) (map kind_of arguments.now) }
     ensures value { result ≡ applied (function_id.Part place text_type) arguments.now }
     ensures typed { IfOk result (IsResult (signature_of (function_id.Part place text_type))) }
@@ -263,12 +263,14 @@ impl FuncId {
     {
         match self {
             FuncId::Equal(data_type) => Ok(equal(data_type, arguments)?),
-            FuncId::Compare(comparison, ordered) => Ok(compare(comparison, ordered, arguments)?),
+            FuncId::Compare(comparison, ordered) => {
+                Ok(lies_as_asked(comparison, ordered, arguments)?)
+            }
             FuncId::Arithmetic(function) => Ok(calculate(function, arguments)?),
             FuncId::IntegerAbs => Ok(integer_abs(arguments)?),
             FuncId::Logic(function) => Ok(decide(function, arguments)?),
-            FuncId::Text(function) => compose(alloc, function, arguments),
-            FuncId::Part(place, text_type) => Ok(find_part(place, text_type, arguments)?),
+            FuncId::Text(function) => give_text(alloc, function, arguments),
+            FuncId::Part(place, text_type) => Ok(is_part(place, text_type, arguments)?),
             FuncId::StringFrom(printed) => string_from(alloc, printed, arguments),
             FuncId::FromString(printed) => from_string(alloc, printed, arguments),
             FuncId::Move(moved, direction) => Ok(move_by(moved, direction, arguments)?),

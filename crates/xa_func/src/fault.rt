@@ -19,7 +19,7 @@ pub enum FuncFault {
     /// A text that is not of the data type.
     #[error("the text is not of this data type")]
     BadText,
-    /// A place outside the text, or a number of arguments that is not there.
+    /// A place outside the text; or, of n-of, a number below 0 or above that of its booleans.
     #[error("the position is outside the text or the arguments")]
     Position,
     /// A day outside the years 1 to 9999.

@@ -9,7 +9,7 @@ use xa_value::DataType;
 pub enum FuncId {
     /// Whether two values of the type are equal.
     Equal(DataType),
-    /// How two values of the type lie in their order.
+    /// Whether two values of the type lie in their order as asked.
     Compare(Comparison, OrderedType),
     /// A function of integers, from left to right.
     Arithmetic(Arithmetic),

@@ -61,7 +61,7 @@ impl BagFunction {
     ];
 }
 
-/// The functions that stand alone, and are not of a family over types.
+/// The functions that are listed one by one: they stand alone, or their family is small.
 const SINGLE: [FuncId; 32] = [
     FuncId::Arithmetic(Arithmetic::Add),
     FuncId::Arithmetic(Arithmetic::Multiply),
@@ -140,7 +140,7 @@ fn from_string_named(uri: &str) -> Option<FuncId>
 }
 
 /// The comparison of this sort that the text names.
-fn comparison_named(comparison: Comparison, uri: &str) -> Option<FuncId>
+fn comparison_of_sort(comparison: Comparison, uri: &str) -> Option<FuncId>
     ensures { result ≡ find (names uri.now) (map (function_id.Compare comparison) OrderedType.ALL) }
 {
     OrderedType::ALL
@@ -150,12 +150,12 @@ fn comparison_named(comparison: Comparison, uri: &str) -> Option<FuncId>
 }
 
 /// The comparison of one of these sorts that the text names.
-fn compare_named(comparisons: &[Comparison], uri: &str) -> Option<FuncId>
+fn comparison_of_sorts(comparisons: &[Comparison], uri: &str) -> Option<FuncId>
     ensures { result
         ≡ find (names uri.now) (flat_map (λ c. map (function_id.Compare c) OrderedType.ALL) comparisons.now) }
 {
     for comparison in comparisons {
-        if let Some(function) = comparison_named(*comparison, uri) {
+        if let Some(function) = comparison_of_sort(*comparison, uri) {
             return Some(function);
         }
     }
@@ -163,7 +163,7 @@ fn compare_named(comparisons: &[Comparison], uri: &str) -> Option<FuncId>
 }
 
 /// The function of this sort, of bags, that the text names.
-fn bag_function_named(function: BagFunction, uri: &str) -> Option<FuncId>
+fn bag_function_of_sort(function: BagFunction, uri: &str) -> Option<FuncId>
     ensures { result ≡ find (names uri.now) (map (function_id.Bag function) DataType.ALL) }
 {
     DataType::ALL
@@ -173,12 +173,12 @@ fn bag_function_named(function: BagFunction, uri: &str) -> Option<FuncId>
 }
 
 /// The function of one of these sorts, of bags, that the text names.
-fn bag_named(functions: &[BagFunction], uri: &str) -> Option<FuncId>
+fn bag_function_of_sorts(functions: &[BagFunction], uri: &str) -> Option<FuncId>
     ensures { result
         ≡ find (names uri.now) (flat_map (λ f. map (function_id.Bag f) DataType.ALL) functions.now) }
 {
     for function in functions {
-        if let Some(found) = bag_function_named(*function, uri) {
+        if let Some(found) = bag_function_of_sort(*function, uri) {
             return Some(found);
         }
     }
@@ -204,9 +204,9 @@ impl FuncId {
         if let Some(function) = from_string_named(uri) {
             return Some(function);
         }
-        if let Some(function) = compare_named(&Comparison::ALL, uri) {
+        if let Some(function) = comparison_of_sorts(&Comparison::ALL, uri) {
             return Some(function);
         }
-        bag_named(&BagFunction::ALL, uri)
+        bag_function_of_sorts(&BagFunction::ALL, uri)
     }
 }

@@ -1,8 +1,9 @@
 //! What each function takes and gives.
 ghost use Rattle.std.specs.Prelude.{◌≡◌, slice_get};
 ghost use Rattle.xa_func.specs.Signature.{takes, kind_at, IsByPlaces, of_values, question, type_of_kind};
-ghost use Rattle.xa_func.specs.Signature.{of_each, result_type_of, one, pair, integers, booleans};
-ghost use Rattle.xa_func.specs.Signature.{texts, moving, move_signature, bag_signature, signature_of};
+ghost use Rattle.xa_func.specs.Signature.{of_each, result_type_of, one_value, two_values};
+ghost use Rattle.xa_func.specs.Signature.{arithmetic_parameters, logic_parameters, text_parameters};
+ghost use Rattle.xa_func.specs.Signature.{moving, move_signature, bag_signature, signature_of};
 
 use crate::func_id::{Arithmetic, BagFunction, FuncId, HigherOrder, Logic, Moved, TextFunction};
 use xa_value::DataType;
@@ -89,18 +90,27 @@ impl FuncId {
         ensures { result ≡ signature_of self }
     {
         match self {
-            FuncId::Equal(data_type) => question(pair(data_type)),
-            FuncId::Compare(_, ordered) => question(pair(ordered.data_type())),
-            FuncId::Arithmetic(function) => of_values(integers(function), DataType::Integer),
-            FuncId::IntegerAbs => of_values(one(DataType::Integer), DataType::Integer),
-            FuncId::Logic(function) => question(booleans(function)),
-            FuncId::Text(function) => of_values(texts(function), DataType::String),
+            FuncId::Equal(data_type) => question(two_values(data_type)),
+            FuncId::Compare(_, ordered) => question(two_values(ordered.data_type())),
+            FuncId::Arithmetic(function) => of_values(
+                arithmetic_parameters(function),
+                DataType::Integer,
+            ),
+            FuncId::IntegerAbs => of_values(one_value(DataType::Integer), DataType::Integer),
+            FuncId::Logic(function) => question(logic_parameters(function)),
+            FuncId::Text(function) => of_values(text_parameters(function), DataType::String),
             FuncId::Part(_, text) => question(Parameters::Two(
                 STRING,
                 Kind::Value(text.data_type()),
             )),
-            FuncId::StringFrom(printed) => of_values(one(printed.data_type()), DataType::String),
-            FuncId::FromString(printed) => of_values(one(DataType::String), printed.data_type()),
+            FuncId::StringFrom(printed) => of_values(
+                one_value(printed.data_type()),
+                DataType::String,
+            ),
+            FuncId::FromString(printed) => of_values(
+                one_value(DataType::String),
+                printed.data_type(),
+            ),
             FuncId::Move(moved, _) => move_signature(moved),
             FuncId::TimeInRange => question(Parameters::Three(TIME, TIME, TIME)),
             FuncId::Bag(function, data_type) => bag_signature(function, data_type),
@@ -124,46 +134,48 @@ fn question(parameters: Parameters) -> Signature
 }
 
 /// One value of the type.
-fn one(data_type: DataType) -> Parameters
-    ensures { result ≡ one data_type }
+fn one_value(data_type: DataType) -> Parameters
+    ensures { result ≡ one_value data_type }
 {
     Parameters::One(Kind::Value(data_type))
 }
 
 /// Two values of the type.
-fn pair(data_type: DataType) -> Parameters
-    ensures { result ≡ pair data_type }
+fn two_values(data_type: DataType) -> Parameters
+    ensures { result ≡ two_values data_type }
 {
     Parameters::Two(Kind::Value(data_type), Kind::Value(data_type))
 }
 
 /// What a function of integers takes from left to right.
-fn integers(function: Arithmetic) -> Parameters
-    ensures { result ≡ integers function }
+fn arithmetic_parameters(function: Arithmetic) -> Parameters
+    ensures { result ≡ arithmetic_parameters function }
 {
     match function {
         Arithmetic::Add | Arithmetic::Multiply => Parameters::AtLeast(2, INTEGER),
-        Arithmetic::Subtract | Arithmetic::Divide | Arithmetic::Mod => pair(DataType::Integer),
+        Arithmetic::Subtract | Arithmetic::Divide | Arithmetic::Mod => {
+            two_values(DataType::Integer)
+        }
     }
 }
 
 /// What a function of booleans takes.
-fn booleans(function: Logic) -> Parameters
-    ensures { result ≡ booleans function }
+fn logic_parameters(function: Logic) -> Parameters
+    ensures { result ≡ logic_parameters function }
 {
     match function {
         Logic::Or | Logic::And => Parameters::AtLeast(0, BOOLEAN),
         Logic::NOf => Parameters::OneAndMore(INTEGER, BOOLEAN),
-        Logic::Not => one(DataType::Boolean),
+        Logic::Not => one_value(DataType::Boolean),
     }
 }
 
 /// What a function that gives a text takes.
-fn texts(function: TextFunction) -> Parameters
-    ensures { result ≡ texts function }
+fn text_parameters(function: TextFunction) -> Parameters
+    ensures { result ≡ text_parameters function }
 {
     match function {
-        TextFunction::NormalizeSpace => one(DataType::String),
+        TextFunction::NormalizeSpace => one_value(DataType::String),
         TextFunction::Concatenate => Parameters::AtLeast(2, STRING),
         TextFunction::Substring => Parameters::Three(STRING, INTEGER, INTEGER),
     }
@@ -174,17 +186,14 @@ fn move_signature(moved: Moved) -> Signature
     ensures { result ≡ move_signature moved }
 {
     match moved {
-        Moved::DateTimeByDayTime => moved_signature(DataType::DateTime, DataType::DayTimeDuration),
-        Moved::DateTimeByYearMonth => moved_signature(
-            DataType::DateTime,
-            DataType::YearMonthDuration,
-        ),
-        Moved::DateByYearMonth => moved_signature(DataType::Date, DataType::YearMonthDuration),
+        Moved::DateTimeByDayTime => moving(DataType::DateTime, DataType::DayTimeDuration),
+        Moved::DateTimeByYearMonth => moving(DataType::DateTime, DataType::YearMonthDuration),
+        Moved::DateByYearMonth => moving(DataType::Date, DataType::YearMonthDuration),
     }
 }
 
-/// A value of a type, moved by one of the other.
-fn moved_signature(data_type: DataType, duration: DataType) -> Signature
+/// A function that gives a value of a type, moved by one of the other.
+fn moving(data_type: DataType, duration: DataType) -> Signature
     ensures { result ≡ moving data_type duration }
 {
     of_values(

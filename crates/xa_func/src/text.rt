@@ -92,11 +92,11 @@ pub(crate) fn substring(
 ) -> Result<Text, OrMemory<FuncFault>>
     ensures { Gives result (substring text.now begin end) }
 {
-    let characters = characters(alloc, text)?;
-    let last = end_of(end, characters.len());
-    if !is_range(begin, last, characters.len()) {
+    let all = characters(alloc, text)?;
+    let last = end_of(end, all.len());
+    if !is_range(begin, last, all.len()) {
         return Err(FuncFault::Position.into());
     }
-    let part = &characters[begin as usize..last as usize];
+    let part = &all[begin as usize..last as usize];
     Ok(text_of_characters(alloc, part)?)
 }

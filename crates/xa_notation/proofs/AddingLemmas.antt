@@ -12,7 +12,7 @@ use Rattle.xa_expr.specs.Defining.{defined, may_be_defined, with_last}
 use Rattle.xa_expr.specs.Variables.{is_defined}
 use Rattle.xa_policy.specs.declared.duty.DutyExpressions.{DutyExpressions}
 use Rattle.xa_policy.specs.declared.rule.Rule.{Rule}
-use Rattle.xa_policy.specs.Adding.{duties_set, no_expressions, set_duties_set, set_with_duties, with_rules}
+use Rattle.xa_policy.specs.Adding.{duties_of_set_replaced, duties_replaced, no_expressions, set_with_duties, with_rules}
 use Rattle.xa_policy.specs.Checking.{checked_duties}
 use Rattle.xa_policy.specs.Policy.{PolicyParts, SetParts}
 use Rattle.xa_notation.specs.declared.document.Document.{Document}
@@ -65,19 +65,19 @@ set_of s target duties = record { key = s.key; algorithm = s.algorithm; target =
 pub policy_built : (p : WrittenPolicy)
     → typed_policy p
     ≡ (typed_target p.target >>= (λ target. typed_variables [] p.variables >>= (λ variables.
-    with_typed_rules (policy_of p target variables [] no_expressions) p.rules >>= (λ policy. duties_set policy p.duties))))
+    with_typed_rules (policy_of p target variables [] no_expressions) p.rules >>= (λ policy. duties_replaced policy p.duties))))
 unfolding typed_policy
 policy_built p = by_parts (typed_target p.target) (typed_variables [] p.variables) where
   by_rules : (target : Target) (variables : List Definition) (rules : Result (List (Rule Typed)) CheckError)
       → (rules >>= (λ rs. checked_duties variables p.duties >>= (λ ds. Ok (policy_of p target variables rs ds))))
-      ≡ (rules >>= (λ rs. Ok (with_rules (policy_of p target variables [] no_expressions) rs)) >>= (λ policy. duties_set policy p.duties))
+      ≡ (rules >>= (λ rs. Ok (with_rules (policy_of p target variables [] no_expressions) rs)) >>= (λ policy. duties_replaced policy p.duties))
   by_rules target variables (Ok rs) = refl
   by_rules target variables (Err e) = refl
 
   by_parts : (target : Result Target CheckError) (variables : Result (List Definition) CheckError)
       → (target >>= (λ t. variables >>= (λ vs. collected (map (typed_rule vs) p.rules) >>= (λ rs. checked_duties vs p.duties >>= (λ ds.
       Ok (policy_of p t vs rs ds))))))
-      ≡ (target >>= (λ t. variables >>= (λ vs. with_typed_rules (policy_of p t vs [] no_expressions) p.rules >>= (λ policy. duties_set policy p.duties))))
+      ≡ (target >>= (λ t. variables >>= (λ vs. with_typed_rules (policy_of p t vs [] no_expressions) p.rules >>= (λ policy. duties_replaced policy p.duties))))
   by_parts (Ok t) (Ok vs) = by_rules t vs (collected (map (typed_rule vs) p.rules))
   by_parts (Ok t) (Err e) = refl
   by_parts (Err e) variables = refl
@@ -86,7 +86,7 @@ policy_built p = by_parts (typed_target p.target) (typed_variables [] p.variable
 pub set_built : (s : WrittenSet) (children : List (Result Document CheckError))
     → typed_set s children
     ≡ (typed_target s.target >>= (λ target. collected children >>= (λ typed.
-    set_duties_set (set_of s target no_expressions) s.duties >>= (λ set. Ok (document.PolicySet set typed)))))
+    duties_of_set_replaced (set_of s target no_expressions) s.duties >>= (λ set. Ok (document.PolicySet set typed)))))
 unfolding typed_set
 set_built s children = by_parts (typed_target s.target) (collected children) (checked_duties [] s.duties) where
   by_parts : (target : Result Target CheckError) (typed : Result (List Document) CheckError) (duties : Result (DutyExpressions Typed) CheckError)

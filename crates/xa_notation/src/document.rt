@@ -4,9 +4,9 @@ ghost use Rattle.xa_value.specs.Gives.{Gives, answered};
 ghost use Rattle.xa_notation.specs.Document.{document_as_written, document_of, or_ill_typed, typed_document};
 ghost use Rattle.xa_notation.specs.Typing.{typed_tree as tree_typed};
 
+use crate::document_shape::written_document;
 use crate::json::json;
 use crate::notation_error::NotationError;
-use crate::policy_set::written_document;
 use crate::typing::typed_tree;
 use crate::written::{WrittenDocument, WrittenTree};
 use std::alloc::{AllocError, Global};
@@ -38,8 +38,9 @@ pub struct Parsed {
 }
 
 impl Parsed {
-    /// The document that the text is (XACML 3.0, core, section 5), or its first fault: its size, then
-    /// its JSON, then its shape from the outside to the inside, and then its types.
+    /// The document that the text is (XACML 3.0, core, section 5), or its first fault: TooLarge of more
+    /// than 65,536 bytes, then NotJson, then those of its shape from the outside to the inside, and then
+    /// IllTyped.
     #[tactic(auto, unfolding(crate::specs::Document::document_of))]
     pub fn read(alloc: Global, text: &[u8]) -> Result<Parsed, OrMemory<NotationError>>
         ensures value { Gives result (document_of text.now) }
@@ -48,7 +49,7 @@ impl Parsed {
         if text.len() > MAX_DOCUMENT_BYTES {
             return Err(NotationError::TooLarge.into());
         }
-        typed_document(alloc, document_written(alloc, text)?)
+        typed_document(alloc, document_as_written(alloc, text)?)
     }
 
     /// Whether it is a policy or a policy set.
@@ -93,15 +94,18 @@ impl Parsed {
 }
 
 /// The document as the text writes it, of which no JSON is left.
-fn document_written(alloc: Global, text: &[u8]) -> Result<WrittenDocument, OrMemory<NotationError>>
+fn document_as_written(
+    alloc: Global,
+    text: &[u8],
+) -> Result<WrittenDocument, OrMemory<NotationError>>
     ensures { Gives result (document_as_written text.now) }
 {
     let value = json(alloc, text)?;
     written_document(alloc, &value)
 }
 
-/// The typed tree of the document.
-fn document_tree(alloc: Global, tree: WrittenTree) -> Result<Document, OrMemory<NotationError>>
+/// The typed tree of the document; the fault is IllTyped.
+fn tree_or_ill_typed(alloc: Global, tree: WrittenTree) -> Result<Document, OrMemory<NotationError>>
     ensures { Gives result (or_ill_typed (tree_typed tree)) }
 {
     map_error(typed_tree(alloc, tree), NotationError::IllTyped)
@@ -115,7 +119,7 @@ fn typed_document(
     ensures { Gives result (typed_document written) }
 {
     let WrittenDocument { key, tree } = written;
-    let document = document_tree(alloc, tree)?;
+    let document = tree_or_ill_typed(alloc, tree)?;
     let DocumentKey { kind, id, version } = key;
     Ok(Parsed {
         kind,

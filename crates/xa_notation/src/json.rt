@@ -210,7 +210,7 @@ pub fn items(value: &Json) -> Result<&[Json], NotationError>
 }
 
 /// The items of an array that may be left out, and has none then; the fault is BadValue.
-pub(crate) fn items_if_any<'a>(value: Option<&'a Json>) -> Result<&'a [Json], NotationError>
+pub(crate) fn items_if_any(value: Option<&Json>) -> Result<&[Json], NotationError>
     ensures { result_map_both (λ vs. items_view vs.now) (λ e. e) result
         ≡ items_if_any (option_map (λ v. view v.now) value.entry) }
 {

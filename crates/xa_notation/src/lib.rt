@@ -2,17 +2,19 @@
 //! messages that administer a domain.
 //!
 //! `document` reads a text in two steps. First its shape: `json` reads objects by the tables of members in
-//! `tables` and `member`; `policy_set` reads the whole document, and goes down by `policy`, `rule`,
-//! `target`, `variables` and `duties` to `expression`, `attribute` and `plain_members`, with `algorithm` for
-//! names. What it gives is `written`. Then its types: `typing` makes policies and policy sets of it.
+//! `tables` and `member`; `document_shape` reads the whole document, and goes down by `policy_set`,
+//! `reference`, `policy`, `rule`, `target`, `variables` and `duties` to `expression`, `attribute` and
+//! `plain_members`, with `algorithm` for names. What it gives is `written`. Then its types: `typing` makes
+//! policies and policy sets of it.
 //!
-//! `root_body` and `token_body`, with `token`, read the bodies. `reading` is what a crate above reads a
-//! further object by.
+//! `root_body` and `token_body`, with `token`, read the bodies. By `reading` crates above read objects of
+//! their own.
 #![tactic(auto)]
 
 mod algorithm;
 mod attribute;
 mod document;
+mod document_shape;
 mod duties;
 mod expression;
 mod json;
@@ -22,6 +24,7 @@ mod plain_members;
 mod policy;
 mod policy_set;
 pub mod reading;
+mod reference;
 mod root_body;
 mod rule;
 mod tables;

@@ -8,95 +8,51 @@ use std::fmt;
 /// documents are named as in the XML schema of XACML 3.0 (core, section 5).
 #[derive(Clone, Copy, Debug, PartialEq, Eq)]
 pub enum Member {
-    /// `Policy`.
     Policy,
-    /// `PolicySet`.
     PolicySet,
-    /// `PolicyIdReference`.
     PolicyIdReference,
-    /// `PolicySetIdReference`.
     PolicySetIdReference,
-    /// `PolicyId`.
     PolicyId,
-    /// `PolicySetId`.
     PolicySetId,
-    /// `Version`.
     Version,
-    /// `RuleCombiningAlgId`.
     RuleCombiningAlgId,
-    /// `PolicyCombiningAlgId`.
     PolicyCombiningAlgId,
-    /// `Description`.
     Description,
-    /// `Target`.
     Target,
-    /// `VariableDefinition`.
     VariableDefinition,
-    /// `Rule`.
     Rule,
     /// The content of a policy set, in order: this project's own name.
     Children,
-    /// `ObligationExpressions`.
     ObligationExpressions,
-    /// `AdviceExpressions`.
     AdviceExpressions,
-    /// `Id`.
     Id,
-    /// `EarliestVersion`.
     EarliestVersion,
-    /// `LatestVersion`.
     LatestVersion,
-    /// `RuleId`.
     RuleId,
-    /// `Effect`.
     Effect,
-    /// `Condition`.
     Condition,
-    /// `AnyOf`.
     AnyOf,
-    /// `AllOf`.
     AllOf,
-    /// `Match`.
     Match,
-    /// `MatchId`.
     MatchId,
-    /// `AttributeValue`.
     AttributeValue,
-    /// `AttributeDesignator`.
     AttributeDesignator,
-    /// `VariableId`.
     VariableId,
-    /// `Expression`.
     Expression,
-    /// `Apply`.
     Apply,
-    /// `Function`.
     Function,
-    /// `VariableReference`.
     VariableReference,
-    /// `DataType`.
     DataType,
-    /// `Value`.
     Value,
-    /// `Category`.
     Category,
-    /// `AttributeId`.
     AttributeId,
-    /// `MustBePresent`.
     MustBePresent,
-    /// `Issuer`.
     Issuer,
-    /// `FunctionId`.
     FunctionId,
-    /// `ObligationId`.
     ObligationId,
-    /// `FulfillOn`.
     FulfillOn,
-    /// `AdviceId`.
     AdviceId,
-    /// `AppliesTo`.
     AppliesTo,
-    /// `AttributeAssignmentExpression`.
     AttributeAssignmentExpression,
     /// What a token may do: this project's own name.
     Role,

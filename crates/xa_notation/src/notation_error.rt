@@ -1,4 +1,4 @@
-//! Why a text is no document.
+//! Why a text is no document, or no body that administers a domain.
 ghost use Rattle.std.specs.Prelude.{◌≡◌};
 ghost use Rattle.xa_value.specs.declared.or_memory.OrMemory.TheVariants.{Error};
 
@@ -7,8 +7,8 @@ use thiserror::Error;
 use xa_expr::CheckError;
 use xa_value::OrMemory;
 
-/// Why a text is no document: the first fault, of the text, then of the members of its objects from the
-/// outside to the inside, and then of the types of its expressions.
+/// Why a text is no document, or no body that administers a domain: the first fault, of the text, then of
+/// the members of its objects from the outside to the inside, and then of the types of its expressions.
 #[derive(Clone, Copy, Debug, PartialEq, Eq, Error)]
 pub enum NotationError {
     /// The text is not JSON.

@@ -1,54 +1,28 @@
-//! Policy sets, their children, and whole documents.
+//! Policy sets and their children.
 ghost use Rattle.std.specs.Prelude.{◌≡◌};
 ghost use Rattle.serde_json.specs.View.{items_view, view};
 ghost use Rattle.xa_value.specs.Gives.{Gives};
 ghost use Rattle.xa_notation.specs.Json.{each};
-ghost use Rattle.xa_notation.specs.Shape.{child_named, document_named, reference, too_deep, written_child};
-ghost use Rattle.xa_notation.specs.Shape.{written_document, written_set_of, written_set_within};
+ghost use Rattle.xa_notation.specs.Shape.{child_named, too_deep, written_child};
+ghost use Rattle.xa_notation.specs.Shape.{written_set_of, written_set_within};
 
 use crate::duties::written_duties;
-use crate::json::{
-    check_members, chosen_member, items_if_any, member_at, needed_member, text_copy,
-};
+use crate::json::{check_members, chosen_member, items_if_any, member_at, needed_member};
 use crate::member::Member;
 use crate::notation_error::NotationError;
-use crate::plain_members::{
-    check_description, id, optional_pattern, optional_version, policy_algorithm, version,
-};
+use crate::plain_members::{check_description, id, policy_algorithm, version};
 use crate::policy::written_policy;
+use crate::reference::reference;
 use crate::tables::{Choice, Object};
 use crate::target::written_target;
-use crate::written::{WrittenDocument, WrittenSet, WrittenSetWithChildren, WrittenTree};
+use crate::written::{WrittenSet, WrittenSetWithChildren, WrittenTree};
 use serde_json::Value as Json;
 use std::alloc::Global;
-use xa_policy::{DocumentKey, DocumentKind, Reference};
+use xa_policy::{DocumentKey, DocumentKind};
 use xa_value::{Items, OrMemory};
 
 /// How many policy sets may stand inside one another.
-const MAX_SETS: usize = 8;
-
-/// A reference (XACML 3.0, core, sections 5.10 and 5.11).
-#[tactic(auto, unfolding(crate::specs::Shape::reference))]
-pub(crate) fn reference(
-    alloc: Global,
-    kind: DocumentKind,
-    value: &Json,
-) -> Result<Reference, OrMemory<NotationError>>
-    ensures { Gives result (reference kind (view value.now)) }
-{
-    check_members(value, Object::Reference)?;
-    let id = text_copy(alloc, needed_member(value, Member::Id)?)?;
-    let pattern = optional_pattern(member_at(value, Member::Version))?;
-    let earliest = optional_version(member_at(value, Member::EarliestVersion))?;
-    let latest = optional_version(member_at(value, Member::LatestVersion))?;
-    Ok(Reference {
-        kind,
-        id,
-        version: pattern,
-        earliest,
-        latest,
-    })
-}
+pub(crate) const MAX_SETS: usize = 8;
 
 /// Children in which at most `depth` policy sets stand inside one another.
 #[cycle(sets)]
@@ -153,7 +127,7 @@ fn too_deep(value: &Json) -> NotationError
 /// A policy set in which at most `depth` stand inside one another, it being one of them.
 #[cycle(sets)]
 #[tactic(auto, unfolding(crate::specs::Shape::written_set_within))]
-fn written_set_within(
+pub(crate) fn written_set_within(
     alloc: Global,
     value: &Json,
     depth: usize,
@@ -164,31 +138,4 @@ fn written_set_within(
         return Err(too_deep(value).into());
     }
     written_set_of(alloc, value, depth - 1)
-}
-
-/// The document that stands under the member's name.
-fn document_named(
-    alloc: Global,
-    name: Member,
-    value: &Json,
-) -> Result<WrittenDocument, OrMemory<NotationError>>
-    ensures { Gives result (document_named name (view value.now)) }
-{
-    match name {
-        Member::Policy => Ok(written_policy(alloc, value)?.into_document()?),
-        Member::PolicySet => Ok(written_set_within(alloc, value, MAX_SETS)?.into_document()?),
-        _ => Err(NotationError::UnknownMember.into()),
-    }
-}
-
-/// A whole document.
-#[tactic(auto, unfolding(crate::specs::Shape::written_document))]
-pub(crate) fn written_document(
-    alloc: Global,
-    value: &Json,
-) -> Result<WrittenDocument, OrMemory<NotationError>>
-    ensures { Gives result (written_document (view value.now)) }
-{
-    let name = chosen_member(value, Choice::Document)?;
-    document_named(alloc, name, needed_member(value, name)?)
 }

@@ -1,5 +1,5 @@
 //! How an object of this notation is read from JSON: first its members by its table, and then their
-//! values in table order. It is what a further object of a crate above is read by.
+//! values in table order. Crates above read objects of their own by it (`xa_decide`, rows).
 
 pub use crate::attribute::literal;
 pub use crate::json::{

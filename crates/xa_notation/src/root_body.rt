@@ -7,7 +7,7 @@ ghost use Rattle.xa_notation.specs.Bodies.{chosen_root, root, root_named, root_o
 use crate::json::{chosen_member, json, member_count, needed_member};
 use crate::member::Member;
 use crate::notation_error::NotationError;
-use crate::policy_set::reference;
+use crate::reference::reference;
 use crate::tables::Choice;
 use serde_json::Value as Json;
 use std::alloc::Global;

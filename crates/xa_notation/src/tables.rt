@@ -1,5 +1,5 @@
 //! The tables of members: which members each object has.
-ghost use Rattle.std.specs.Prelude.{◌≡◌, bytes_eq};
+ghost use Rattle.std.specs.Prelude.{◌≡◌, Some, bytes_eq, slice_get};
 ghost use Rattle.xa_notation.specs.Tables.{alternatives_of, first_of, member_of, members_of, name_of};
 
 use crate::member::Member;
@@ -224,9 +224,10 @@ impl Choice {
     }
 
     /// The first of them, which is named where none is there.
-    #[tactic(auto, unfolding(crate::specs::Tables::first_of))]
+    #[tactic(auto, unfolding(crate::specs::Tables::alternatives_of, crate::specs::Tables::first_of))]
     pub(crate) fn first(self) -> Member
-        ensures { result ≡ first_of self }
+        ensures value { result ≡ first_of self }
+        ensures head { slice_get (alternatives_of self) 0 ≡ Some result }
     {
         match self {
             Choice::Document => Member::Policy,

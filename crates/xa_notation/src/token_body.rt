@@ -23,7 +23,7 @@ pub struct NewToken {
     pub token: Text,
 }
 
-/// The role of the name.
+/// The role of the name; the fault is BadValue.
 #[tactic(auto, unfolding(crate::specs::Bodies::role_named))]
 fn role_named(text: &str) -> Result<Role, NotationError>
     ensures { result ≡ role_named text.now }
@@ -42,7 +42,7 @@ fn role(value: &Json) -> Result<Role, NotationError>
     role_named(text(value)?)
 }
 
-/// A copy of a text that is a token.
+/// A copy of a text that is a token; the fault is BadValue.
 fn token(alloc: Global, value: &Json) -> Result<Text, OrMemory<NotationError>>
     ensures { Gives result (token (view value.now)) }
 {

@@ -38,8 +38,8 @@ fn typed_matches(
     ensures { Gives result (collected (map typed_match written)) }
 {
     let mut typed = Items::new(alloc);
-    for one in written.into_vec() {
-        typed.push(typed_match(one)?)?;
+    for written_match in written.into_vec() {
+        typed.push(typed_match(written_match)?)?;
     }
     Ok(typed)
 }
@@ -53,8 +53,8 @@ fn typed_all_of(
     ensures { Gives result (collected (map typed_all_of written)) }
 {
     let mut typed = Items::new(alloc);
-    for one in written.into_vec() {
-        let matches = typed_matches(alloc, one.matches)?;
+    for all_of in written.into_vec() {
+        let matches = typed_matches(alloc, all_of.matches)?;
         typed.push(AllOf { matches })?;
     }
     Ok(typed)
@@ -69,8 +69,8 @@ fn typed_any_of(
     ensures { Gives result (collected (map typed_any_of written)) }
 {
     let mut typed = Items::new(alloc);
-    for one in written.into_vec() {
-        let all_of = typed_all_of(alloc, one.all_of)?;
+    for any_of in written.into_vec() {
+        let all_of = typed_all_of(alloc, any_of.all_of)?;
         typed.push(AnyOf { all_of })?;
     }
     Ok(typed)
@@ -93,8 +93,8 @@ fn typed_variables(
     ensures { Gives result (typed_variables [] written) }
 {
     let mut variables = Variables::new(alloc);
-    for one in written.into_vec() {
-        let WrittenVariable { name, expression } = one;
+    for variable in written.into_vec() {
+        let WrittenVariable { name, expression } = variable;
         variables.define(alloc, name, &expression)?;
     }
     Ok(variables)

@@ -20,7 +20,7 @@ use Rattle.xa_policy.specs.declared.linked.Linked.TheFolds.{fold-roll-Linked, ma
 use Rattle.xa_policy.specs.declared.linked.Linked.TheOpen.{Linked-F}
 use Rattle.xa_policy.specs.declared.rule.Rule.{Rule}
 use Rattle.xa_policy.specs.declared.verdict.Verdict.{Verdict}
-use Rattle.xa_policy.specs.Duties.{Found, effect_of, own_duties}
+use Rattle.xa_policy.specs.Duties.{DutyLists, effect_of, own_duties}
 use Rattle.xa_policy.specs.Evaluation.{by_target, combination, evaluated, linked_step, policy_value, rule_child, set_value, under_indeterminate, verdict}
 use Rattle.xa_policy.specs.Policy.{PolicyParts, SetParts}
 use Rattle.xa_policy.specs.Rule.{condition_value, outcome, rule_value, with_found, with_own, with_own_of}
@@ -53,7 +53,7 @@ unfolding combination
 combination_tidy a children = λ h. rw h refl
 
 -- with obligations and advice of its own
-found_tidy : (f : Effect) (e : Verdict) (found : Result Found Fault) → effect_of e.decision ≡ Some f → IsTidy (with_found f e found)
+found_tidy : (f : Effect) (e : Verdict) (found : Result DutyLists Fault) → effect_of e.decision ≡ Some f → IsTidy (with_found f e found)
 found_tidy f e (Ok found) g = λ h. cc
 found_tidy f e (Err fault) g = λ h. refl
 

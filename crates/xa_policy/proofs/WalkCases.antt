@@ -1,5 +1,5 @@
 -- What the children so far come to with those behind them, where none of those so far ends the evaluation: case by case.
-use Rattle.std.proofs.Common.{◌≡◌, true, false, if◌then◌else◌, List, [], ◌∷◌, Option, Some, None, is_some, unwrap_or, refl, ap, sym, ◌∙◌}
+use Rattle.std.proofs.Common.{◌≡◌, true, false, not, if◌then◌else◌, List, [], ◌∷◌, Option, Some, None, is_some, unwrap_or, refl, ap, sym, ◌∙◌}
 use Rattle.std.specs.Option.{option_or}
 use Rattle.xa_func.specs.declared.status.Status.{Status}
 use Rattle.xa_func.specs.declared.status.Status.TheVariants.{Ok}
@@ -9,7 +9,7 @@ use Rattle.xa_policy.specs.declared.decision.Decision.{Decision}
 use Rattle.xa_policy.specs.declared.decision.Decision.TheVariants.{Permit, Deny, NotApplicable, IndeterminatePermit, IndeterminateDeny, IndeterminateDenyPermit}
 use Rattle.xa_policy.specs.declared.decision.Effect.{Effect}
 use Rattle.xa_policy.specs.declared.decision.Effect.TheVariants as effect
-use Rattle.xa_policy.specs.Combining.{is, not_is, is_indeterminate, deny_overrides, permit_overrides, deny_unless_permit, permit_unless_deny, first_applicable}
+use Rattle.xa_policy.specs.Combining.{is, is_indeterminate, deny_overrides, permit_overrides, deny_unless_permit, permit_unless_deny, first_applicable}
 use Rattle.xa_policy.specs.Duties.{effect_of}
 use Rattle.xa_policy.specs.Evaluation.{ends}
 use Rattle.xa_policy.specs.Effect.{decision_with}
@@ -64,7 +64,7 @@ open_not_ended OrderedDenyOverrides so_far fault so = so
 open_not_ended OrderedPermitOverrides so_far fault so = so
 open_not_ended DenyUnlessPermit so_far fault so = ap (is Permit) so
 open_not_ended PermitUnlessDeny so_far fault so = ap (is Deny) so
-open_not_ended FirstApplicable so_far fault so = ap (not_is NotApplicable) so.0
+open_not_ended FirstApplicable so_far fault so = ap (λ (d : Decision). not (is NotApplicable d)) so.0
 open_not_ended OnlyOneApplicable so_far fault so = absurd so
 
 -- the decision where there are no more children
@@ -209,7 +209,7 @@ overrides_open effect.Deny IndeterminateDenyPermit IndeterminatePermit g h = ref
 overrides_open effect.Deny IndeterminateDenyPermit IndeterminateDeny g h = refl
 overrides_open effect.Deny IndeterminateDenyPermit IndeterminateDenyPermit g h = refl
 
-passed_open : (d : Decision) (s : Status) → not_is NotApplicable d ≡ false → fault_with d s ≡ None
+passed_open : (d : Decision) (s : Status) → not (is NotApplicable d) ≡ false → fault_with d s ≡ None
 passed_open Permit s h = cc
 passed_open Deny s h = cc
 passed_open NotApplicable s h = refl
@@ -253,7 +253,7 @@ settled_status effect.Deny fault IndeterminatePermit s faults h = cc
 settled_status effect.Deny fault IndeterminateDeny s faults h = cc
 settled_status effect.Deny fault IndeterminateDenyPermit s faults h = cc
 
-first_status : (d : Decision) (s : Status) (faults : List (Option Status)) → not_is NotApplicable d ≡ true →
+first_status : (d : Decision) (s : Status) (faults : List (Option Status)) → not (is NotApplicable d) ≡ true →
     status_of (first_applicable (d ∷ [])) (None ∷ fault_with d s ∷ faults) ≡ status_with (first_applicable (d ∷ [])) (fault_with d s)
 unfolding first_applicable
 first_status Permit s faults h = refl
@@ -369,7 +369,7 @@ only_effect effect.Deny IndeterminatePermit f g h i = cc
 only_effect effect.Deny IndeterminateDeny f g h i = cc
 only_effect effect.Deny IndeterminateDenyPermit f g h i = cc
 
-no_effect : (d f : Decision) → not_is NotApplicable d ≡ false → is_some (effect_of d) ≡ true → is d f ≡ is_some (effect_of f)
+no_effect : (d f : Decision) → not (is NotApplicable d) ≡ false → is_some (effect_of d) ≡ true → is d f ≡ is_some (effect_of f)
 no_effect Permit f g i = cc
 no_effect Deny f g i = cc
 no_effect NotApplicable f g i = cc

@@ -10,7 +10,7 @@ use Rattle.xa_policy.specs.declared.combining.Child.{Child}
 use Rattle.xa_policy.specs.declared.decision.Decision.{Decision}
 use Rattle.xa_policy.specs.declared.verdict.Verdict.{Verdict}
 use Rattle.xa_policy.specs.Combining.{combined_decision, decision_of, deny_overrides, permit_overrides, is, is_indeterminate}
-use Rattle.xa_policy.specs.Duties.{Found, and_then, effect_of, no_duties}
+use Rattle.xa_policy.specs.Duties.{DutyLists, and_then, effect_of, no_duties}
 use Rattle.xa_policy.specs.Evaluation.{child_of, combination, duties_of_all, ends, up_to}
 use Rattle.xa_policy.specs.Status.{EvaluatedChild, fault_of, status_of}
 use Rattle.xa_policy.specs.Walk.{IsByDecisions, decided, decision_of_none, ended, ending_decision, fault_in, joined, joined_decision, of_none, walked, walked_decision, with_next}
@@ -18,10 +18,10 @@ use Rattle.xa_policy.proofs.DutyLemmas.{and_then_none, and_then_assoc}
 use Rattle.xa_policy.proofs.WalkCases.{IsOpen, decision_with_ending, decision_with_more, decision_with_next, decision_with_no_more, ending_same, ending_status, first_fault_joined, is_itself, is_not_other, is_the_effect, next_open, none_open, open_not_ended}
 
 -- a decision with its status and its duties
-abbrev made : Decision → Status → Found → Verdict
+abbrev made : Decision → Status → DutyLists → Verdict
 made d s found = record { decision = d; status = s; duties = found }
 
-same_made : (d e : Decision) (s t : Status) (f g : Found) → d ≡ e → s ≡ t → f ≡ g → made d s f ≡ made e t g
+same_made : (d e : Decision) (s t : Status) (f g : DutyLists) → d ≡ e → s ≡ t → f ≡ g → made d s f ≡ made e t g
 same_made d e s t f g = λ i j k. cc
 
 -- the decisions of the children
@@ -29,10 +29,10 @@ abbrev decisions : List EvaluatedChild → List Decision
 decisions children = map decision_of (map child_of children)
 
 -- the duties so far, and those of the children behind that are evaluated and decide the same
-abbrev taken : Alg → Decision → List EvaluatedChild → Found
+abbrev taken : Alg → Decision → List EvaluatedChild → DutyLists
 taken a d children = duties_of_all (filter (λ c. is d c.value.decision) (up_to (λ c. ends a c.value.decision) children))
 
-abbrev duties_with_more : Alg → Found → Decision → List EvaluatedChild → Found
+abbrev duties_with_more : Alg → DutyLists → Decision → List EvaluatedChild → DutyLists
 duties_with_more a so_far d children =
     if is_some (effect_of d) then and_then (if ends a d then no_duties else so_far) (taken a d children) else no_duties
 
@@ -44,18 +44,18 @@ abbrev with_more : Combination → List EvaluatedChild → Verdict
 with_more so_far children = by_decision so_far children (decision_with_more so_far.algorithm so_far.decision (decisions children))
 
 -- no more: the duties are those so far
-no_more_duties : (a : Alg) (d : Decision) (so_far : Found) → ends a d ≡ false →
+no_more_duties : (a : Alg) (d : Decision) (so_far : DutyLists) → ends a d ≡ false →
     (if is_some (effect_of d) then so_far else no_duties) ≡ duties_with_more a so_far d []
-no_more_duties a d so_far h = rw h (ap (λ (found : Found). if is_some (effect_of d) then found else no_duties) (sym (and_then_none so_far)))
+no_more_duties a d so_far h = rw h (ap (λ (found : DutyLists). if is_some (effect_of d) then found else no_duties) (sym (and_then_none so_far)))
 
 no_more : (so_far : Combination) → IsOpen so_far.algorithm so_far.decision so_far.fault → decided so_far ≡ with_more so_far []
 no_more so_far so =
-    ap (λ (found : Found). made so_far.decision (status_of so_far.decision (so_far.fault ∷ [])) found)
+    ap (λ (found : DutyLists). made so_far.decision (status_of so_far.decision (so_far.fault ∷ [])) found)
     (no_more_duties so_far.algorithm so_far.decision so_far.duties (open_not_ended so_far.algorithm so_far.decision so_far.fault so))
     ∙ ap (by_decision so_far []) (sym (decision_with_no_more so_far.algorithm so_far.decision so_far.fault so))
 
 -- the next ends it: the duties are its own
-ending_duties : (a : Alg) (d : Decision) (so_far : Found) (c : EvaluatedChild) (children : List EvaluatedChild) → ends a c.value.decision ≡ true →
+ending_duties : (a : Alg) (d : Decision) (so_far : DutyLists) (c : EvaluatedChild) (children : List EvaluatedChild) → ends a c.value.decision ≡ true →
     (is_some (effect_of d) ≡ true → d ≡ c.value.decision) → (b : Bool) → is_some (effect_of d) ≡ b →
     (if is_some (effect_of d) then c.value.duties else no_duties) ≡ duties_with_more a so_far d (c ∷ children)
 ending_duties a d so_far c children h same false i = rw i refl
@@ -75,7 +75,7 @@ ending so_far c children so h =
     (sym (decision_with_ending so_far.algorithm so_far.decision so_far.fault c.value.decision (decisions children) so h))
 
 -- the next doesn't end it: its duties, where it has an effect, are behind those so far
-next_duties : (a : Alg) (d : Decision) (so_far : Found) (c : EvaluatedChild) (children : List EvaluatedChild) → IsByDecisions a → ends a c.value.decision ≡ false →
+next_duties : (a : Alg) (d : Decision) (so_far : DutyLists) (c : EvaluatedChild) (children : List EvaluatedChild) → IsByDecisions a → ends a c.value.decision ≡ false →
     (b : Bool) → is_some (effect_of d) ≡ b → (there : Bool) → ends a d ≡ there → (its : Bool) → is_some (effect_of c.value.decision) ≡ its →
     duties_with_more a (if is_some (effect_of c.value.decision) then and_then so_far c.value.duties else so_far) d children ≡ duties_with_more a so_far d (c ∷ children)
 next_duties a d so_far c children by h false i there j its k = rw i refl
@@ -125,7 +125,7 @@ all_duties a d children false h = rw h refl
 
 all : (a : Alg) (d : Decision) (children : List EvaluatedChild) →
     by_decision (of_none a) children d ≡ made d (status_of d (map fault_of children)) (if is_some (effect_of d) then taken a d children else no_duties)
-all a d children = ap (λ (found : Found). made d (status_of d (map fault_of children)) found) (all_duties a d children (ends a d) refl)
+all a d children = ap (λ (found : DutyLists). made d (status_of d (map fault_of children)) found) (all_duties a d children (ends a d) refl)
 
 with_all : (a : Alg) (children : List EvaluatedChild) → IsByDecisions a → with_more (of_none a) children ≡ combination a children
 unfolding combination deny_overrides permit_overrides

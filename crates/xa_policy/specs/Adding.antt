@@ -42,12 +42,12 @@ with_duties p duties =
       duties = duties;
     }
 
-abbrev pub duties_set : PolicyParts → DutyExpressions Expr → Result PolicyParts CheckError
-duties_set p duties = checked_duties p.variables duties >>= (λ ds. Ok (with_duties p ds))
+abbrev pub duties_replaced : PolicyParts → DutyExpressions Expr → Result PolicyParts CheckError
+duties_replaced p duties = checked_duties p.variables duties >>= (λ ds. Ok (with_duties p ds))
 
 -- the same of a policy set, which has no variables
 abbrev pub set_with_duties : SetParts → DutyExpressions Typed → SetParts
 set_with_duties s duties = record { key = s.key; algorithm = s.algorithm; target = s.target; duties = duties }
 
-abbrev pub set_duties_set : SetParts → DutyExpressions Expr → Result SetParts CheckError
-set_duties_set s duties = checked_duties [] duties >>= (λ ds. Ok (set_with_duties s ds))
+abbrev pub duties_of_set_replaced : SetParts → DutyExpressions Expr → Result SetParts CheckError
+duties_of_set_replaced s duties = checked_duties [] duties >>= (λ ds. Ok (set_with_duties s ds))

@@ -23,10 +23,6 @@ is IndeterminateDeny IndeterminateDeny = true
 is IndeterminateDenyPermit IndeterminateDenyPermit = true
 is _ _ = false
 
--- whether two decisions are not the same
-abbrev pub not_is : Decision → Decision → Bool
-not_is d e = not (is d e)
-
 -- Indeterminate, whichever decision it could have been (C.1)
 abbrev pub is_indeterminate : Decision → Bool
 is_indeterminate IndeterminatePermit = true

@@ -18,16 +18,16 @@ use Rattle.xa_policy.specs.declared.duty.DutyExpression.{DutyExpression}
 use Rattle.xa_policy.specs.declared.duty.DutyExpressions.{DutyExpressions}
 
 -- the obligations and the advice that come with a decision
-pub record Found : Type 0 where
+pub record DutyLists : Type 0 where
   pub obligations : List Duty
   pub advice : List Duty
 
 -- no obligations and no advice
-abbrev pub no_duties : Found
+abbrev pub no_duties : DutyLists
 no_duties = record { obligations = []; advice = [] }
 
 -- those of one, and then those of another
-abbrev pub and_then : Found → Found → Found
+abbrev pub and_then : DutyLists → DutyLists → DutyLists
 and_then first second =
     record { obligations = first.obligations ++ second.obligations; advice = first.advice ++ second.advice }
 
@@ -66,7 +66,7 @@ abbrev pub duties_with : (Typed → Outcome) → Effect → List (DutyExpression
 duties_with value_of effect ds = collected (map (duty value_of) (filter (λ d. same_effect effect d.effect) ds))
 
 -- the obligations that belong to the effect, and then the advice, or the first fault
-abbrev pub own_duties : (Typed → Outcome) → Effect → DutyExpressions Typed → Result Found Fault
+abbrev pub own_duties : (Typed → Outcome) → Effect → DutyExpressions Typed → Result DutyLists Fault
 own_duties value_of effect own =
     duties_with value_of effect own.obligations >>= (λ obligations.
     duties_with value_of effect own.advice >>= (λ advice.

@@ -1,5 +1,5 @@
 -- Policies, policy sets, and trees of them (XACML 3.0, core, sections 5.49, 7.12 to 7.15 and 7.18).
-use Rattle.std.specs.Prelude.{Bool, true, false, if◌then◌else◌, List, [], ◌∷◌, map, filter, is_some}
+use Rattle.std.specs.Prelude.{Bool, true, false, not, if◌then◌else◌, List, [], ◌∷◌, map, filter, is_some}
 use Rattle.std.specs.List.{flat_map, list_any}
 use Rattle.xa_func.specs.declared.status.Status.{Status}
 use Rattle.xa_expr.specs.declared.fault.Fault.TheVariants.{ProcessingError}
@@ -24,10 +24,10 @@ use Rattle.xa_policy.specs.declared.linked.Linked.{Linked, fold-Linked}
 use Rattle.xa_policy.specs.declared.linked.Linked.TheOpen.{Linked-F}
 use Rattle.xa_policy.specs.declared.rule.Rule.{Rule}
 use Rattle.xa_policy.specs.declared.verdict.Verdict.{Verdict}
-use Rattle.xa_policy.specs.Combining.{combined_decision, is, not_is}
-use Rattle.xa_policy.specs.Duties.{Found, and_then, effect_of, no_duties}
+use Rattle.xa_policy.specs.Combining.{combined_decision, is}
+use Rattle.xa_policy.specs.Duties.{DutyLists, and_then, effect_of, no_duties}
 use Rattle.xa_policy.specs.Policy.{PolicyParts, SetParts}
-use Rattle.xa_policy.specs.Rule.{indeterminate, not_applicable, rule_value, undecided, with_own}
+use Rattle.xa_policy.specs.Rule.{not_applicable, rule_value, undecided, with_own, without_duties}
 use Rattle.xa_policy.specs.Status.{EvaluatedChild, fault_of, status_of, only_one_status}
 
 -- an evaluated child as it is combined
@@ -48,7 +48,7 @@ ends PermitUnlessDeny d = is Deny d
 ends PermitOverrides d = is Permit d
 ends OrderedPermitOverrides d = is Permit d
 ends DenyUnlessPermit d = is Permit d
-ends FirstApplicable d = not_is NotApplicable d
+ends FirstApplicable d = not (is NotApplicable d)
 ends OnlyOneApplicable d = false
 
 -- the one, where there is one alone
@@ -65,12 +65,12 @@ evaluated_among child OnlyOneApplicable xs =
 evaluated_among child algorithm xs = up_to (λ x. ends algorithm (child x).value.decision) xs
 
 -- the obligations and the advice of all of them, in their order
-abbrev pub duties_of_all : List EvaluatedChild → Found
+abbrev pub duties_of_all : List EvaluatedChild → DutyLists
 duties_of_all [] = no_duties
 duties_of_all (child ∷ children) = and_then child.value.duties (duties_of_all children)
 
 -- those that come with a decision: of a Permit or a Deny those of the evaluated children that decide the same
-abbrev pub children_duties : Alg → Decision → List EvaluatedChild → Found
+abbrev pub children_duties : Alg → Decision → List EvaluatedChild → DutyLists
 children_duties algorithm d children =
     if is_some (effect_of d)
     then duties_of_all (filter (λ c. is d c.value.decision) (evaluated_among (λ c. c) algorithm children))
@@ -96,9 +96,9 @@ combination algorithm children = with_decision algorithm children (combined_deci
 -- what is decided where the target is Indeterminate (7.14)
 abbrev pub under_indeterminate : Status → Decision → Verdict
 under_indeterminate s NotApplicable = not_applicable
-under_indeterminate s Permit = indeterminate IndeterminatePermit s
-under_indeterminate s Deny = indeterminate IndeterminateDeny s
-under_indeterminate s d = indeterminate d s
+under_indeterminate s Permit = without_duties IndeterminatePermit s
+under_indeterminate s Deny = without_duties IndeterminateDeny s
+under_indeterminate s d = without_duties d s
 
 -- what is decided by the target and what the children come to
 abbrev pub by_target : Matching → Verdict → Verdict

@@ -2,6 +2,7 @@ pub mod Adding
 pub mod Checking
 pub mod Combining
 pub mod Designators
+pub mod DocumentKey
 pub mod Duties
 pub mod Effect
 pub mod Evaluation
@@ -14,4 +15,3 @@ pub mod Rule
 pub mod Status
 pub mod Version
 pub mod Walk
-pub mod DocumentKey

@@ -16,24 +16,24 @@ use Rattle.xa_policy.specs.declared.decision.Effect.{Effect}
 use Rattle.xa_policy.specs.declared.duty.DutyExpressions.{DutyExpressions}
 use Rattle.xa_policy.specs.declared.rule.Rule.{Rule}
 use Rattle.xa_policy.specs.declared.verdict.Verdict.{Verdict}
-use Rattle.xa_policy.specs.Duties.{Found, and_then, effect_of, no_duties, own_duties}
+use Rattle.xa_policy.specs.Duties.{DutyLists, and_then, effect_of, no_duties, own_duties}
 use Rattle.xa_policy.specs.Effect.{decision_with, decision_left_open}
+
+-- a decision with its status, without obligations and advice
+abbrev pub without_duties : Decision → Status → Verdict
+without_duties d s = record { decision = d; status = s; duties = no_duties }
 
 -- nothing applies
 abbrev pub not_applicable : Verdict
-not_applicable = record { decision = decision.NotApplicable; status = status.Ok; duties = no_duties }
-
--- a decision that a fault left open
-abbrev pub indeterminate : Decision → Status → Verdict
-indeterminate d s = record { decision = d; status = s; duties = no_duties }
+not_applicable = without_duties decision.NotApplicable status.Ok
 
 -- the effect, left open by a fault
 abbrev pub left_open : Effect → Fault → Verdict
-left_open effect fault = indeterminate (decision_left_open effect) (status_of fault)
+left_open effect fault = without_duties (decision_left_open effect) (status_of fault)
 
 -- {DP}, left open by a fault
 abbrev pub undecided : Fault → Verdict
-undecided fault = indeterminate decision.IndeterminateDenyPermit (status_of fault)
+undecided fault = without_duties decision.IndeterminateDenyPermit (status_of fault)
 
 -- the value of a condition; none is True (7.9)
 abbrev pub condition_value : (Typed → Outcome) → Option Typed → Result Bool Fault
@@ -42,7 +42,7 @@ condition_value value_of (Some e) = place (value_of e)
 
 -- what a rule of this effect decides, by its condition, where its target matches
 abbrev pub by_condition : Effect → Result Bool Fault → Verdict
-by_condition effect (Ok true) = record { decision = decision_with effect; status = status.Ok; duties = no_duties }
+by_condition effect (Ok true) = without_duties (decision_with effect) status.Ok
 by_condition effect (Ok false) = not_applicable
 by_condition effect (Err fault) = left_open effect fault
 
@@ -54,7 +54,7 @@ outcome effect (Indeterminate fault) condition = left_open effect fault
 
 -- a Permit or a Deny with duties behind those that it has, or left open by the first fault in them (7.18; the fault's
 -- part is this project's choice)
-abbrev pub with_found : Effect → Verdict → Result Found Fault → Verdict
+abbrev pub with_found : Effect → Verdict → Result DutyLists Fault → Verdict
 with_found effect e (Ok found) = record { decision = e.decision; status = e.status; duties = and_then e.duties found }
 with_found effect e (Err fault) = left_open effect fault
 

@@ -105,11 +105,11 @@ pub record Named : Type 0 where
 abbrev pub with_named : Named → List DocumentKey → Named
 with_named so_far keys = record { asked = so_far.asked; ids = so_far.ids ++ (if so_far.asked then keys else []) }
 
--- the first of them alone
+-- the first `count` of them
 abbrev pub first_named : ℕ → Named → Named
 first_named count so_far = record { asked = so_far.asked; ids = take count so_far.ids }
 
--- all of them where Permit or Deny is decided, and else the first alone
+-- all of them where Permit or Deny is decided, and else the first `count`
 abbrev pub kept_by : Decision → ℕ → Named → Named
 kept_by d count so_far = if is_some (effect_of d) then so_far else first_named count so_far
 

@@ -1,12 +1,10 @@
 //! What the children of a policy or a policy set decide, as they are evaluated one after another.
-ghost use Rattle.std.specs.Prelude.{◌≡◌, is_some, IfOk, OnOk, OnErr};
-ghost use Rattle.xa_policy.specs.Duties.{and_then, effect_of, no_duties};
+ghost use Rattle.std.specs.Prelude.{◌≡◌, IfOk, OnOk};
 ghost use Rattle.xa_policy.specs.Evaluation.{ends};
-ghost use Rattle.xa_policy.specs.Walk.{of_none, decision_of_none, joined_decision};
-ghost use Rattle.xa_policy.specs.Walk.{ending_decision, fault_in, with_next, decided};
+ghost use Rattle.xa_policy.specs.Walk.{decided, fault_in, of_none, with_next};
 
-use crate::combining::{Alg, first_applicable_of_one, overrides_of_two};
-use crate::decision::{Decision, Effect};
+use crate::combining::Alg;
+use crate::decision::Decision;
 use crate::duty::Duties;
 use crate::verdict::Verdict;
 use std::alloc::{AllocError, Global};
@@ -15,6 +13,7 @@ use xa_func::Status;
 /// What the children so far come to under an algorithm that goes by their decisions.
 #[derive(Debug, Drop)]
 pub(crate) struct Combination {
+    /// How the children's decisions are combined.
     algorithm: Alg,
     /// What the children so far decide, if there is no other.
     decision: Decision,
@@ -22,60 +21,6 @@ pub(crate) struct Combination {
     fault: Option<Status>,
     /// The obligations and advice of the children so far that decide Permit or Deny, in order.
     duties: Duties,
-}
-
-impl Alg {
-    /// Whether no child after one of this decision is evaluated.
-    pub(crate) fn ends(self, decision: Decision) -> bool
-        ensures { result ≡ ends self decision }
-    {
-        match self {
-            Alg::DenyOverrides | Alg::OrderedDenyOverrides | Alg::PermitUnlessDeny => {
-                decision.has_effect(Effect::Deny)
-            }
-            Alg::PermitOverrides | Alg::OrderedPermitOverrides | Alg::DenyUnlessPermit => {
-                decision.has_effect(Effect::Permit)
-            }
-            Alg::FirstApplicable => decision.is_applicable(),
-            Alg::OnlyOneApplicable => false,
-        }
-    }
-
-    /// The decision of no children.
-    pub(crate) fn decision_of_none(self) -> Decision
-        ensures { result ≡ decision_of_none self }
-    {
-        match self {
-            Alg::DenyUnlessPermit => Decision::Deny,
-            Alg::PermitUnlessDeny => Decision::Permit,
-            _ => Decision::NotApplicable,
-        }
-    }
-
-    /// The decision so far with that of a child that doesn't end it.
-    pub(crate) fn joined_decision(self, so_far: Decision, decision: Decision) -> Decision
-        ensures { result ≡ joined_decision self so_far decision }
-    {
-        match self {
-            Alg::DenyOverrides | Alg::OrderedDenyOverrides => {
-                overrides_of_two(Effect::Deny, so_far, decision)
-            }
-            Alg::PermitOverrides | Alg::OrderedPermitOverrides => {
-                overrides_of_two(Effect::Permit, so_far, decision)
-            }
-            _ => so_far,
-        }
-    }
-
-    /// The decision of a child that ends it.
-    pub(crate) fn ending_decision(self, decision: Decision) -> Decision
-        ensures { result ≡ ending_decision self decision }
-    {
-        match self {
-            Alg::FirstApplicable => first_applicable_of_one(decision),
-            _ => decision,
-        }
-    }
 }
 
 /// The status, where what was decided is Indeterminate.

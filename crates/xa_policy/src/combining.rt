@@ -1,11 +1,12 @@
-//! Combining algorithms.
+//! Combining algorithms: the steps of each, and what it makes of all children.
 ghost use Rattle.std.specs.Prelude.{◌≡◌, [], ◌∷◌, map};
 ghost use Rattle.xa_expr.specs.declared.matching.Matching.TheVariants as target;
 ghost use Rattle.xa_policy.specs.Combining.{applies, combined_decision, decision_of};
 ghost use Rattle.xa_policy.specs.Combining.{deny_overrides, first_applicable, may_apply};
 ghost use Rattle.xa_policy.specs.Combining.{only_one_applicable, permit_overrides};
+ghost use Rattle.xa_policy.specs.Evaluation.{ends};
 ghost use Rattle.xa_policy.specs.Overriding.{overrides};
-ghost use Rattle.xa_policy.specs.Walk.{decision_of_none, walked_decision};
+ghost use Rattle.xa_policy.specs.Walk.{decision_of_none, ending_decision, joined_decision, walked_decision};
 
 use crate::decision::{Decision, Effect};
 use xa_expr::Matching;
@@ -30,8 +31,63 @@ pub enum Alg {
     /// `urn:oasis:names:tc:xacml:1.0:rule-combining-algorithm:first-applicable`,
     /// `urn:oasis:names:tc:xacml:1.0:policy-combining-algorithm:first-applicable` (appendix C.8).
     FirstApplicable,
-    /// `urn:oasis:names:tc:xacml:1.0:policy-combining-algorithm:only-one-applicable` (appendix C.9).
+    /// `urn:oasis:names:tc:xacml:1.0:policy-combining-algorithm:only-one-applicable` (appendix C.9). The
+    /// standard has it for policies and policy sets alone: no policy that is read combines its rules so.
     OnlyOneApplicable,
+}
+
+impl Alg {
+    /// Whether no child after one of this decision is evaluated.
+    pub(crate) fn ends(self, decision: Decision) -> bool
+        ensures { result ≡ ends self decision }
+    {
+        match self {
+            Alg::DenyOverrides | Alg::OrderedDenyOverrides | Alg::PermitUnlessDeny => {
+                decision.has_effect(Effect::Deny)
+            }
+            Alg::PermitOverrides | Alg::OrderedPermitOverrides | Alg::DenyUnlessPermit => {
+                decision.has_effect(Effect::Permit)
+            }
+            Alg::FirstApplicable => decision.is_applicable(),
+            Alg::OnlyOneApplicable => false,
+        }
+    }
+
+    /// The decision of no children.
+    pub(crate) fn decision_of_none(self) -> Decision
+        ensures { result ≡ decision_of_none self }
+    {
+        match self {
+            Alg::DenyUnlessPermit => Decision::Deny,
+            Alg::PermitUnlessDeny => Decision::Permit,
+            _ => Decision::NotApplicable,
+        }
+    }
+
+    /// The decision so far with that of a child that doesn't end it.
+    pub(crate) fn joined_decision(self, so_far: Decision, decision: Decision) -> Decision
+        ensures { result ≡ joined_decision self so_far decision }
+    {
+        match self {
+            Alg::DenyOverrides | Alg::OrderedDenyOverrides => {
+                overrides_of_two(Effect::Deny, so_far, decision)
+            }
+            Alg::PermitOverrides | Alg::OrderedPermitOverrides => {
+                overrides_of_two(Effect::Permit, so_far, decision)
+            }
+            _ => so_far,
+        }
+    }
+
+    /// The decision of a child that ends it.
+    pub(crate) fn ending_decision(self, decision: Decision) -> Decision
+        ensures { result ≡ ending_decision self decision }
+    {
+        match self {
+            Alg::FirstApplicable => first_applicable_of_one(decision),
+            _ => decision,
+        }
+    }
 }
 
 /// A child of a policy or of a policy set, as it is combined.
@@ -85,7 +141,7 @@ fn combine_decisions(algorithm: Alg, children: &[Child]) -> Decision
 }
 
 /// Deny-overrides or permit-overrides of two.
-pub(crate) fn overrides_of_two(effect: Effect, first: Decision, second: Decision) -> Decision
+fn overrides_of_two(effect: Effect, first: Decision, second: Decision) -> Decision
     ensures { result ≡ overrides effect (first ∷ second ∷ []) }
 {
     match effect {
@@ -130,7 +186,7 @@ fn permit_overrides_of_two(first: Decision, second: Decision) -> Decision
 /// First-applicable of one. The algorithm doesn't track extended Indeterminates, so its own is {DP}
 /// (appendix C.1).
 #[tactic(auto, using(crate::proofs::FirstApplicableLemmas::first_applicable_alone))]
-pub(crate) fn first_applicable_of_one(decision: Decision) -> Decision
+fn first_applicable_of_one(decision: Decision) -> Decision
     ensures { result ≡ first_applicable (decision ∷ []) }
 {
     if decision.is_indeterminate() {

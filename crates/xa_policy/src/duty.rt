@@ -79,15 +79,17 @@ pub struct Duty {
 /// The obligations and the advice that come with a decision (core, sections 5.32 and 5.33).
 #[derive(Debug, Drop)]
 pub struct Duties {
+    /// The obligations, in order.
     obligations: Vec<Duty>,
+    /// The advice, in order.
     advice: Vec<Duty>,
 }
 
 impl Model for Duties {
     ghost use Rattle.std.specs.Coded.{codes};
-    ghost use Rattle.xa_policy.specs.Duties.{Found};
+    ghost use Rattle.xa_policy.specs.Duties.{DutyLists};
 
-    ghost Value = { Found };
+    ghost Value = { DutyLists };
 
     ghost view = { λ d. record { obligations = d.obligations.items; advice = d.advice.items } };
 }

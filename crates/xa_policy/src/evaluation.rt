@@ -185,7 +185,8 @@ fn walk_rules<'a, C: Context>(
 }
 
 /// What only-one-applicable makes of the rules. The first target that isn't No match leaves it to the
-/// others, or settles it.
+/// others, or settles it. No policy that is read comes here, since the standard has no such algorithm of
+/// rules; one that `Policy::new` builds may.
 #[tactic(auto, using(crate::proofs::TidyLemmas::applicable_steps))]
 fn only_applicable_rule<'a, C: Context>(
     alloc: Global,

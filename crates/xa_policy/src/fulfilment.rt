@@ -92,7 +92,7 @@ fn put(
 }
 
 /// All assignments of the expressions.
-fn assignments<'a, C: Context>(
+fn all_assignments<'a, C: Context>(
     alloc: Global,
     evaluator: &mut Evaluator<'a, C>,
     expressions: &[AttributeAssignmentExpression<Typed>],
@@ -123,7 +123,7 @@ fn duty<'a, C: Context>(
     ensures kept { evaluator.new ≡ evaluator.old }
 {
     evaluator.spend(STEP.saturating_add(expression.id.as_bytes().len() as u64))?;
-    let assignments = assignments(alloc, evaluator, expression.assignments.as_slice())?;
+    let assignments = all_assignments(alloc, evaluator, expression.assignments.as_slice())?;
     Ok(Duty {
         id: expression.id.clone()?,
         assignments,

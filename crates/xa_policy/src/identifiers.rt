@@ -17,6 +17,7 @@ use xa_value::{Items, Shared};
 pub(crate) struct Identifiers {
     /// Whether they are asked for.
     names_policies: bool,
+    /// The keys, in order.
     found: Vec<Shared<DocumentKey>>,
 }
 

@@ -3,7 +3,7 @@ ghost use Rattle.std.specs.Prelude.{◌≡◌, [], OnErr};
 ghost use Rattle.std.specs.Result.{result_map_both};
 ghost use Rattle.xa_value.specs.Gives.{Gives};
 ghost use Rattle.xa_expr.specs.Variables.{kinds};
-ghost use Rattle.xa_policy.specs.Adding.{duties_set, no_expressions, rule_added};
+ghost use Rattle.xa_policy.specs.Adding.{duties_replaced, no_expressions, rule_added};
 ghost use Rattle.xa_policy.specs.Policy.{AreTypedDuties, AreTypedRules};
 
 use crate::checking::{check_duties, check_rule};
@@ -19,11 +19,17 @@ use xa_value::{Items, OrMemory, Shared};
 /// A policy (XACML 3.0, core, section 5.14). Its expressions are checked under its variables.
 #[derive(Debug, Drop)]
 pub struct Policy {
+    /// What tells it from others.
     key: Shared<DocumentKey>,
+    /// How the rules' decisions are combined.
     algorithm: Alg,
+    /// To what it applies.
     target: Target,
+    /// The variables that its expressions may name.
     variables: Variables,
+    /// The rules, in order.
     rules: Items<Rule<Typed>>,
+    /// The obligations and the advice.
     duties: DutyExpressions<Typed>,
 }
 
@@ -104,7 +110,7 @@ impl Policy {
         duties: &DutyExpressions<Expr>,
     ) -> Result<(), OrMemory<CheckError>>
         ensures value { Gives (result_map_both (λ _. self.new) (λ e. e) result)
-            (duties_set self.old duties.now) }
+            (duties_replaced self.old duties.now) }
         ensures err { OnErr result (self.new ≡ self.old) }
     {
         self.duties = check_duties(alloc, duties, &self.variables)?;

@@ -2,7 +2,7 @@
 ghost use Rattle.std.specs.Prelude.{◌≡◌, [], OnErr};
 ghost use Rattle.std.specs.Result.{result_map_both};
 ghost use Rattle.xa_value.specs.Gives.{Gives};
-ghost use Rattle.xa_policy.specs.Adding.{no_expressions, set_duties_set};
+ghost use Rattle.xa_policy.specs.Adding.{duties_of_set_replaced, no_expressions};
 ghost use Rattle.xa_policy.specs.Policy.{AreTypedDuties};
 
 use crate::checking::check_duties;
@@ -17,9 +17,13 @@ use xa_value::{OrMemory, Shared};
 /// A policy set without its children (XACML 3.0, core, section 5.1). It has no variables.
 #[derive(Debug, Drop)]
 pub struct PolicySet {
+    /// What tells it from others.
     key: Shared<DocumentKey>,
+    /// How the children's decisions are combined.
     algorithm: Alg,
+    /// To what it applies.
     target: Target,
+    /// The obligations and the advice.
     duties: DutyExpressions<Typed>,
 }
 
@@ -61,7 +65,7 @@ impl PolicySet {
         duties: &DutyExpressions<Expr>,
     ) -> Result<(), OrMemory<CheckError>>
         ensures value { Gives (result_map_both (λ _. self.new) (λ e. e) result)
-            (set_duties_set self.old duties.now) }
+            (duties_of_set_replaced self.old duties.now) }
         ensures err { OnErr result (self.new ≡ self.old) }
     {
         let none = Variables::new(alloc);

@@ -1,7 +1,7 @@
 //! What a rule, a policy or a policy set decides: a decision, why, and what comes with it.
 ghost use Rattle.std.specs.Prelude.{◌≡◌};
 ghost use Rattle.xa_policy.specs.Evaluation.{by_target};
-ghost use Rattle.xa_policy.specs.Rule.{indeterminate, left_open, not_applicable, undecided};
+ghost use Rattle.xa_policy.specs.Rule.{left_open, not_applicable, undecided, without_duties};
 
 use crate::decision::{Decision, Effect};
 use crate::duty::Duties;
@@ -23,7 +23,7 @@ pub struct Verdict {
 impl Verdict {
     /// The decision, without obligations and advice. Nothing is allocated.
     pub(crate) fn without_duties(alloc: Global, decision: Decision, status: Status) -> Verdict
-        ensures { result ≡ indeterminate decision status }
+        ensures { result ≡ without_duties decision status }
     {
         Verdict {
             decision,

@@ -6,9 +6,9 @@ use thiserror::Error;
 #[derive(Clone, Copy, Debug, PartialEq, Eq, Error)]
 pub enum VersionError {
     /// The text does not have the shape.
-    #[error("the text does not have the shape of a version")]
+    #[error("the text does not have the shape of a version or a pattern")]
     BadText,
-    /// The text has the shape, with more than eight numbers, or with a number of more than nine digits.
-    #[error("the version has more than eight numbers, or a number of more than nine digits")]
+    /// The text has the shape, with more than eight parts, or with a number of more than nine digits.
+    #[error("the text has more than eight parts, or a number of more than nine digits")]
     TooLong,
 }

@@ -23,6 +23,7 @@ RaisesTo number (Ok next) = IsRaised number next
 RaisesTo number (Err Store) = IsGreatest number
 RaisesTo number (Err Memory) = ⊥
 
+-- the documents with a found one active or not
 abbrev pub active_at : DocumentKey → Bool → FinMap compare_keys StoredDocument → Option StoredDocument
     → FinMap compare_keys StoredDocument
 active_at key active documents None = documents

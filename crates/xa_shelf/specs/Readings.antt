@@ -6,7 +6,7 @@ use Rattle.xa_notation.specs.declared.document.Parsed.{Parsed}
 use Rattle.xa_notation.specs.Document.{document_of}
 
 -- what contracts see of a shelf: the texts whose documents it holds, the one that was asked for last first, and how
--- many texts were read
+-- many texts weren't held, and so were read
 pub record Shelved : Type 0 where
   pub texts : List (List ℕ)
   pub readings : ℕ
@@ -27,7 +27,7 @@ texts_of entries = map (λ entry. string_bytes entry.0) entries
 abbrev pub is_among : List ℕ → List (List ℕ) → Bool
 is_among text texts = list_any (bytes_eq text) texts
 
--- the others
+-- the others: all but the first such text
 abbrev pub without : List ℕ → List (List ℕ) → List (List ℕ)
 without text [] = []
 without text (other ∷ others) = if bytes_eq text other then others else other ∷ without text others

@@ -17,12 +17,12 @@ use xa_value::{OrMemory, Shared};
 const MAX_DOCUMENTS: usize = 128;
 
 /// Documents, each under its whole text. Contracts see the texts, the one that was asked for last first,
-/// and the number of texts that were read and not found.
+/// and the number of texts that weren't held, and so were read.
 #[derive(Drop)]
 pub struct Shelf {
     alloc: Global,
     documents: LruCache<String, Shared<Parsed>>,
-    /// How many texts were read and not found.
+    /// How many texts weren't held, and so were read.
     readings: u64,
 }
 
@@ -72,7 +72,7 @@ impl Shelf {
         }
     }
 
-    /// How many texts were read and not found, as far as they can be counted.
+    /// How many texts weren't held, and so were read, as far as they can be counted.
     pub fn readings(&self) -> u64
         ensures { result ≡ self.now.readings }
     {
@@ -100,7 +100,7 @@ impl Shelf {
     {
         let document = self.read(text.as_bytes())?;
         // Without memory it isn't kept, and is answered all the same.
-        let _kept = keep(&mut self.documents, self.alloc, text, &document);
+        let _kept = keep(self.alloc, &mut self.documents, text, &document);
         Ok(document)
     }
 }
@@ -128,8 +128,8 @@ fn share_under(
 
 /// Keeps a share of the document under a copy of its text. Without memory nothing changes.
 fn keep(
-    documents: &mut LruCache<String, Shared<Parsed>>,
     alloc: Global,
+    documents: &mut LruCache<String, Shared<Parsed>>,
     text: &str,
     document: &Shared<Parsed>,
 ) -> Result<(), AllocError>

@@ -1,4 +1,4 @@
-//! Reading for one message.
+//! How much is read for one message.
 ghost use Rattle.std.specs.Prelude.{◌≡◌, false, length, nat_le, Err};
 ghost use Rattle.xa_value.specs.declared.or_memory.OrMemory.TheVariants.{Memory};
 ghost use Rattle.xa_value.specs.Gives.{Gives};

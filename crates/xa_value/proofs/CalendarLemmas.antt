@@ -1,7 +1,7 @@
 -- Facts on days of the calendar.
-use Rattle.std.proofs.Common.{◌≡◌, ℕ, ◌≤◌, true, List, drop, codes, Err, refl, arith}
+use Rattle.std.proofs.Common.{◌≡◌, ℕ, ◌≤◌, true, List, drop, codes, refl, ap, arith}
 use Rattle.std.proofs.lemmas.Bool.{and_parts}
-use Rattle.std.specs.Prelude.{nat_le, ◌&&◌, ℤ, pos, negsuc, unsigned_abs, ◌≤ℤ◌}
+use Rattle.std.specs.Prelude.{nat_le, ◌&&◌, ℤ, pos, negsuc, unsigned_abs, ◌≤ℤ◌, Result, Ok, Err, IsErrAnd}
 use borrow.Author.Tests.{leb-true, le-leb}
 use Rattle.std.specs.Int.{IsInRange}
 use Rattle.jiff_core.proofs.SignedLemmas.{signed_arith}
@@ -10,7 +10,7 @@ use Rattle.jiff_core.specs.declared.civil.date.Date.{Date}
 use Rattle.xa_value.specs.declared.read_error.ReadError.{ReadError}
 use Rattle.xa_value.specs.parsing.Lexical.{has_shape}
 use Rattle.xa_value.specs.parsing.Time.{read_clock}
-use Rattle.xa_value.specs.Calendar.{is_day}
+use Rattle.xa_value.specs.Calendar.{CivilDateTime, is_day}
 use Rattle.xa_value.specs.parsing.Calendar.{read_date_time}
 
 -- what the test of a day shows
@@ -36,7 +36,9 @@ civil_is_day_at (negsuc n) m d late year month day = absurd (omega (arith, signe
 pub civil_is_day : (d : Date) → pos 1 ≤ℤ d.year → is_day (unsigned_abs d.year) d.month d.day ≡ true
 civil_is_day d late = civil_is_day_at d.year d.month d.day late d.year_in d.month_in d.day_in
 
--- the fault of the clock of a date with a time is the fault of the whole
-pub date_without_clock : (text : List ℕ) (fault : ReadError) → has_shape (codes "9999-99-99T") text ≡ true → read_clock (drop 11 text) ≡ Err fault → read_date_time text ≡ Err fault
+-- the error of the clock of a date with a time, passed on, is what the whole gives
+pub date_without_clock : (text : List ℕ) (error : ReadError) (r : Result CivilDateTime ReadError)
+    → has_shape (codes "9999-99-99T") text ≡ true → read_clock (drop 11 text) ≡ Err error → IsErrAnd r (λ e. e ≡ error) → r ≡ read_date_time text
 unfolding read_date_time
-date_without_clock text fault shaped read = rw shaped (rw read refl)
+date_without_clock text error (Err e) shaped read same = rw shaped (rw read (ap Err same))
+date_without_clock text error (Ok date_time) shaped read same = absurd same

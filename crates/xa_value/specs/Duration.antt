@@ -17,7 +17,7 @@ IsMonths months = (neg_ℤ (pos most_months) ≤ℤ months) × (months ≤ℤ po
 abbrev pub IsNanos : ℤ → Type 0
 IsNanos nanos = (neg_ℤ (pos most_nanos) ≤ℤ nanos) × (nanos ≤ℤ pos most_nanos)
 
--- a part with its unit, and nothing where it is zero
+-- a part with its unit, and nothing where it is zero. Of the units `Y` is 89, `M` 77, `D` 68 and `H` 72
 unfoldable pub part_text : ℕ → ℕ → List ℕ
 part_text n unit = if n == 0 then [] else decimal n ++ unit ∷ []
 

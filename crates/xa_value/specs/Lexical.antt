@@ -24,7 +24,7 @@ unfoldable pub number_after : ℕ → List ℕ → ℕ
 number_after n [] = n
 number_after n (d ∷ ds) = number_after (n * 10 + (d - 48)) ds
 
--- the number that digits write
+-- the number that digits write: of digits alone it is std's `digits_value 10`, by which `Digits` goes
 abbrev pub number : List ℕ → ℕ
 number digits = number_after 0 digits
 

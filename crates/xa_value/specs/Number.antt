@@ -1,4 +1,4 @@
--- The text of booleans (XML Schema, part 2, section 3.2.2).
+-- The text of booleans (XML Schema, part 2, section 3.2.2). That of integers is std's `signed_decimal`.
 use Rattle.std.specs.Prelude.{ℕ, Bool, if◌then◌else◌, List, codes}
 
 unfoldable pub boolean_text : Bool → List ℕ

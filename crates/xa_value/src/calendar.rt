@@ -56,17 +56,12 @@ impl Date {
     }
 
     /// The day.
-    #[tactic(auto, using(crate::proofs::CalendarLemmas::day_bounds))]
     pub fn civil(self) -> civil::Date
         ensures parts { IsYmd (pos self.year) (pos self.month) (pos self.day) result }
         ensures number { epoch_day result ≡ day_number self.year self.month self.day }
         ensures real { IsTrue (is_day self.year self.month self.day) }
     {
-        civil::Date {
-            year: self.year as i16,
-            month: self.month,
-            day: self.day,
-        }
+        civil_day(self.year, self.month, self.day)
     }
 
     /// The zone as it was written.
@@ -124,17 +119,12 @@ impl DateTime {
     }
 
     /// The day.
-    #[tactic(auto, using(crate::proofs::CalendarLemmas::day_bounds))]
     pub fn civil(self) -> civil::Date
         ensures parts { IsYmd (pos self.year) (pos self.month) (pos self.day) result }
         ensures number { epoch_day result ≡ day_number self.year self.month self.day }
         ensures real { IsTrue (is_day self.year self.month self.day) }
     {
-        civil::Date {
-            year: self.year as i16,
-            month: self.month,
-            day: self.day,
-        }
+        civil_day(self.year, self.month, self.day)
     }
 
     /// The nanoseconds since the day's midnight.
@@ -150,6 +140,20 @@ impl DateTime {
         ensures { result ≡ self.zone }
     {
         self.zone
+    }
+}
+
+/// The day of this year, month and number.
+#[tactic(auto, using(crate::proofs::CalendarLemmas::day_bounds))]
+fn civil_day(year: u16, month: u8, day: u8) -> civil::Date
+    requires { IsTrue (is_day year month day) }
+    ensures parts { IsYmd (pos year) (pos month) (pos day) result }
+    ensures number { epoch_day result ≡ day_number year month day }
+{
+    civil::Date {
+        year: year as i16,
+        month,
+        day,
     }
 }
 
@@ -260,15 +264,13 @@ pub(crate) fn read_date_time(text: &[u8]) -> Result<DateTime, ReadError>
     if !has_shape(b"9999-99-99T", text) {
         return Err(ReadError::NotThisType);
     }
-    match clock_after_day(text) {
-        Ok(clock) => date_time_of(
-            year_of(text),
-            two_digits(text, 5),
-            two_digits(text, 8),
-            clock,
-        ),
-        Err(fault) => Err(fault),
-    }
+    let clock = clock_after_day(text)?;
+    date_time_of(
+        year_of(text),
+        two_digits(text, 5),
+        two_digits(text, 8),
+        clock,
+    )
 }
 
 /// Writes the day, `T`, the time of day and the zone.

@@ -229,7 +229,7 @@ pub(crate) fn read_year_month(text: &[u8]) -> Result<YearMonthDuration, ReadErro
     )
 }
 
-/// What follows hours and minutes, whose units are 72 and 77 as characters.
+/// What follows hours and minutes (`H` is 72, `M` is 77).
 fn after_minutes(clock: &[u8]) -> &[u8]
     ensures { result.now ≡ after_part 77 (after_part 72 clock.now) }
 {

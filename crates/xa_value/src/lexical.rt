@@ -2,7 +2,7 @@
 ghost use Rattle.std.specs.Prelude.{◌≡◌, ◌+◌, ◌-◌, ◌<◌, ◌≤◌, ◌^◌, [], ◌∷◌};
 ghost use Rattle.std.specs.Prelude.{length, min, OnOk, ◌++◌, IsTrue, string_bytes};
 ghost use Rattle.std.specs.List.{prefix_len};
-ghost use Rattle.xa_value.specs.Lexical.{is_blank, trimmed_start, trimmed_end, trimmed, number, last_digits};
+ghost use Rattle.xa_value.specs.Lexical.{is_blank, trimmed_end, trimmed, number, last_digits};
 ghost use Rattle.xa_value.specs.parsing.Lexical.{begins_with, fits_place, has_shape, two_digits, digit_count};
 
 use std::alloc::AllocError;
@@ -12,21 +12,6 @@ pub(crate) fn is_blank(byte: u8) -> bool
     ensures { result ≡ is_blank byte }
 {
     byte == b' ' || byte == b'\t' || byte == b'\r' || byte == b'\n'
-}
-
-/// The text without the white space that it begins with.
-#[tactic(auto, unfolding(crate::specs::Lexical::trimmed_start))]
-fn trimmed_start(text: &[u8]) -> &[u8]
-    ensures { result.now ≡ trimmed_start text.now }
-{
-    let mut rest = text;
-    while let [first, others @ ..] = rest {
-        if !is_blank(*first) {
-            return rest;
-        }
-        rest = others;
-    }
-    rest
 }
 
 /// The text without the white space that it ends with.
@@ -42,13 +27,6 @@ fn trimmed_end(text: &[u8]) -> &[u8]
         rest = others;
     }
     rest
-}
-
-/// The text without white space at its ends.
-pub(crate) fn trimmed_bytes(text: &[u8]) -> &[u8]
-    ensures { result.now ≡ trimmed text.now }
-{
-    trimmed_end(trimmed_start(text))
 }
 
 /// How many characters of white space the text begins with.

@@ -1,10 +1,13 @@
 //! The values that policies and requests speak of, and the types by which contracts see them.
 //!
 //! A `value` is of a `data_type`. `reading` reads it from a text by `number`, `time`, `calendar`, `duration`
-//! or `binary`; times and dates may end in a `zone`, and all stand on `lexical`. `printing` writes it by the
-//! same files and `duration_printing`, and `round_trip` says that what was read and is written reads as it
-//! was. `plain` has it as a text, a boolean or a number of another notation. `order` compares values by a
-//! `sort_key`, and days and times by an `instant`.
+//! or `binary`; times and dates may end in a `zone`, and all stand on `lexical`. A `read_error` says why a
+//! text is no value. `printing` writes it by the same files and `duration_printing`, and `round_trip` says
+//! that what was read and is written reads as it was. `plain` has it as a text, a boolean or a number of
+//! another notation. `order` compares values by a `sort_key`, and days and times by an `instant`.
+//!
+//! A `moment` shows a date and a time. A `category` of attributes has a URI and a shorthand. `digits` reads
+//! numbers that are no values, as those of a version.
 //!
 //! Contracts see a `text`, `bytes`, `items` and what is `boxed` or `shared` as what is in them. Want of
 //! memory goes by `or_memory`.

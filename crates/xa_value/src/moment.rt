@@ -3,7 +3,8 @@ ghost use Rattle.std.specs.Prelude.{◌≡◌, ◌*ℤ◌, ◌≤ℤ◌, ◌<◌
 ghost use Rattle.jiff_core.specs.Date.{epoch_day};
 ghost use Rattle.xa_value.specs.Calendar.{instant, day_number};
 ghost use Rattle.xa_value.specs.Days.{day_of_number};
-ghost use Rattle.xa_value.specs.Moment.{IsMoment, day_number_of, nanos_of, date_of, time_of, date_time_of};
+ghost use Rattle.xa_value.specs.Moment.{IsMoment, utc, day_number_of, nanos_of};
+ghost use Rattle.xa_value.specs.Moment.{date_of, time_of, date_time_of};
 ghost use Rattle.xa_value.specs.Time.{day_nanos};
 
 use crate::calendar::{Date, DateTime};
@@ -65,14 +66,14 @@ impl Moment {
         ensures value { result ≡ date_of self }
         ensures day { day_number result.year result.month result.day ≡ day_number_of self }
     {
-        Date::new(self.day(), Offset::new(0)).unwrap()
+        Date::new(self.day(), utc()).unwrap()
     }
 
     /// The moment's time of day, by UTC.
     pub fn time(self) -> Time
         ensures { result ≡ time_of self }
     {
-        Time::new(self.nanos(), Offset::new(0)).unwrap()
+        Time::new(self.nanos(), utc()).unwrap()
     }
 
     /// The moment's date with its time, by UTC.
@@ -81,7 +82,7 @@ impl Moment {
         ensures instant { instant (day_number result.year result.month result.day) result.nanos result.zone
             ≡ self *ℤ pos 1_000_000_000 }
     {
-        DateTime::new(self.day(), self.nanos(), Offset::new(0)).unwrap()
+        DateTime::new(self.day(), self.nanos(), utc()).unwrap()
     }
 
     /// The moment's day, by UTC.
@@ -89,7 +90,7 @@ impl Moment {
         ensures value { day_of_number (day_number_of self)
             ≡ record { year = unsigned_abs result.year; month = result.month; day = result.day } }
         ensures number { epoch_day result ≡ day_number_of self }
-        ensures late { pos 1 ≤ℤ result.year }
+        ensures from_year_one { pos 1 ≤ℤ result.year }
     {
         civil::Date::from_unix_epoch_day(self.seconds.div_euclid(SECONDS_OF_A_DAY)).unwrap()
     }
@@ -101,4 +102,11 @@ impl Moment {
     {
         self.seconds.rem_euclid(SECONDS_OF_A_DAY) as u64 * SECOND_NANOS
     }
+}
+
+/// The zone of UTC, `Z`.
+fn utc() -> Option<Offset>
+    ensures { result ≡ utc }
+{
+    Offset::new(0)
 }

@@ -1,7 +1,7 @@
 //! Equality and order of values.
 ghost use Rattle.std.specs.Prelude.{◌≡◌};
 ghost use Rattle.std.specs.Cmp.{IsEquivalence};
-ghost use Rattle.xa_value.specs.Order.{number_of, bytes_of, key_of, compare_keys};
+ghost use Rattle.xa_value.specs.Order.{number_of, bytes_of, key_of};
 ghost use Rattle.xa_value.specs.Order.{same, is_ordered, order, IsOrder, KeysTellApart};
 
 use crate::data_type::DataType;
@@ -70,13 +70,14 @@ impl Value {
         ensures law { IsEquivalence same }
     {
         match (self, other) {
-            // (most values that are compared are texts)
+            // Most values that are compared are texts.
             (Value::String(text), Value::String(other)) => text.as_bytes() == other.as_bytes(),
             _ => self.has_same_key(other),
         }
     }
 
-    /// Whether the values are of one type, and what they are ordered by is the same.
+    /// Whether the values are of one type, and what they are ordered by is the same. Not by `sort_key`:
+    /// where the numbers differ, the bytes aren't asked for.
     #[tactic(auto, unfolding(crate::specs::Order::same))]
     fn has_same_key(&self, other: &Value) -> bool
         ensures { result ≡ same self.now other.now }
@@ -95,18 +96,9 @@ impl Value {
         ensures law { IsOrder }
     {
         if self.data_type().is_same(other.data_type()) && is_ordered(self.data_type()) {
-            Some(self.key_order(other))
+            Some(self.sort_key().cmp(&other.sort_key()))
         } else {
             None
         }
-    }
-
-    /// The order by the number, and then by the bytes.
-    fn key_order(&self, other: &Value) -> Ordering
-        ensures { result ≡ compare_keys (key_of self.now) (key_of other.now) }
-    {
-        self.ordering_number()
-            .cmp(&other.ordering_number())
-            .then(self.ordering_bytes().cmp(other.ordering_bytes()))
     }
 }

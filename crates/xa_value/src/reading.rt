@@ -8,7 +8,7 @@ use crate::binary::{read_base64, read_hex};
 use crate::calendar::{read_date, read_date_time};
 use crate::data_type::DataType;
 use crate::duration::{read_day_time, read_year_month};
-use crate::lexical::{trimmed_bytes, trimmed_text};
+use crate::lexical::trimmed_text;
 use crate::number::{read_boolean, read_integer};
 use crate::or_memory::OrMemory;
 use crate::read_error::ReadError;
@@ -47,8 +47,8 @@ fn read_by_type(
     ensures data_type { IfOk result (λ v. type_of v ≡ data_type) }
     ensures exact { grows data_type ≡ false → result ≡ answered (read data_type text.now) }
 {
-    let raw = text.as_bytes();
-    let bytes = trimmed_bytes(raw);
+    let trimmed = trimmed_text(text);
+    let bytes = trimmed.as_bytes();
     match data_type {
         DataType::String => Ok(Value::String(Text::new(alloc, text)?)),
         DataType::Boolean => Ok(Value::Boolean(read_boolean(bytes)?)),
@@ -58,7 +58,7 @@ fn read_by_type(
         DataType::DateTime => Ok(Value::DateTime(read_date_time(bytes)?)),
         DataType::DayTimeDuration => Ok(Value::DayTimeDuration(read_day_time(bytes)?)),
         DataType::YearMonthDuration => Ok(Value::YearMonthDuration(read_year_month(bytes)?)),
-        DataType::AnyUri => Ok(Value::AnyUri(Text::new(alloc, trimmed_text(text))?)),
+        DataType::AnyUri => Ok(Value::AnyUri(Text::new(alloc, trimmed)?)),
         DataType::HexBinary => Ok(Value::HexBinary(read_hex(alloc, bytes)?)),
         DataType::Base64Binary => Ok(Value::Base64Binary(read_base64(alloc, bytes)?)),
     }

@@ -6,5 +6,5 @@ use Rattle.xa_expr.proofs.answering.answer_for.Goals as goal
 
 pub returns : goal.returns
 returns c =
-    c.matching_of_answer.ensures
+    c.matching_of.ensures
     ∙ sym (ap (λ r. matching_of (of_function r)) (told_apart _ _ _ c.in_ok-answer.ensures.answer c.apply.ensures.value))

@@ -6,5 +6,5 @@ use Rattle.xa_notation.specs.Typing.{typed_any_of}
 use Rattle.xa_notation.proofs.typing.typed_any_of.Given as goal
 
 -- those typed so far, and then those that are left
-abbrev pub invariant-loop-one : goal.invariant-loop-one
-invariant-loop-one l = behind l.typed (collected (map typed_any_of (into_iter_items l.one-iterator))) ≡ collected (map typed_any_of l.fn.written)
+abbrev pub invariant-loop-any_of : goal.invariant-loop-any_of
+invariant-loop-any_of l = behind l.typed (collected (map typed_any_of (into_iter_items l.any_of-iterator))) ≡ collected (map typed_any_of l.fn.written)

@@ -6,5 +6,5 @@ use Rattle.xa_notation.specs.Typing.{typed_match}
 use Rattle.xa_notation.proofs.typing.typed_matches.Given as goal
 
 -- those typed so far, and then those that are left
-abbrev pub invariant-loop-one : goal.invariant-loop-one
-invariant-loop-one l = behind l.typed (collected (map typed_match (into_iter_items l.one-iterator))) ≡ collected (map typed_match l.fn.written)
+abbrev pub invariant-loop-written_match : goal.invariant-loop-written_match
+invariant-loop-written_match l = behind l.typed (collected (map typed_match (into_iter_items l.written_match-iterator))) ≡ collected (map typed_match l.fn.written)

@@ -10,8 +10,8 @@ returns-clause-value c =
     let number : epoch_day c.unwrap.result ≡ day_number_of c.args.self = search rules in
     moment_day c.args.self c.unwrap.result within number
 
-pub returns-clause-late : goal.returns-clause-late
-returns-clause-late c =
+pub returns-clause-from_year_one : goal.returns-clause-from_year_one
+returns-clause-from_year_one c =
     let within : IsMoment c.args.self = search rules in
     let number : epoch_day c.unwrap.result ≡ day_number_of c.args.self = search rules in
     moment_year c.args.self c.unwrap.result within number

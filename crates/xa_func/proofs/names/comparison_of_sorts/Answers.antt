@@ -5,7 +5,7 @@ use Rattle.xa_func.specs.declared.func_id.TheConstants.OrderedType.{ALL}
 use Rattle.xa_func.specs.Table.{names}
 use Rattle.xa_func.proofs.NameLemmas.{found_here, not_here}
 use Rattle.xa_func.proofs.TableLemmas.{none_of}
-use Rattle.xa_func.proofs.names.compare_named.Goals as goal
+use Rattle.xa_func.proofs.names.comparison_of_sorts.Goals as goal
 
 pub returns-in-Some : goal.returns-in-Some
 returns-in-Some c =
@@ -15,4 +15,4 @@ returns-in-Some c =
 pub loop-comparison-preserved : goal.loop-comparison-preserved
 loop-comparison-preserved c =
     not_here (names c.args.uri.now) (λ c. map (Compare c) ALL) c.args.comparisons.now c.loop-comparison.comparison-index GreaterThan
-    c.loop-comparison-test.true (none_of _ _ c.comparison_named.ensures c.in_default.not-Some) c.loop-comparison.invariant
+    c.loop-comparison-test.true (none_of _ _ c.comparison_of_sort.ensures c.in_default.not-Some) c.loop-comparison.invariant

@@ -1,7 +1,7 @@
 use Rattle.std.proofs.Common.{◌∙◌}
 use Rattle.xa_bag.proofs.SetLemmas.{walked}
 use Rattle.xa_policy.proofs.FulfilmentLemmas.{expression_assigned, expression_fault, first_typed}
-use Rattle.xa_policy.proofs.fulfilment.assignments.Goals as goal
+use Rattle.xa_policy.proofs.fulfilment.all_assignments.Goals as goal
 
 pub value-requires : goal.value-requires
 value-requires g c =

@@ -4,7 +4,7 @@ use Rattle.xa_expr.specs.Variables.{kinds}
 use Rattle.xa_policy.specs.Duties.{all_assigned}
 use Rattle.xa_policy.specs.Policy.{AreAssignments}
 use Rattle.xa_policy.proofs.FulfilmentLemmas.{assigned_behind}
-use Rattle.xa_policy.proofs.fulfilment.assignments.Given as goal
+use Rattle.xa_policy.proofs.fulfilment.all_assignments.Given as goal
 
 -- the evaluator is as it was, the rest are typed, and what they come to stands behind the assignments so far
 abbrev pub invariant-loop-expression : goal.invariant-loop-expression
