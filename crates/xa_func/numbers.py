@@ -1,11 +1,13 @@
 #!/usr/bin/env python3
-"""Writes the numbers of the functions' names, by which proofs/TableLemmas.antt tells that names are distinct, and its lines on single functions.
+"""Writes the numbers of the functions' names, by which proofs/TableLemmas.antt tells that names are distinct, and its
+lines on single functions.
 
 usage: crates/xa_func/numbers.py             writes the file, where more than its line breaks would be other ones
        crates/xa_func/numbers.py --check     says whether it would
 
-The names are those of tests/model/names.py. A function that is new there comes behind those of its family; what is no longer there goes. Where two
-names have one number, the next modulus is taken by which all differ. The lines of `nowhere` follow the order of `SINGLE` in src/names.rt.
+The names are those of tests/model/names.py. A function that is new there comes behind those of its family; what is no
+longer there goes. Where two names have one number, the next modulus is taken by which all differ. The lines of
+`nowhere` follow the order of `SINGLE` in src/names.rt.
 """
 import pathlib
 import re
@@ -21,14 +23,15 @@ LEMMAS, CODE = HERE / "proofs" / "TableLemmas.antt", HERE / "src" / "names.rt"
 WIDTH = 150
 # under which alias the lemmas have the arguments of each family
 ALIASES = {
-    "Equal": ["type"], "Compare": ["comparison", "ordered"], "Arithmetic": ["arithmetic"], "Logic": ["logic"], "Text": ["text_function"],
-    "Part": ["part", "text_type"], "StringFrom": ["printed"], "FromString": ["printed"], "Move": ["moved", "direction"], "Bag": ["bag", "type"],
-    "HigherOrder": ["higher"],
+    "Equal": ["type"], "Compare": ["comparison", "ordered"], "Arithmetic": ["arithmetic"], "Logic": ["logic"],
+    "Text": ["text_function"], "Part": ["part", "text_type"], "StringFrom": ["printed"], "FromString": ["printed"],
+    "Move": ["moved", "direction"], "Bag": ["bag", "type"], "HigherOrder": ["higher"],
 }
 
 
 def term(word):
-    """A function as the lemmas write it: of `Part(Contains, AnyUri)` it is `function.Part part.Contains text_type.AnyUri`."""
+    """A function as the lemmas write it: of `Part(Contains, AnyUri)` it is
+    `function.Part part.Contains text_type.AnyUri`."""
     family, *inner = re.findall(r"\w+", word)
     return " ".join(["function." + family, *(f"{alias}.{it}" for alias, it in zip(ALIASES.get(family, []), inner))])
 
@@ -46,7 +49,8 @@ def in_order(terms, listed):
     for it in terms:
         if it not in held:
             family = it.split()[0]
-            held.insert(max((place + 1 for place, other in enumerate(held) if other.split()[0] == family), default=len(held)), it)
+            places = [place for place, other in enumerate(held, 1) if other.split()[0] == family]
+            held.insert(max(places, default=len(held)), it)
     return held
 
 
@@ -73,17 +77,20 @@ def numbers(text):
         modulus += 1
     items = [f"({number(modulus, uri)}, {it}) ∷" for it, uri in order] + ["[]"]
     text = re.sub(r"(\(n \* 7 \+ c\) % )\d+\)", rf"\g<1>{modulus})", text)
-    return re.sub(r"(?<=\nby_number =\n).*?\n(?=\nabbrev function_of)", lambda _: filled(items) + "\n", text, flags=re.S)
+    place = r"(?<=\nby_number =\n).*?\n(?=\nabbrev function_of)"
+    return re.sub(place, lambda _: filled(items) + "\n", text, flags=re.S)
 
 
 def nowhere(text):
     """The text with a line for each function of SINGLE."""
-    single = re.search(r"const SINGLE: \[FuncId; \d+\] = \[(.*?)\];", CODE.read_text(encoding="utf-8"), re.S)[1]
+    code = CODE.read_text(encoding="utf-8")
+    single = re.search(r"const SINGLE: \[FuncId; \d+\] = \[(.*?)\];", code, re.S)[1]
     words = [re.sub(r"\w+::", "", line.strip().rstrip(",")) for line in single.strip().splitlines()]
     lines = []
     for place, word in enumerate(words):
         it = term(word)
-        lines.append(f"nowhere text none {f'({it})' if ' ' in it else it} = (no_other (names text) SINGLE none.single){'.1' * place}.0\n")
+        lines.append(f"nowhere text none {f'({it})' if ' ' in it else it} = "
+                     f"(no_other (names text) SINGLE none.single){'.1' * place}.0\n")
     place = r"(?:nowhere text none [^\n]* = \(no_other \(names text\) SINGLE none\.single\)[.01]+\n)+"
     return re.sub(place, lambda _: "".join(lines), text)
 

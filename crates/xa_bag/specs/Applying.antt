@@ -87,7 +87,7 @@ grows function.Intersection = true
 grows function.Union = true
 grows _ = false
 
--- it is of the kind that a function of the signature gives, where its arguments have no say in that
+-- it is of the kind that a function of the signature gives, if its arguments have no say in that
 abbrev pub IsOfResultKind : Signature → ValueOrBag → Type 0
 IsOfResultKind (signature.FirstOrder parameters k) argument = kind_of_argument argument ≡ k
 IsOfResultKind (signature.HigherOrder f) argument = Unit {0}

@@ -1,4 +1,4 @@
--- Choices of a value for each argument, one after another, the last argument fastest: what the code goes by where it
+-- Choices of a value for each argument, one after another, the last argument fastest: what the code goes by when it
 -- takes the next of them. A choice is held as the values chosen, and for each the place behind it among the values of
 -- its argument.
 use Rattle.std.specs.Prelude.{◌≡◌, ℕ, suc, Bool, true, false, List, [], ◌∷◌, ◌++◌, map, flat_map, length, drop}
@@ -18,7 +18,7 @@ choices_from place (argument ∷ arguments) =
 abbrev pub no_choices : List ValueOrBag → List (List Value)
 no_choices arguments = []
 
--- the choices that are left where these values are chosen: with them all those that are left of the further arguments,
+-- the choices that are left when these values are chosen: with them all those that are left of the further arguments,
 -- then, from the last of them to the first, those that take a later value of its argument
 abbrev pub left : (List ValueOrBag → List (List Value)) → List Value → List ℕ → List ValueOrBag → List (List Value)
 left further [] places arguments = further arguments
@@ -40,7 +40,7 @@ AreChosen (v ∷ vs) (place ∷ places) (argument ∷ arguments) =
 abbrev pub AreAllChosen : List Value → List ℕ → List ValueOrBag → Type 0
 AreAllChosen vs places arguments = AreChosen vs places arguments × (length vs ≡ length arguments)
 
--- the choices from that of the values on, where one was found
+-- the choices from that of the values on, if one was found
 abbrev pub from_found : Bool → List Value → List ℕ → List ValueOrBag → List (List Value)
 from_found true vs places arguments = vs ∷ left no_choices vs places arguments
 from_found false vs places arguments = []

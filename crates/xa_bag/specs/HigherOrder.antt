@@ -17,7 +17,7 @@ abbrev pub choices : List ValueOrBag → List (List Value)
 choices [] = [] ∷ []
 choices (argument ∷ arguments) = flat_map (λ v. map (λ vs. v ∷ vs) (choices arguments)) (values_of argument)
 
--- where one argument is a bag, the choices are its values, each in the bag's place
+-- if one argument is a bag, the choices are its values, each in the bag's place
 abbrev pub EachInItsPlace : Type 0
 EachInItsPlace =
     (before after : List Value) (b : Contents)
@@ -33,7 +33,7 @@ abbrev pub is_true : Value → Bool
 is_true (value.Boolean b) = b
 is_true _ = false
 
--- whether the result is True, where there is one
+-- whether the result is True, if there is one
 abbrev pub truth : {F : Type 0} → Result Value F → Result Bool F
 truth (Ok v) = Ok (is_true v)
 truth (Err e) = Err e
@@ -60,7 +60,7 @@ abbrev pub all_of_all : {F : Type 0} → (List Value → Result Value F) → Lis
     → Result Bool (BagFault F)
 all_of_all f vs ws = and_of (map (λ v. and_of (map (λ w. holds f (v ∷ w ∷ [])) ws)) vs)
 
--- a value before others, where they are given
+-- a value before others, if they are given
 abbrev pub with_first : {X F : Type 0} → X → Result (List X) F → Result (List X) F
 with_first x (Ok xs) = Ok (x ∷ xs)
 with_first x (Err e) = Err e
@@ -71,7 +71,7 @@ collected [] = Ok []
 collected (Ok x ∷ rs) = with_first x (collected rs)
 collected (Err e ∷ rs) = Err e
 
--- the bag of the values, where they are given
+-- the bag of the values, if they are given
 abbrev pub as_bag : {F : Type 0} → DataType → Result (List Value) F → Result Contents F
 as_bag t (Ok vs) = Ok (bag_of t vs)
 as_bag t (Err e) = Err e

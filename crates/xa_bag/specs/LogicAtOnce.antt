@@ -1,5 +1,5 @@
 -- Or, and and n-of of some choice of a value for each argument, seen from how many arguments are True in one choice
--- at the most: what the code goes by where it needs no call of an inner function for each choice.
+-- at the most: what the code goes by if it needs no call of an inner function for each choice.
 use Rattle.std.specs.Prelude.{ℕ, suc, nat_le, nat_lt, int_lt, if◌then◌else◌, List, [], ◌∷◌, map, ℤ}
 use Rattle.std.specs.Prelude.{pos, unsigned_abs, Option, Some, None, option_map, Bool, Result, Ok, Err}
 use Rattle.std.specs.List.{list_any}
@@ -19,12 +19,12 @@ use Rattle.xa_bag.specs.ValueOrBag.{values_of, type_of_each}
 abbrev pub of_some_choice : Logic → List ValueOrBag → Result Bool FuncFault
 of_some_choice function arguments = or_of (map (logical function) (choices arguments))
 
--- the most that are True with one more argument, of these values; none where it has no value
+-- the most that are True with one more argument, of these values; none if it has no value
 abbrev pub with_values : List Value → Option ℕ → Option ℕ
 with_values [] most = None
 with_values (v ∷ vs) most = option_map (λ n. if list_any is_true (v ∷ vs) then suc n else n) most
 
--- how many arguments are True in one choice at the most: those that have a True. Where one has no value, there is no
+-- how many arguments are True in one choice at the most: those that have a True. If one has no value, there is no
 -- choice
 abbrev pub most_true : List ValueOrBag → Option ℕ
 most_true [] = Some 0
@@ -35,7 +35,7 @@ abbrev pub EachOfItsType : List ValueOrBag → Type 0
 EachOfItsType [] = Unit {0}
 EachOfItsType (argument ∷ arguments) = OfType (type_of_each argument) (values_of argument) × EachOfItsType arguments
 
--- n-of by its number, where so many of so many booleans are True
+-- what n-of gives for the number n, if `trues` of its `booleans` booleans are True
 abbrev pub n_of_counted : ℕ → ℕ → ℤ → Result Bool FuncFault
 n_of_counted trues booleans n =
     if int_lt n (pos 0) then Err Position

@@ -1,4 +1,4 @@
--- Any or all, where a question is asked of many.
+-- Any or all: of how many items a question must be True.
 use Rattle.std.specs.Prelude.{Bool, true, false}
 use Rattle.xa_bag.specs.declared.quantifier.Quantifier.{Quantifier}
 use Rattle.xa_bag.specs.declared.quantifier.Quantifier.TheVariants as quantifier

@@ -1,4 +1,4 @@
--- Two values that are equal, or lie in an order, and all pairs of the values of two bags: what the code goes by where
+-- Two values that are equal, or lie in an order, and all pairs of the values of two bags: what the code goes by if
 -- it needs no call of an inner function for each pair.
 use Rattle.std.specs.Prelude.{Bool, if◌then◌else◌, List, [], ◌∷◌, Result, Ok}
 use Rattle.std.specs.List.{list_any, list_all}

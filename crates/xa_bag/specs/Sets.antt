@@ -1,4 +1,4 @@
--- The bag and set functions (XACML 3.0, core, appendix A.3.10, A.3.11). Two values are equal where the type's equal
+-- The bag and set functions (XACML 3.0, core, appendix A.3.10, A.3.11). Two values are equal if the type's equal
 -- function says so.
 use Rattle.std.specs.Prelude.{Bool, not, ◌&&◌, List, [], ◌∷◌, filter, flat_map, Result, Ok, Err}
 use Rattle.std.specs.List.{list_any, list_all}

@@ -7,8 +7,8 @@ use std::alloc::{AllocError, Global};
 use std::marker::Model;
 use xa_value::{DataType, Shared, Value};
 
-/// From how many values on those of a bag are lent: fewer don't repay the allocation that a share takes.
-const MANY: usize = 8;
+/// From this many values on copies share them; fewer don't repay the allocation.
+const SHARED_FROM: usize = 8;
 
 /// A bag: any number of values of one data type, in order (XACML 3.0, core, section 7.3.2). They
 /// are its own, or its copies share them.
@@ -57,7 +57,7 @@ impl Bag {
     pub fn lent(self) -> Result<Bag, AllocError>
         ensures { IfOk result (λ bag. bag ≡ self) }
     {
-        if self.len() < MANY || self.shared.is_some() {
+        if self.len() < SHARED_FROM || self.shared.is_some() {
             return Ok(self);
         }
         let alloc = self.allocator();
@@ -148,15 +148,6 @@ impl Bag {
     }
 }
 
-/// A copy of the values, with one more behind them.
-fn with_value(values: &Vec<Value>, value: Value) -> Result<Vec<Value>, AllocError>
-    ensures { IfOk result (λ all. all.items ≡ values.now.items ++ value ∷ []) }
-{
-    let mut all = values.clone()?;
-    all.push(value)?;
-    Ok(all)
-}
-
 impl Clone for Bag {
     ghost is_clone = { λ bag copy. copy ≡ bag };
 
@@ -174,4 +165,13 @@ impl Clone for Bag {
             }),
         }
     }
+}
+
+/// A copy of the values, with one more at the end.
+fn with_value(values: &Vec<Value>, value: Value) -> Result<Vec<Value>, AllocError>
+    ensures { IfOk result (λ all. all.items ≡ values.now.items ++ value ∷ []) }
+{
+    let mut all = values.clone()?;
+    all.push(value)?;
+    Ok(all)
 }

@@ -1,6 +1,6 @@
 //! Choices of a value for each argument, one after another, the last argument fastest. A choice is held as
-//! the values chosen, and for each the place behind it among the values of its argument: so arguments take
-//! no native stack, however many they are.
+//! the values chosen, and for each the place behind it among the values of its argument. So it takes no
+//! native stack, however many arguments there are.
 ghost use Rattle.std.specs.Prelude.{◌≡◌, ◌<◌, List, [], ◌∷◌, ◌++◌, length, IfOk};
 ghost use Rattle.xa_value.specs.declared.value.Value.{Value};
 ghost use Rattle.xa_bag.specs.HigherOrder.{choices};
@@ -25,7 +25,7 @@ fn drop_last(values: &mut Vec<Value>)
     values.pop();
 }
 
-/// Chooses the value at the place of the argument behind those chosen for, and answers whether it has one.
+/// Chooses the next argument's value at the place; false if it has none there.
 fn choose(
     arguments: &[ValueOrBag],
     place: usize,
@@ -47,8 +47,7 @@ fn choose(
     Ok(true)
 }
 
-/// Chooses the first value of each argument behind those chosen for, and answers whether all have one: else
-/// there is no choice.
+/// Chooses the first value of each further argument; false if one has no value, so that there is no choice.
 pub(crate) fn choose_firsts(
     arguments: &[ValueOrBag],
     chosen: &mut Vec<Value>,
@@ -67,7 +66,7 @@ pub(crate) fn choose_firsts(
     Ok(true)
 }
 
-/// Goes on to the next choice, and answers whether there is one.
+/// Goes on to the next choice; false if there is none.
 pub(crate) fn choose_next(
     arguments: &[ValueOrBag],
     chosen: &mut Vec<Value>,

@@ -11,12 +11,12 @@ use std::collections::BTreeSet;
 use std::marker::Model;
 use xa_value::{DataType, SortKey, Value};
 
-/// A bag without doubles in the making, beside the keys of its values if there may be many.
+/// A bag without doubles in the making, with the keys of its values if there may be many.
 #[derive(Drop)]
 pub(crate) struct Distinct<'a> {
     /// The values so far.
     bag: Bag,
-    /// Their keys; none, if there will be few values, which are searched one after another.
+    /// Their keys; none if there will be few values: these are searched one after another.
     keys: Option<BTreeSet<SortKey<'a>>>,
 }
 
@@ -35,7 +35,7 @@ impl<'a> Model for Distinct<'a> {
 }
 
 impl<'a> Distinct<'a> {
-    /// No values, of the type. At most that many will be put, or the work grows.
+    /// An empty bag of the type. `most` is how many values will be put; more only take longer.
     pub(crate) fn new(alloc: Global, data_type: DataType, most: usize) -> Distinct<'a>
         ensures { result ≡ bag_of data_type [] }
     {
@@ -48,7 +48,7 @@ impl<'a> Distinct<'a> {
         Distinct { bag, keys }
     }
 
-    /// The values, and the value at their end, unless it is among them.
+    /// The same bag, with the value at the end unless it is there.
     fn with(self, value: &'a Value) -> Result<Distinct<'a>, AllocError>
         requires { type_of value.now ≡ self.data_type }
         ensures { IfOk result (λ d. d ≡ bag_of self.entry.data_type
@@ -73,7 +73,7 @@ impl<'a> Distinct<'a> {
         })
     }
 
-    /// The same, if the value is also among the members.
+    /// The same bag, with the value at the end if it is among the members and not yet there.
     pub(crate) fn with_shared(
         self,
         members: &Members<'a>,
@@ -91,7 +91,8 @@ impl<'a> Distinct<'a> {
         self.with(value)
     }
 
-    /// The values, and those of the list that are not among them, each once, at its first appearance.
+    /// The same bag, with those of the values at the end that are not yet there, each once, at its first
+    /// appearance.
     #[tactic(auto, using(crate::proofs::SetLemmas::joined_more, crate::proofs::SetLemmas::joined_none))]
     pub(crate) fn with_all(self, values: &'a [Value]) -> Result<Distinct<'a>, AllocError>
         requires { OfType self.data_type values.now }

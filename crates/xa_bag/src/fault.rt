@@ -7,12 +7,13 @@ use thiserror::Error;
 use xa_func::{FuncFault, Status};
 use xa_value::OrMemory;
 
-/// Why a function of bags gives no value, where `F` says why its inner function gives none.
+/// Why a function of bags gives no value (XACML 3.0, core, section 7.5 and appendix B.8). `F` says why its
+/// inner function gives none.
 #[derive(Clone, Copy, Debug, PartialEq, Eq, Error)]
 pub enum BagFault<F> {
-    /// The one value of a bag was asked for that does not have exactly one; or all-of-any or all-of-all
-    /// was given other than two bags.
-    #[error("the bag does not have exactly one value")]
+    /// One-and-only was given a bag that does not have exactly one value; or all-of-any or all-of-all was
+    /// given arguments other than two bags.
+    #[error("the bag does not have exactly one value, or there are not two bags")]
     NotOne,
     /// The function that was applied to the values gave this fault.
     #[error("the inner function failed")]

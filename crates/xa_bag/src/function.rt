@@ -47,7 +47,7 @@ impl Inner for FuncId {
             FuncId::Compare(comparison, _) => {
                 compared_at_once(Relation::Order(comparison), higher_order, arguments)
             }
-            FuncId::Logic(function) => decided_at_once(function, higher_order, arguments),
+            FuncId::Logic(function) => logical_at_once(function, higher_order, arguments),
             _ => None,
         }
     }
@@ -57,7 +57,7 @@ impl Inner for FuncId {
     }
 }
 
-/// What the higher-order function gives of the function that compares so, if that is found at once.
+/// What the higher-order function gives for the function that compares so, if that is found at once.
 fn compared_at_once(
     relation: Relation,
     higher_order: HigherOrder,
@@ -72,8 +72,22 @@ fn compared_at_once(
     Some(Ok(answer))
 }
 
-/// What the higher-order function gives of the function of booleans, if that is found at once.
-fn decided_at_once(
+/// What any-of gives for the function of booleans, if that is found at once.
+fn any_of_logic(
+    function: Logic,
+    arguments: &[ValueOrBag],
+) -> Option<Result<bool, BagFault<FuncFault>>>
+    requires { TakesKinds (function_id.Logic function) (map kind_of_each arguments.now) }
+    ensures { IfSome result (λ answer. any_of (applied (function_id.Logic function)) arguments.now ≡ answer) }
+{
+    match of_some_choice(function, arguments)? {
+        Ok(answer) => Some(Ok(answer)),
+        Err(fault) => Some(Err(BagFault::Inner(fault))),
+    }
+}
+
+/// What the higher-order function gives for the function of booleans, if that is found at once.
+fn logical_at_once(
     function: Logic,
     higher_order: HigherOrder,
     arguments: &[ValueOrBag],
@@ -87,19 +101,5 @@ fn decided_at_once(
         HigherOrder::AnyOf | HigherOrder::AnyOfAny => any_of_logic(function, arguments),
         HigherOrder::AllOf | HigherOrder::Map | HigherOrder::AllOfAny | HigherOrder::AllOfAll =>
             None,
-    }
-}
-
-/// What any-of gives of the function of booleans, if that is found at once.
-fn any_of_logic(
-    function: Logic,
-    arguments: &[ValueOrBag],
-) -> Option<Result<bool, BagFault<FuncFault>>>
-    requires { TakesKinds (function_id.Logic function) (map kind_of_each arguments.now) }
-    ensures { IfSome result (λ answer. any_of (applied (function_id.Logic function)) arguments.now ≡ answer) }
-{
-    match of_some_choice(function, arguments)? {
-        Ok(answer) => Some(Ok(answer)),
-        Err(fault) => Some(Err(BagFault::Inner(fault))),
     }
 }

@@ -80,7 +80,27 @@ fn holds_of_choices<F: Inner>(
     Ok(!sought)
 }
 
-/// Puts what the function gives for each choice of a value of each argument, up to the first fault.
+/// Puts what the function gives for the arguments at the end of the bag.
+fn push_result<F: Inner>(
+    alloc: Global,
+    function: &F,
+    arguments: &[Value],
+    mut results: Bag,
+) -> Result<Bag, OrMemory<BagFault<F::Fault>>>
+    requires can { F.can function.now (map kind_of arguments.now) }
+    requires of_type { results.data_type ≡ F.result_type function.now }
+    ensures value { Gives result
+        (as_bag results.data_type
+        (collected (map Ok results.values ++ outcome (F.gives function.now arguments.now) ∷ []))) }
+    ensures typed { IfOk result (λ bag. bag.data_type ≡ results.data_type) }
+{
+    let given = outcome(alloc, function, arguments)?;
+    results.put(given)?;
+    Ok(results)
+}
+
+/// Puts what the function gives for each choice of a value of each argument at the end of the bag, up to
+/// the first fault.
 fn results_of_choices<F: Inner>(
     alloc: Global,
     function: &F,
@@ -105,45 +125,20 @@ fn results_of_choices<F: Inner>(
     Ok(results)
 }
 
-/// Puts what the function gives for the arguments at the end of the bag.
-fn push_result<F: Inner>(
+/// Whether the function gives True for the two arguments.
+fn holds_of_both<F: Inner>(
     alloc: Global,
     function: &F,
-    arguments: &[Value],
-    mut results: Bag,
-) -> Result<Bag, OrMemory<BagFault<F::Fault>>>
-    requires can { F.can function.now (map kind_of arguments.now) }
-    requires of_type { results.data_type ≡ F.result_type function.now }
-    ensures value { Gives result
-        (as_bag results.data_type
-        (collected (map Ok results.values ++ outcome (F.gives function.now arguments.now) ∷ []))) }
-    ensures typed { IfOk result (λ bag. bag.data_type ≡ results.data_type) }
-{
-    let given = outcome(alloc, function, arguments)?;
-    results.put(given)?;
-    Ok(results)
-}
-
-/// Whether for each value of the first bag the function gives True with any or all values of the second.
-fn each_with<F: Inner>(
-    alloc: Global,
-    function: &F,
-    quantifier: Quantifier,
-    first: &Bag,
-    second: &Bag,
+    value: &Value,
+    other: &Value,
 ) -> Result<bool, OrMemory<BagFault<F::Fault>>>
-    requires { F.can function.now (kind.Value first.now.data_type ∷ kind.Value second.now.data_type ∷ []) }
-    ensures { Gives result (and_of
-        (map (λ v. let found = map (λ w. holds (F.gives function.now) (v ∷ w ∷ [])) second.now.values in
-        if settling quantifier then or_of found else and_of found) first.now.values)) }
+    requires { F.can function.now (kind_of value.now ∷ kind_of other.now ∷ []) }
+    ensures { Gives result (holds (F.gives function.now) (value.now ∷ other.now ∷ [])) }
 {
-    for value in first.values() {
-        let answer = one_with(alloc, function, quantifier, value, second)?;
-        if !answer {
-            return Ok(false);
-        }
-    }
-    Ok(true)
+    let mut arguments = Vec::new(alloc);
+    push_copy(&mut arguments, value)?;
+    push_copy(&mut arguments, other)?;
+    holds(alloc, function, arguments.as_slice())
 }
 
 /// Whether the function gives True for the value with any or all values of the bag.
@@ -168,24 +163,31 @@ fn one_with<F: Inner>(
     Ok(!sought)
 }
 
-/// Whether the function gives True for the two arguments.
-fn holds_of_both<F: Inner>(
+/// Whether for each value of the first bag the function gives True with any or all values of the second.
+fn each_with<F: Inner>(
     alloc: Global,
     function: &F,
-    value: &Value,
-    other: &Value,
+    quantifier: Quantifier,
+    first: &Bag,
+    second: &Bag,
 ) -> Result<bool, OrMemory<BagFault<F::Fault>>>
-    requires { F.can function.now (kind_of value.now ∷ kind_of other.now ∷ []) }
-    ensures { Gives result (holds (F.gives function.now) (value.now ∷ other.now ∷ [])) }
+    requires { F.can function.now (kind.Value first.now.data_type ∷ kind.Value second.now.data_type ∷ []) }
+    ensures { Gives result (and_of
+        (map (λ v. let found = map (λ w. holds (F.gives function.now) (v ∷ w ∷ [])) second.now.values in
+        if settling quantifier then or_of found else and_of found) first.now.values)) }
 {
-    let mut arguments = Vec::new(alloc);
-    push_copy(&mut arguments, value)?;
-    push_copy(&mut arguments, other)?;
-    holds(alloc, function, arguments.as_slice())
+    for value in first.values() {
+        let answer = one_with(alloc, function, quantifier, value, second)?;
+        if !answer {
+            return Ok(false);
+        }
+    }
+    Ok(true)
 }
 
 /// Any-of and any-of-any: whether the function gives True for some choice of a value of each argument,
-/// the last argument fastest. If one argument is a bag, it is given each of its values in the bag's place.
+/// the last argument fastest. If one argument is a bag, the function is given each of its values in the
+/// bag's place.
 pub(crate) fn any_of<F: Inner>(
     alloc: Global,
     function: &F,

@@ -15,8 +15,8 @@ use std::alloc::Global;
 use xa_func::{HasKind, HigherOrder};
 use xa_value::{DataType, OrMemory, Value};
 
-/// A function of values, as a higher-order function takes it: any function from arguments to a
-/// value of one type, or a fault.
+/// A function of values, as a higher-order function takes it (XACML 3.0, core, appendix A.3.12): any
+/// function from arguments to a value of one type, or a fault.
 pub trait Inner {
     /// Why the function gives no value.
     type Fault;
@@ -38,7 +38,7 @@ pub trait Inner {
     fn result_type(&self) -> DataType
         ensures { result ≡ result_type self.now };
 
-    /// What the higher-order function gives of this one, if that is found without a call for
+    /// What the higher-order function gives for this one, if that is found without a call for
     /// each choice of arguments.
     fn at_once(
         &self,

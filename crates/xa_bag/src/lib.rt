@@ -6,8 +6,8 @@
 //! and made as `distinct`. A `fault` says why there is no value.
 //!
 //! A higher-order function calls an `inner` one for each choice that `choosing` finds, up to the one that
-//! settles its `quantifier`. A `function` of values is inner: where it can be asked at once of all choices,
-//! that is by `relation` or `logic_at_once`.
+//! settles its `quantifier`. A `function` of values is inner: if it can be asked at once of all choices, that
+//! is by `relation` or `logic_at_once`.
 #![tactic(auto)]
 
 mod apply;

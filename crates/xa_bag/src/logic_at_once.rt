@@ -1,6 +1,6 @@
-//! Or, and and n-of of some choice of a value for each argument: by how many arguments have a True,
-//! in place of a call for each choice, of which there are as many as the product of the bags'
-//! sizes. The work grows by the number of the values.
+//! Or, and and n-of of some choice of a value for each argument, by how many arguments have a True. So
+//! the work grows by the number of the values. A call for each choice would be as many calls as the
+//! product of the bags' sizes.
 ghost use Rattle.std.specs.Prelude.{◌≡◌, nat_le, nat_lt, if◌then◌else◌, map, Ok, Err, IfSome};
 ghost use Rattle.std.specs.List.{list_any};
 ghost use Rattle.xa_value.specs.declared.data_type.DataType.TheVariants as data_type;
@@ -28,9 +28,8 @@ fn has_true(values: &[Value]) -> bool
     values.iter().any(|value| is_true(value))
 }
 
-/// How many arguments are True in one choice at the most: those that have a True. None, if there
-/// is no choice, an argument being an empty bag. Clause `of_type`: what was looked at is of the
-/// arguments' types.
+/// At most how many arguments are True in one choice: those that have a True. None if an argument is an
+/// empty bag: then there is no choice. Clause `of_type`: what was looked at is of the arguments' types.
 fn most_true(arguments: &[ValueOrBag]) -> Option<usize>
     ensures value { result ≡ most_true arguments.now }
     ensures of_type { IfSome result (λ _. EachOfItsType arguments.now) }
@@ -69,8 +68,9 @@ fn and_of_some_choice(arguments: &[ValueOrBag]) -> bool
     }
 }
 
-/// Whether this many are True of so many booleans, of which so many are.
-fn are_this_many(trues: usize, booleans: usize, wanted: usize) -> Result<bool, FuncFault>
+/// Whether at least `wanted` booleans are True, if `trues` of them are; Position if there are fewer than
+/// `wanted`.
+fn are_at_least(trues: usize, booleans: usize, wanted: usize) -> Result<bool, FuncFault>
     ensures { result ≡ (if nat_lt booleans wanted then Err Position else Ok (nat_le wanted trues)) }
 {
     if wanted > booleans {
@@ -79,17 +79,17 @@ fn are_this_many(trues: usize, booleans: usize, wanted: usize) -> Result<bool, F
     Ok(wanted <= trues)
 }
 
-/// N-of by its number, if so many of so many booleans are True.
+/// What n-of gives for its number, if `trues` of its booleans are True.
 fn n_of_counted(trues: usize, booleans: usize, wanted: i64) -> Result<bool, FuncFault>
     ensures { result ≡ n_of_counted trues booleans wanted }
 {
     if wanted < 0 {
         return Err(FuncFault::Position);
     }
-    are_this_many(trues, booleans, wanted.unsigned_abs() as usize)
+    are_at_least(trues, booleans, wanted.unsigned_abs() as usize)
 }
 
-/// N-of by its number as a value, if so many of so many booleans are True.
+/// What n-of gives for its number as a value, if `trues` of its booleans are True.
 fn n_of_value(trues: usize, booleans: usize, value: &Value) -> Result<bool, FuncFault>
     ensures { result ≡ n_of_value trues booleans value.now }
 {
@@ -100,7 +100,7 @@ fn n_of_value(trues: usize, booleans: usize, value: &Value) -> Result<bool, Func
     }
 }
 
-/// Whether n-of is True by some of the numbers, up to the first by which it is True or a fault.
+/// Whether n-of is True for some of the numbers, up to the first for which it is True or a fault.
 fn n_of_some(trues: usize, booleans: usize, numbers: &[Value]) -> Result<bool, FuncFault>
     ensures { result ≡ or_of (map (n_of_value trues booleans) numbers.now) }
 {

@@ -13,16 +13,16 @@ use xa_value::{DataType, SortKey, Value};
 /// faster one after another. `MOST_COMPARISONS` of `xa_expr` charges a search by it.
 pub(crate) const ORDERED_FROM: usize = 32;
 
-/// The values of a bag, to be searched: of many that are searched often the order is made once, and
-/// then a search takes the logarithm of their number. Where there is no memory for that, they are
-/// searched one after another.
+/// The values of a bag, to be searched. Many values that are searched often are ordered once, and then
+/// a search takes the logarithm of their number. If there is no memory for that, they are searched one
+/// after another.
 #[derive(Drop)]
 pub struct Members<'a> {
     /// The type of the values.
     data_type: DataType,
     /// The values, as the bag has them.
     values: &'a [Value],
-    /// Their keys, in order; none, if the values are searched one after another.
+    /// Their keys, in order; none if the values are searched one after another.
     keys: Option<Vec<SortKey<'a>>>,
 }
 

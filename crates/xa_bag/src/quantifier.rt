@@ -1,19 +1,19 @@
-//! Any or all, where a question is asked of many.
+//! Any or all: of how many items a question must be True.
 ghost use Rattle.std.specs.Prelude.{◌≡◌};
 ghost use Rattle.xa_bag.specs.Quantifier.{settling};
 
-/// Of how many the answer must be True, where a question is asked of many.
+/// Whether a question must be True of one item or of all.
 #[derive(Clone, Copy, Debug, PartialEq, Eq)]
 pub enum Quantifier {
-    /// Of one at the least.
+    /// Of at least one.
     Any,
-    /// Of each.
+    /// Of all.
     All,
 }
 
 impl Quantifier {
-    /// The answer that settles it, whatever the others are: True for any, and False for all. Where none
-    /// is so, the other answer is right.
+    /// The answer that settles it, whatever the others are: True for any, and False for all. If no
+    /// answer is that one, the result is the other.
     pub fn settling(self) -> bool
         ensures { result ≡ settling self }
     {

@@ -1,6 +1,6 @@
-//! All pairs of the values of two bags, where a pair is compared by equality or by order: by a
-//! search for each value of the first bag, or by the least or the greatest value of the second, in
-//! place of a look at each pair.
+//! All pairs of the values of two bags, each compared by equality or by order. In place of a look at
+//! each pair, each value of the first bag is searched for, or compared with the least or the greatest
+//! value of the second.
 ghost use Rattle.std.specs.Prelude.{◌≡◌, [], ◌∷◌, Ok, IfSome};
 ghost use Rattle.std.specs.List.{list_any, list_all};
 ghost use Rattle.xa_value.specs.declared.data_type.DataType.TheVariants as data_type;
@@ -21,12 +21,12 @@ use xa_value::Value;
 pub(crate) enum Relation {
     /// Whether they are equal.
     Equal,
-    /// Whether the first lies to the second as asked.
+    /// Whether the first compares to the second as asked.
     Order(Comparison),
 }
 
 impl Relation {
-    /// What the higher-order function gives for two bags, of the function that compares so, if
+    /// What the higher-order function gives for two bags and the function that compares so, if
     /// it takes two bags. The work grows by the sum of the bags' sizes, of equality by that and its
     /// logarithm if there is memory for keys.
     pub(crate) fn of_bags(
@@ -176,6 +176,13 @@ fn each_to_hardest(comparison: Comparison, first: &Bag, second: &Bag) -> bool
     all_as_asked(comparison, first.values(), hardest)
 }
 
+/// Whether all of the values are equal to the value.
+fn are_all(values: &[Value], value: &Value) -> bool
+    ensures { result ≡ list_all (λ v. same v value.now) values.now }
+{
+    values.iter().all(|other| other.same(value))
+}
+
 /// Whether each value of the first bag is equal to each value of the second: if there are any,
 /// all are equal to one of them.
 fn all_equal(first: &Bag, second: &Bag) -> bool
@@ -186,14 +193,7 @@ fn all_equal(first: &Bag, second: &Bag) -> bool
         return true;
     };
     // All three are asked, since the proof is by what all of them answer: no `&&` and no `||`. So the
-    // second bag is looked at also where the first has settled it.
+    // second bag is looked at even if the first has settled it.
     let alike = are_all(first.values(), other) & are_all(others, other);
     first.is_empty() | alike
-}
-
-/// Whether all of the values are equal to the value.
-fn are_all(values: &[Value], value: &Value) -> bool
-    ensures { result ≡ list_all (λ v. same v value.now) values.now }
-{
-    values.iter().all(|other| other.same(value))
 }

@@ -18,7 +18,7 @@ use crate::value_or_bag::ValueOrBag;
 use std::alloc::{AllocError, Global};
 use xa_value::{DataType, OrMemory, Value};
 
-/// The value of a bag that has exactly one, and NotOne of any other (XACML 3.0, core, appendix A.3.10).
+/// The value of a bag that has exactly one; NotOne of any other (XACML 3.0, core, appendix A.3.10).
 pub fn one_and_only<F>(bag: &Bag) -> Result<Value, OrMemory<BagFault<F>>>
     ensures value { Gives result (one_and_only bag.now.values) }
     ensures of_type { IfOk result (λ v. type_of v ≡ bag.now.data_type) }
@@ -29,21 +29,21 @@ pub fn one_and_only<F>(bag: &Bag) -> Result<Value, OrMemory<BagFault<F>>>
     }
 }
 
-/// How many values the bag has.
+/// How many values the bag has (XACML 3.0, core, appendix A.3.10).
 pub fn bag_size(bag: &Bag) -> i64
     ensures { result ≡ pos (length bag.now.values) }
 {
     bag.len() as i64
 }
 
-/// Whether the value is in the bag.
+/// Whether the value is in the bag (XACML 3.0, core, appendix A.3.10).
 pub fn is_in(value: &Value, bag: &Bag) -> bool
     ensures { result ≡ is_among bag.now.values value.now }
 {
     is_among(bag.values(), value)
 }
 
-/// Whether some value of the first bag is in the second.
+/// Whether some value of the first bag is in the second (XACML 3.0, core, appendix A.3.11).
 pub fn at_least_one_member_of<'a>(first: &'a Bag, second: &'a Bag) -> bool
     ensures { result ≡ at_least_one first.now.values second.now.values }
 {
@@ -56,7 +56,7 @@ pub fn at_least_one_member_of<'a>(first: &'a Bag, second: &'a Bag) -> bool
     false
 }
 
-/// Whether every value of the first bag is in the second.
+/// Whether every value of the first bag is in the second (XACML 3.0, core, appendix A.3.11).
 pub fn subset<'a>(first: &'a Bag, second: &'a Bag) -> bool
     ensures { result ≡ subset first.now.values second.now.values }
 {
@@ -69,14 +69,15 @@ pub fn subset<'a>(first: &'a Bag, second: &'a Bag) -> bool
     true
 }
 
-/// Whether each bag has all values of the other.
+/// Whether each bag has all values of the other (XACML 3.0, core, appendix A.3.11).
 pub fn set_equals<'a>(first: &'a Bag, second: &'a Bag) -> bool
     ensures { result ≡ set_equals first.now.values second.now.values }
 {
     subset(first, second) && subset(second, first)
 }
 
-/// The values of the first bag that are in the second, each once, at its first appearance.
+/// The values of the first bag that are in the second, each once, at its first appearance (XACML 3.0, core,
+/// appendix A.3.11).
 #[tactic(auto, using(crate::proofs::SetLemmas::joined_more, crate::proofs::SetLemmas::joined_none, crate::proofs::SetLemmas::joined_all))]
 pub fn intersection<'a>(alloc: Global, first: &'a Bag, second: &'a Bag) -> Result<Bag, AllocError>
     ensures { IfOk result (λ bag.
@@ -88,6 +89,19 @@ pub fn intersection<'a>(alloc: Global, first: &'a Bag, second: &'a Bag) -> Resul
         both = both.with_shared(&others, value)?;
     }
     Ok(both.into_bag())
+}
+
+/// Puts the argument's values at the end of the bag.
+#[tactic(auto, using(crate::proofs::SetLemmas::put_more, crate::proofs::SetLemmas::put_none))]
+fn push_all(bag: &mut Bag, argument: &ValueOrBag) -> Result<(), AllocError>
+    requires { type_of_each argument.now ≡ bag.old.data_type }
+    ensures { IfOk result (λ _.
+        bag.new ≡ contents bag.old.data_type (bag.old.values ++ values_of argument.now)) }
+{
+    for value in argument.values() {
+        bag.put(value.clone()?)?;
+    }
+    Ok(())
 }
 
 /// The bag of the arguments' values, in order.
@@ -130,17 +144,4 @@ pub(crate) fn union(
         all = all.with_all(argument.values())?;
     }
     Ok(all.into_bag())
-}
-
-/// Puts the argument's values at the end of the bag.
-#[tactic(auto, using(crate::proofs::SetLemmas::put_more, crate::proofs::SetLemmas::put_none))]
-fn push_all(bag: &mut Bag, argument: &ValueOrBag) -> Result<(), AllocError>
-    requires { type_of_each argument.now ≡ bag.old.data_type }
-    ensures { IfOk result (λ _.
-        bag.new ≡ contents bag.old.data_type (bag.old.values ++ values_of argument.now)) }
-{
-    for value in argument.values() {
-        bag.put(value.clone()?)?;
-    }
-    Ok(())
 }

@@ -35,7 +35,7 @@ month_at months = unsigned_abs (int_rem_euclid months (pos 12)) + 1
 abbrev pub is_year : ℤ → Bool
 is_year year = int_le (pos 1) year && int_le year (pos 9999)
 
--- the same day of the month with that number, or its last day where it is shorter
+-- the same day of the month with that number, or its last day if it is shorter
 unfoldable pub day_in_month : ℕ → ℤ → Result Day FuncFault
 day_in_month day months =
     if is_year (year_at months) then Ok (record {
@@ -89,15 +89,15 @@ date_time_at nanos zone =
 abbrev pub date_time_after_nanos : CivilDateTime → ℤ → Result CivilDateTime FuncFault
 date_time_after_nanos d nanos = date_time_at (local_nanos d +ℤ nanos) d.zone
 
--- a time's nanoseconds in UTC, where an absent zone is the other one, and without that UTC
+-- a time in UTC, in nanoseconds: a time without a zone takes the other zone, else UTC
 abbrev pub nanos_in_utc : ClockTime → Option ℤ → ℤ
 nanos_in_utc t zone = pos t.nanos -ℤ offset_of (option_or t.zone zone) *ℤ pos 60_000_000_000
 
--- how long it takes a clock that goes round to come from one time to another
+-- the nanoseconds from one time of day to the next occurrence of the other
 abbrev pub distance : ℤ → ℤ → ℕ
 distance from to = unsigned_abs (int_rem_euclid (to -ℤ from) (pos day_nanos))
 
--- a clock that goes round comes from the start to the time no later than to the end
+-- a clock that starts at `start` shows the time no later than `end`
 unfoldable pub time_in_range : ClockTime → ClockTime → ClockTime → Bool
 time_in_range t start end =
     let from = nanos_in_utc start t.zone in

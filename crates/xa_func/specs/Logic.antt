@@ -26,8 +26,8 @@ or_of rs = by_places (λ b. b) false rs
 abbrev pub and_of : {F : Type 0} → List (Result Bool F) → Result Bool F
 and_of rs = by_places not true rs
 
--- n of the places, from first to last: a fault that is reached is the result, a True is one of the n, and after a
--- False too few may be left
+-- at least n of the places, from first to last: a fault that is reached is the result, a True is one of the n, and
+-- after a False too few may be left
 abbrev pub n_places : {F : Type 0} → ℕ → List (Result Bool F) → Result Bool F
 n_places zero rs = Ok true
 n_places (suc n) [] = Ok false
@@ -35,11 +35,11 @@ n_places (suc n) (Err e ∷ rs) = Err e
 n_places (suc n) (Ok true ∷ rs) = n_places n rs
 n_places (suc n) (Ok false ∷ rs) = if nat_lt (length rs) (suc n) then Ok false else n_places (suc n) rs
 
--- n of the places: none is True at once, and more than there are is a fault
+-- at least n of the places: for 0 it is True at once, and more than there are is a fault
 unfoldable pub n_among : {F : Type 0} → F → ℕ → List (Result Bool F) → Result Bool F
 n_among fault n rs = if nat_lt (length rs) n then Err fault else n_places n rs
 
--- n-of: a negative number is a fault
+-- n-of, at least n: a negative number is a fault
 abbrev pub n_of : {F : Type 0} → F → ℤ → List (Result Bool F) → Result Bool F
 n_of fault n rs = if int_lt n (pos 0) then Err fault else n_among fault (unsigned_abs n) rs
 

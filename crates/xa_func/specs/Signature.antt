@@ -153,7 +153,7 @@ pub record EachInPlace (parameters : Parameters) (ks : List Kind) : Type 0 where
   pub counted : IsTrue (takes parameters (length ks))
   pub placed : (place : ℕ) → place < length ks → kind_at parameters place ≡ slice_get ks place
 
--- arguments fit exactly where their number does, and each of them at its place
+-- arguments fit exactly if their number does, and each of them at its place
 pub record IsByPlaces (parameters : Parameters) : Type 0 where
   pub each : (ks : List Kind) → Fits parameters ks → EachInPlace parameters ks
   pub whole : (ks : List Kind) → EachInPlace parameters ks → Fits parameters ks

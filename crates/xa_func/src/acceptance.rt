@@ -32,7 +32,7 @@ impl HasKind for Value {
     }
 }
 
-/// What an argument counts as, where a function's signature is asked.
+/// What an argument counts as when a function's signature is asked.
 pub(crate) trait Counting {
     ghost counts_as: { Kind → Kind };
 
@@ -60,6 +60,58 @@ impl Counting for OneOfEach {
 
     fn counts_as(kind: Kind) -> Kind {
         kind.of_each()
+    }
+}
+
+impl Parameters {
+    /// Whether the arguments are of the kinds.
+    fn accept<T: HasKind, W: Counting>(self, arguments: &[T]) -> bool
+        ensures { IsTrue result ↔ Fits self (map (λ a. W.counts_as (T.kind_of a)) arguments.now) }
+    {
+        match self {
+            Parameters::One(kind) => just_one::<T, W>(kind, arguments),
+            Parameters::Two(first, second) => just_two::<T, W>(first, second, arguments),
+            Parameters::Three(first, second, third) => just_three::<T, W>(
+                first, second, third, arguments,
+            ),
+            Parameters::AtLeast(least, kind) => at_least::<T, W>(least, kind, arguments),
+            Parameters::OneAndMore(first, more) => one_and_more::<T, W>(first, more, arguments),
+        }
+    }
+}
+
+impl Signature {
+    /// Whether a function of the signature takes the arguments.
+    pub fn accepts<T: HasKind>(self, arguments: &[T]) -> bool
+        ensures { IsTrue result ↔ AcceptsKinds self (map T.kind_of arguments.now) }
+    {
+        self.accepts_as::<T, Whole>(arguments)
+    }
+
+    /// Whether it takes what the arguments count as.
+    fn accepts_as<T: HasKind, W: Counting>(self, arguments: &[T]) -> bool
+        ensures { IsTrue result ↔ AcceptsKinds self (map (λ a. W.counts_as (T.kind_of a)) arguments.now) }
+    {
+        match self {
+            Signature::FirstOrder(parameters, _) => parameters.accept::<T, W>(arguments),
+            Signature::HigherOrder(_) => false,
+        }
+    }
+}
+
+impl FuncId {
+    /// Whether it is a function of values that takes the arguments.
+    pub fn takes<T: HasKind>(self, arguments: &[T]) -> bool
+        ensures { IsTrue result ↔ TakesKinds self (map T.kind_of arguments.now) }
+    {
+        self.is_scalar() && self.signature().accepts(arguments)
+    }
+
+    /// Whether it is a function of values that takes one of the values of each argument.
+    pub fn takes_each<T: HasKind>(self, arguments: &[T]) -> bool
+        ensures { IsTrue result ↔ TakesKinds self (map (λ a. of_each (T.kind_of a)) arguments.now) }
+    {
+        self.is_scalar() && self.signature().accepts_as::<T, OneOfEach>(arguments)
     }
 }
 
@@ -135,56 +187,4 @@ fn at_least<T: HasKind, W: Counting>(least: usize, kind: Kind, arguments: &[T]) 
         ↔ Fits (Parameters.AtLeast least kind) (map (λ a. W.counts_as (T.kind_of a)) arguments.now) }
 {
     least <= arguments.len() && every::<T, W>(kind, arguments)
-}
-
-impl Parameters {
-    /// Whether the arguments are of the kinds.
-    fn accept<T: HasKind, W: Counting>(self, arguments: &[T]) -> bool
-        ensures { IsTrue result ↔ Fits self (map (λ a. W.counts_as (T.kind_of a)) arguments.now) }
-    {
-        match self {
-            Parameters::One(kind) => just_one::<T, W>(kind, arguments),
-            Parameters::Two(first, second) => just_two::<T, W>(first, second, arguments),
-            Parameters::Three(first, second, third) => just_three::<T, W>(
-                first, second, third, arguments,
-            ),
-            Parameters::AtLeast(least, kind) => at_least::<T, W>(least, kind, arguments),
-            Parameters::OneAndMore(first, more) => one_and_more::<T, W>(first, more, arguments),
-        }
-    }
-}
-
-impl Signature {
-    /// Whether a function of the signature takes the arguments.
-    pub fn accepts<T: HasKind>(self, arguments: &[T]) -> bool
-        ensures { IsTrue result ↔ AcceptsKinds self (map T.kind_of arguments.now) }
-    {
-        self.accepts_as::<T, Whole>(arguments)
-    }
-
-    /// Whether it takes what the arguments count as.
-    fn accepts_as<T: HasKind, W: Counting>(self, arguments: &[T]) -> bool
-        ensures { IsTrue result ↔ AcceptsKinds self (map (λ a. W.counts_as (T.kind_of a)) arguments.now) }
-    {
-        match self {
-            Signature::FirstOrder(parameters, _) => parameters.accept::<T, W>(arguments),
-            Signature::HigherOrder(_) => false,
-        }
-    }
-}
-
-impl FuncId {
-    /// Whether it is a function of values that takes the arguments.
-    pub fn takes<T: HasKind>(self, arguments: &[T]) -> bool
-        ensures { IsTrue result ↔ TakesKinds self (map T.kind_of arguments.now) }
-    {
-        self.is_scalar() && self.signature().accepts(arguments)
-    }
-
-    /// Whether it is a function of values that takes one of the values of each argument.
-    pub fn takes_each<T: HasKind>(self, arguments: &[T]) -> bool
-        ensures { IsTrue result ↔ TakesKinds self (map (λ a. of_each (T.kind_of a)) arguments.now) }
-    {
-        self.is_scalar() && self.signature().accepts_as::<T, OneOfEach>(arguments)
-    }
 }

@@ -34,6 +34,34 @@ use crate::text::{concatenation, has_part, substring};
 use std::alloc::Global;
 use xa_value::{DataType, OrMemory, Value};
 
+impl FuncId {
+    /// What the function of values gives, of arguments that it takes (XACML 3.0, core, appendix
+    /// A.3), or its fault: ZeroDivisor and Overflow of arithmetic, BadText of a string that is read
+    /// as another type, Position of substring and n-of, and CalendarRange of a day that is moved
+    /// out of the years 1 to 9999. Clause `exact`: only what makes a text may want memory.
+    pub fn apply(self, alloc: Global, arguments: &[Value]) -> Result<Value, OrMemory<FuncFault>>
+        requires { TakesKinds self (map kind_of arguments.now) }
+        ensures value { Gives result (applied self arguments.now) }
+        ensures exact { grows self ≡ false → result ≡ answered (applied self arguments.now) }
+        ensures typed { IfOk result (IsResult (signature_of self)) }
+    {
+        match self {
+            FuncId::Equal(data_type) => Ok(equal(data_type, arguments)?),
+            FuncId::Compare(comparison, ordered) => Ok(compare(comparison, ordered, arguments)?),
+            FuncId::Arithmetic(function) => Ok(calculate(function, arguments)?),
+            FuncId::IntegerAbs => Ok(integer_abs(arguments)?),
+            FuncId::Logic(function) => Ok(logical(function, arguments)?),
+            FuncId::Text(function) => give_text(alloc, function, arguments),
+            FuncId::Part(place, text_type) => Ok(is_part(place, text_type, arguments)?),
+            FuncId::StringFrom(printed) => string_from(alloc, printed, arguments),
+            FuncId::FromString(printed) => from_string(alloc, printed, arguments),
+            FuncId::Move(moved, direction) => Ok(move_by(moved, direction, arguments)?),
+            FuncId::TimeInRange => Ok(is_in_range(arguments)?),
+            FuncId::Bag(..) | FuncId::HigherOrder(_) => unreachable!(),
+        }
+    }
+}
+
 /// Whether two values of the type are equal. The type is of the contract alone.
 fn equal(data_type: DataType, arguments: &[Value]) -> Result<Value, FuncFault>
     requires { AcceptsKinds (signature_of (function_id.Equal data_type)) (map kind_of arguments.now) }
@@ -44,8 +72,8 @@ fn equal(data_type: DataType, arguments: &[Value]) -> Result<Value, FuncFault>
     Ok(Value::Boolean(left.same(right)))
 }
 
-/// Whether two values of the type lie in their order as asked. The type is of the contract alone.
-fn lies_as_asked(
+/// Whether two values of the type compare as asked. The type is of the contract alone.
+fn compare(
     comparison: Comparison,
     ordered: OrderedType,
     arguments: &[Value],
@@ -109,21 +137,7 @@ fn from_string(
     )
 }
 
-/// Whether one of the booleans, or each of them, or this many of them are true; or the negation of one.
-fn decide(function: Logic, arguments: &[Value]) -> Result<Value, FuncFault>
-    requires { AcceptsKinds (signature_of (function_id.Logic function)) (map kind_of arguments.now) }
-    ensures value { result ≡ applied (function_id.Logic function) arguments.now }
-    ensures typed { IfOk result (IsResult (signature_of (function_id.Logic function))) }
-{
-    match function {
-        Logic::Or => Ok(Value::Boolean(any_true(arguments))),
-        Logic::And => Ok(Value::Boolean(all_true(arguments))),
-        Logic::NOf => n_true(arguments),
-        Logic::Not => Ok(Value::Boolean(!boolean_of(one(arguments)))),
-    }
-}
-
-/// Whether this many of the booleans are true.
+/// Whether at least this many of the booleans are true.
 fn n_true(arguments: &[Value]) -> Result<Value, FuncFault>
     requires { AcceptsKinds (signature_of (function_id.Logic logic.NOf)) (map kind_of arguments.now) }
     ensures value { result ≡ applied (function_id.Logic logic.NOf) arguments.now }
@@ -135,20 +149,18 @@ fn n_true(arguments: &[Value]) -> Result<Value, FuncFault>
     Ok(Value::Boolean(n_of(integer_of(wanted), booleans)?))
 }
 
-/// A text, made of the arguments.
-fn give_text(
-    alloc: Global,
-    function: TextFunction,
-    arguments: &[Value],
-) -> Result<Value, OrMemory<FuncFault>>
-    requires { AcceptsKinds (signature_of (function_id.Text function)) (map kind_of arguments.now) }
-    ensures value { Gives result (applied (function_id.Text function) arguments.now) }
-    ensures typed { IfOk result (IsResult (signature_of (function_id.Text function))) }
+/// Whether one of the booleans, or each of them, or at least this many of them are true; or the negation
+/// of one.
+fn logical(function: Logic, arguments: &[Value]) -> Result<Value, FuncFault>
+    requires { AcceptsKinds (signature_of (function_id.Logic function)) (map kind_of arguments.now) }
+    ensures value { result ≡ applied (function_id.Logic function) arguments.now }
+    ensures typed { IfOk result (IsResult (signature_of (function_id.Logic function))) }
 {
     match function {
-        TextFunction::NormalizeSpace => normalize_space(alloc, arguments),
-        TextFunction::Concatenate => Ok(Value::String(concatenation(alloc, arguments)?)),
-        TextFunction::Substring => string_substring(alloc, arguments),
+        Logic::Or => Ok(Value::Boolean(any_true(arguments))),
+        Logic::And => Ok(Value::Boolean(all_true(arguments))),
+        Logic::NOf => n_true(arguments),
+        Logic::Not => Ok(Value::Boolean(!boolean_of(one(arguments)))),
     }
 }
 
@@ -178,6 +190,23 @@ fn string_substring(alloc: Global, arguments: &[Value]) -> Result<Value, OrMemor
     )?))
 }
 
+/// A text, made of the arguments.
+fn give_text(
+    alloc: Global,
+    function: TextFunction,
+    arguments: &[Value],
+) -> Result<Value, OrMemory<FuncFault>>
+    requires { AcceptsKinds (signature_of (function_id.Text function)) (map kind_of arguments.now) }
+    ensures value { Gives result (applied (function_id.Text function) arguments.now) }
+    ensures typed { IfOk result (IsResult (signature_of (function_id.Text function))) }
+{
+    match function {
+        TextFunction::NormalizeSpace => normalize_space(alloc, arguments),
+        TextFunction::Concatenate => Ok(Value::String(concatenation(alloc, arguments)?)),
+        TextFunction::Substring => string_substring(alloc, arguments),
+    }
+}
+
 /// Whether the first text stands in the second.
 fn is_part(place: TextPart, text_type: TextType, arguments: &[Value]) -> Result<Value, FuncFault>
     requires { AcceptsKinds (signature_of (function_id.Part place text_type)) (map kind_of arguments.now) }
@@ -186,19 +215,6 @@ fn is_part(place: TextPart, text_type: TextType, arguments: &[Value]) -> Result<
 {
     let (part, text) = two(arguments);
     Ok(Value::Boolean(has_part(place, text_of(text).as_bytes(), text_of(part).as_bytes())))
-}
-
-/// A date, or a date with a time, moved by a duration.
-fn move_by(moved: Moved, direction: Direction, arguments: &[Value]) -> Result<Value, FuncFault>
-    requires { AcceptsKinds (signature_of (function_id.Move moved direction)) (map kind_of arguments.now) }
-    ensures value { result ≡ applied (function_id.Move moved direction) arguments.now }
-    ensures typed { IfOk result (IsResult (signature_of (function_id.Move moved direction))) }
-{
-    match moved {
-        Moved::DateTimeByDayTime => date_time_by_day_time(direction, arguments),
-        Moved::DateTimeByYearMonth => date_time_by_year_month(direction, arguments),
-        Moved::DateByYearMonth => date_by_year_month(direction, arguments),
-    }
 }
 
 /// A day and time, moved by days, hours, minutes and seconds.
@@ -240,6 +256,19 @@ fn date_by_year_month(direction: Direction, arguments: &[Value]) -> Result<Value
     Ok(Value::Date(date_after_months(date_of(date), months)?))
 }
 
+/// A date, or a date with a time, moved by a duration.
+fn move_by(moved: Moved, direction: Direction, arguments: &[Value]) -> Result<Value, FuncFault>
+    requires { AcceptsKinds (signature_of (function_id.Move moved direction)) (map kind_of arguments.now) }
+    ensures value { result ≡ applied (function_id.Move moved direction) arguments.now }
+    ensures typed { IfOk result (IsResult (signature_of (function_id.Move moved direction))) }
+{
+    match moved {
+        Moved::DateTimeByDayTime => date_time_by_day_time(direction, arguments),
+        Moved::DateTimeByYearMonth => date_time_by_year_month(direction, arguments),
+        Moved::DateByYearMonth => date_by_year_month(direction, arguments),
+    }
+}
+
 /// Whether a time lies in a range of times.
 fn is_in_range(arguments: &[Value]) -> Result<Value, FuncFault>
     requires { AcceptsKinds (signature_of function_id.TimeInRange) (map kind_of arguments.now) }
@@ -248,34 +277,4 @@ fn is_in_range(arguments: &[Value]) -> Result<Value, FuncFault>
 {
     let (time, start, end) = three(arguments);
     Ok(Value::Boolean(time_in_range(time_of(time), time_of(start), time_of(end))))
-}
-
-impl FuncId {
-    /// What the function of values gives, of arguments that it takes (XACML 3.0, core, appendix
-    /// A.3), or its fault: ZeroDivisor and Overflow of arithmetic, BadText of a string that is read
-    /// as another type, Position of substring and n-of, and CalendarRange of a day that is moved
-    /// out of the years 1 to 9999. Clause `exact`: only what makes a text may want memory.
-    pub fn apply(self, alloc: Global, arguments: &[Value]) -> Result<Value, OrMemory<FuncFault>>
-        requires { TakesKinds self (map kind_of arguments.now) }
-        ensures value { Gives result (applied self arguments.now) }
-        ensures exact { grows self ≡ false → result ≡ answered (applied self arguments.now) }
-        ensures typed { IfOk result (IsResult (signature_of self)) }
-    {
-        match self {
-            FuncId::Equal(data_type) => Ok(equal(data_type, arguments)?),
-            FuncId::Compare(comparison, ordered) => {
-                Ok(lies_as_asked(comparison, ordered, arguments)?)
-            }
-            FuncId::Arithmetic(function) => Ok(calculate(function, arguments)?),
-            FuncId::IntegerAbs => Ok(integer_abs(arguments)?),
-            FuncId::Logic(function) => Ok(decide(function, arguments)?),
-            FuncId::Text(function) => give_text(alloc, function, arguments),
-            FuncId::Part(place, text_type) => Ok(is_part(place, text_type, arguments)?),
-            FuncId::StringFrom(printed) => string_from(alloc, printed, arguments),
-            FuncId::FromString(printed) => from_string(alloc, printed, arguments),
-            FuncId::Move(moved, direction) => Ok(move_by(moved, direction, arguments)?),
-            FuncId::TimeInRange => Ok(is_in_range(arguments)?),
-            FuncId::Bag(..) | FuncId::HigherOrder(_) => unreachable!(),
-        }
-    }
 }

@@ -18,7 +18,8 @@ fn meets(comparison: Comparison, ordering: Ordering) -> bool
     }
 }
 
-/// Whether the first value lies to the second as the question asks.
+/// Whether the first value compares to the second as the question asks (XACML 3.0, core, appendix A.3.6
+/// and A.3.8).
 pub fn is_as_asked(comparison: Comparison, left: &Value, right: &Value) -> bool
     ensures { result ≡ compared comparison left.now right.now }
 {

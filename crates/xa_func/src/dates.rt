@@ -99,7 +99,7 @@ fn day_at(number: i64) -> Result<civil::Date, FuncFault>
     from_year_one(day)
 }
 
-/// The nanoseconds as written, this many later.
+/// The nanoseconds as written, with this many added.
 fn nanos_later(date_time: DateTime, nanos: i128) -> i128
     requires { IsNanos nanos }
     ensures value { result ≡ local_nanos date_time +ℤ nanos }
@@ -108,7 +108,7 @@ fn nanos_later(date_time: DateTime, nanos: i128) -> i128
     date_time.local_nanos() + nanos
 }
 
-/// Whole days of this many nanoseconds.
+/// The whole days of this many nanoseconds.
 fn whole_days(nanos: i128) -> i64
     requires { IsWithin 2_000_000_000_000_000_000_000 nanos }
     ensures { result ≡ int_div_euclid nanos (pos day_nanos) }
@@ -116,7 +116,7 @@ fn whole_days(nanos: i128) -> i64
     nanos.div_euclid(i128::from(DAY_NANOS)) as i64
 }
 
-/// What is left of this many nanoseconds without whole days.
+/// The nanoseconds that are left of this many without whole days.
 fn nanos_of_day(nanos: i128) -> u64
     ensures value { result ≡ unsigned_abs (int_rem_euclid nanos (pos day_nanos)) }
     ensures within { result < day_nanos }
@@ -162,7 +162,8 @@ pub(crate) fn date_time_after_nanos(date_time: DateTime, nanos: i128) -> Result<
     date_time_at(nanos_later(date_time, nanos), date_time.zone())
 }
 
-/// The time's nanoseconds in UTC, where an absent zone is the other one, and without that UTC.
+/// The time in UTC, in nanoseconds. A time without a zone takes `zone`, else UTC (XACML 3.0, core,
+/// appendix A.3.8).
 fn nanos_in_utc(time: Time, zone: Option<Offset>) -> i128
     ensures value { result ≡ nanos_in_utc time zone }
     ensures within { IsWithin 1_000_000_000_000_000 result }
@@ -174,7 +175,7 @@ fn nanos_in_utc(time: Time, zone: Option<Offset>) -> i128
     i128::from(time.nanos()) - i128::from(minutes) * i128::from(MINUTE_NANOS)
 }
 
-/// How long it takes a clock that goes round to come from one time to another.
+/// The nanoseconds from one time of day to the next occurrence of the other.
 fn distance(from: i128, to: i128) -> u64
     requires start { IsWithin 1_000_000_000_000_000 from }
     requires end { IsWithin 1_000_000_000_000_000 to }
@@ -183,13 +184,14 @@ fn distance(from: i128, to: i128) -> u64
     nanos_of_day(to - from)
 }
 
-/// Whether a clock that goes round comes from the start to the time no later than to the end.
+/// Whether a clock that starts at `start` shows the time no later than `end` (XACML 3.0, core, appendix
+/// A.3.8).
 #[tactic(auto, unfolding(crate::specs::Dates::time_in_range))]
 pub(crate) fn time_in_range(time: Time, start: Time, end: Time) -> bool
     ensures { result ≡ time_in_range time start end }
 {
-    let from = nanos_in_utc(start, time.zone());
-    let gone = nanos_in_utc(time, time.zone());
-    let whole = nanos_in_utc(end, time.zone());
-    distance(from, gone) <= distance(from, whole)
+    let start_nanos = nanos_in_utc(start, time.zone());
+    let time_nanos = nanos_in_utc(time, time.zone());
+    let end_nanos = nanos_in_utc(end, time.zone());
+    distance(start_nanos, time_nanos) <= distance(start_nanos, end_nanos)
 }

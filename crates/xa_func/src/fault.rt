@@ -7,7 +7,7 @@ use crate::status::Status;
 use thiserror::Error;
 use xa_value::OrMemory;
 
-/// Why a function gives no value.
+/// Why a function gives no value (XACML 3.0, core, section 7.5 and appendix B.8).
 #[derive(Clone, Copy, Debug, PartialEq, Eq, Error)]
 pub enum FuncFault {
     /// A division by zero.

@@ -4,12 +4,12 @@ ghost use Rattle.xa_func.specs.Table.{is_scalar, ordered_type, text_type, printe
 
 use xa_value::DataType;
 
-/// A function of the standard (XACML 3.0, appendix A.3).
+/// A function of the standard (XACML 3.0, core, appendix A.3).
 #[derive(Clone, Copy, Debug, PartialEq, Eq)]
 pub enum FuncId {
     /// Whether two values of the type are equal.
     Equal(DataType),
-    /// Whether two values of the type lie in their order as asked.
+    /// Whether two values of the type compare as asked.
     Compare(Comparison, OrderedType),
     /// A function of integers, from left to right.
     Arithmetic(Arithmetic),
@@ -31,11 +31,11 @@ pub enum FuncId {
     TimeInRange,
     /// A function of bags of the type.
     Bag(BagFunction, DataType),
-    /// A function of a function.
+    /// A higher-order function.
     HigherOrder(HigherOrder),
 }
 
-/// A question on the order of two values.
+/// A question on the order of two values (XACML 3.0, core, appendix A.3.6 and A.3.8).
 #[derive(Clone, Copy, Debug, PartialEq, Eq)]
 pub enum Comparison {
     /// The first is greater.
@@ -48,7 +48,7 @@ pub enum Comparison {
     LessThanOrEqual,
 }
 
-/// A type whose values have an order.
+/// A type whose values have an order (XACML 3.0, core, appendix A.3.6 and A.3.8).
 #[derive(Clone, Copy, Debug, PartialEq, Eq)]
 pub enum OrderedType {
     /// Whole numbers.
@@ -63,7 +63,7 @@ pub enum OrderedType {
     DateTime,
 }
 
-/// A function of integers, from left to right.
+/// A function of integers, from left to right (XACML 3.0, core, appendix A.3.2).
 #[derive(Clone, Copy, Debug, PartialEq, Eq)]
 pub enum Arithmetic {
     /// The sum of two or more.
@@ -78,31 +78,31 @@ pub enum Arithmetic {
     Mod,
 }
 
-/// A function of booleans.
+/// A function of booleans (XACML 3.0, core, appendix A.3.5).
 #[derive(Clone, Copy, Debug, PartialEq, Eq)]
 pub enum Logic {
     /// Whether one is true.
     Or,
     /// Whether all are true.
     And,
-    /// Whether this many are true.
+    /// Whether at least this many are true.
     NOf,
     /// The negation.
     Not,
 }
 
-/// A function of texts that gives a text.
+/// A function of texts that gives a text (XACML 3.0, core, appendix A.3.3 and A.3.9).
 #[derive(Clone, Copy, Debug, PartialEq, Eq)]
 pub enum TextFunction {
     /// The text without white space at its ends.
     NormalizeSpace,
-    /// Two or more texts in a row.
+    /// Two or more texts, one after another.
     Concatenate,
     /// The characters from one place up to another.
     Substring,
 }
 
-/// Where a text stands in another.
+/// Where a text stands in another (XACML 3.0, core, appendix A.3.9).
 #[derive(Clone, Copy, Debug, PartialEq, Eq)]
 pub enum TextPart {
     /// At its start.
@@ -113,7 +113,7 @@ pub enum TextPart {
     Contains,
 }
 
-/// A type whose values are texts.
+/// A type whose values are texts (XACML 3.0, core, appendix A.3.9).
 #[derive(Clone, Copy, Debug, PartialEq, Eq)]
 pub enum TextType {
     /// Any text.
@@ -122,7 +122,7 @@ pub enum TextType {
     AnyUri,
 }
 
-/// A type whose values are printed as a string, and read from one.
+/// A type whose values are printed as a string, and read from one (XACML 3.0, core, appendix A.3.9).
 #[derive(Clone, Copy, Debug, PartialEq, Eq)]
 pub enum PrintedType {
     /// True or false.
@@ -143,7 +143,7 @@ pub enum PrintedType {
     YearMonthDuration,
 }
 
-/// What is moved, and by which duration.
+/// What is moved, and by which duration (XACML 3.0, core, appendix A.3.7).
 #[derive(Clone, Copy, Debug, PartialEq, Eq)]
 pub enum Moved {
     /// A day and time, by days, hours, minutes and seconds.
@@ -154,7 +154,7 @@ pub enum Moved {
     DateByYearMonth,
 }
 
-/// To later, or to earlier.
+/// To later, or to earlier (XACML 3.0, core, appendix A.3.7).
 #[derive(Clone, Copy, Debug, PartialEq, Eq)]
 pub enum Direction {
     /// The duration is added.
@@ -163,7 +163,7 @@ pub enum Direction {
     Subtract,
 }
 
-/// A function of bags of one type.
+/// A function of bags of one type (XACML 3.0, core, appendix A.3.10 and A.3.11).
 #[derive(Clone, Copy, Debug, PartialEq, Eq)]
 pub enum BagFunction {
     /// The one value of the bag.
@@ -186,7 +186,7 @@ pub enum BagFunction {
     SetEquals,
 }
 
-/// A function that takes a function.
+/// A higher-order function: it takes another function (XACML 3.0, core, appendix A.3.12).
 #[derive(Clone, Copy, Debug, PartialEq, Eq)]
 pub enum HigherOrder {
     /// Whether it is true of a value of the bag.
@@ -197,7 +197,7 @@ pub enum HigherOrder {
     AnyOfAny,
     /// The bag of its results.
     Map,
-    /// Whether for each value of the first bag it is true of some value of the second.
+    /// Whether it is true of each value of the first bag with some value of the second.
     AllOfAny,
     /// Whether it is true of each value of the first bag with each of the second.
     AllOfAll,

@@ -52,7 +52,7 @@ fn true_count(arguments: &[Value]) -> usize
     count
 }
 
-/// Whether this many of the booleans are true, if there are this many.
+/// Whether at least this many of the booleans are true; Position if there are fewer booleans.
 #[tactic(auto, using(crate::proofs::LogicLemmas::n_among_given, crate::proofs::LogicLemmas::n_among_short, crate::proofs::LogicLemmas::length_given))]
 fn n_among(wanted: usize, arguments: &[Value]) -> Result<bool, FuncFault>
     requires { Every (kind.Value data_type.Boolean) (map kind_of arguments.now) }
@@ -64,7 +64,8 @@ fn n_among(wanted: usize, arguments: &[Value]) -> Result<bool, FuncFault>
     Ok(wanted <= true_count(arguments))
 }
 
-/// Whether this many of the booleans are true.
+/// Whether at least this many of the booleans are true; Position if the number is negative, or there are
+/// fewer booleans.
 pub(crate) fn n_of(wanted: i64, arguments: &[Value]) -> Result<bool, FuncFault>
     requires { Every (kind.Value data_type.Boolean) (map kind_of arguments.now) }
     ensures { result ≡ n_of Position wanted (given (booleans arguments.now)) }

@@ -68,27 +68,6 @@ impl Name {
     }
 }
 
-/// Whether the text is the head and then the rest.
-#[tactic(auto, using(crate::proofs::NameLemmas::stripped, crate::proofs::NameLemmas::unstripped))]
-fn is_joined(text: &[u8], head: &[u8], rest: &[u8]) -> bool
-    ensures { result ≡ bytes_eq text.now (head.now ++ rest.now) }
-{
-    match text.strip_prefix(head) {
-        None => false,
-        Some(found) => found == rest,
-    }
-}
-
-/// Whether the data type is one of the two durations.
-fn is_duration(data_type: DataType) -> bool
-    ensures { result ≡ is_duration data_type }
-{
-    matches!(
-        data_type,
-        DataType::DayTimeDuration | DataType::YearMonthDuration
-    )
-}
-
 impl Comparison {
     /// What it asks, as its name says.
     fn verb(self) -> &'static str
@@ -182,81 +161,6 @@ impl BagFunction {
     }
 }
 
-/// The name of the equality of the type.
-fn equality_name(data_type: DataType) -> Name
-    ensures { result ≡ row_of (function_id.Equal data_type) }
-{
-    let version = if is_duration(data_type) {
-        VERSION_3
-    } else {
-        VERSION_1
-    };
-    Name::new(version, data_type.name(), "-equal")
-}
-
-/// The name of a function of texts.
-fn text_name(function: TextFunction) -> Name
-    ensures { result ≡ text_row function }
-{
-    match function {
-        TextFunction::NormalizeSpace => Name::new(VERSION_1, "string", "-normalize-space"),
-        TextFunction::Concatenate => Name::new(VERSION_2, "string", "-concatenate"),
-        TextFunction::Substring => Name::new(VERSION_3, "string", "-substring"),
-    }
-}
-
-/// The name of what moves a date, or a date with a time.
-fn move_name(moved: Moved, direction: Direction) -> Name
-    ensures { result ≡ move_row moved direction }
-{
-    match (moved, direction) {
-        (Moved::DateTimeByDayTime, Direction::Add) => Name::new(
-            VERSION_3,
-            "dateTime",
-            "-add-dayTimeDuration",
-        ),
-        (Moved::DateTimeByDayTime, Direction::Subtract) => Name::new(
-            VERSION_3,
-            "dateTime",
-            "-subtract-dayTimeDuration",
-        ),
-        (Moved::DateTimeByYearMonth, Direction::Add) => Name::new(
-            VERSION_3,
-            "dateTime",
-            "-add-yearMonthDuration",
-        ),
-        (Moved::DateTimeByYearMonth, Direction::Subtract) => Name::new(
-            VERSION_3,
-            "dateTime",
-            "-subtract-yearMonthDuration",
-        ),
-        (Moved::DateByYearMonth, Direction::Add) => Name::new(
-            VERSION_3,
-            "date",
-            "-add-yearMonthDuration",
-        ),
-        (Moved::DateByYearMonth, Direction::Subtract) => Name::new(
-            VERSION_3,
-            "date",
-            "-subtract-yearMonthDuration",
-        ),
-    }
-}
-
-/// The name of a function of a function.
-fn higher_name(function: HigherOrder) -> Name
-    ensures { result ≡ higher_row function }
-{
-    match function {
-        HigherOrder::AnyOf => Name::new(VERSION_3, "", "any-of"),
-        HigherOrder::AllOf => Name::new(VERSION_3, "", "all-of"),
-        HigherOrder::AnyOfAny => Name::new(VERSION_3, "", "any-of-any"),
-        HigherOrder::Map => Name::new(VERSION_3, "", "map"),
-        HigherOrder::AllOfAny => Name::new(VERSION_1, "", "all-of-any"),
-        HigherOrder::AllOfAll => Name::new(VERSION_1, "", "all-of-all"),
-    }
-}
-
 impl FuncId {
     /// The function's name, in the version that brought it.
     fn name(self) -> Name
@@ -313,5 +217,101 @@ impl FuncId {
         let name = self.name();
         name.is_written_in_own_version(uri)
             || (self.has_later_name() && name.is_written(VERSION_3, uri))
+    }
+}
+
+/// Whether the text is the head and then the rest.
+#[tactic(auto, using(crate::proofs::NameLemmas::stripped, crate::proofs::NameLemmas::unstripped))]
+fn is_joined(text: &[u8], head: &[u8], rest: &[u8]) -> bool
+    ensures { result ≡ bytes_eq text.now (head.now ++ rest.now) }
+{
+    match text.strip_prefix(head) {
+        None => false,
+        Some(found) => found == rest,
+    }
+}
+
+/// Whether the data type is one of the two durations.
+fn is_duration(data_type: DataType) -> bool
+    ensures { result ≡ is_duration data_type }
+{
+    matches!(
+        data_type,
+        DataType::DayTimeDuration | DataType::YearMonthDuration
+    )
+}
+
+/// The name of the equality of the type.
+fn equality_name(data_type: DataType) -> Name
+    ensures { result ≡ row_of (function_id.Equal data_type) }
+{
+    let version = if is_duration(data_type) {
+        VERSION_3
+    } else {
+        VERSION_1
+    };
+    Name::new(version, data_type.name(), "-equal")
+}
+
+/// The name of a function of texts.
+fn text_name(function: TextFunction) -> Name
+    ensures { result ≡ text_row function }
+{
+    match function {
+        TextFunction::NormalizeSpace => Name::new(VERSION_1, "string", "-normalize-space"),
+        TextFunction::Concatenate => Name::new(VERSION_2, "string", "-concatenate"),
+        TextFunction::Substring => Name::new(VERSION_3, "string", "-substring"),
+    }
+}
+
+/// The name of a function that moves a date, or a date with a time.
+fn move_name(moved: Moved, direction: Direction) -> Name
+    ensures { result ≡ move_row moved direction }
+{
+    match (moved, direction) {
+        (Moved::DateTimeByDayTime, Direction::Add) => Name::new(
+            VERSION_3,
+            "dateTime",
+            "-add-dayTimeDuration",
+        ),
+        (Moved::DateTimeByDayTime, Direction::Subtract) => Name::new(
+            VERSION_3,
+            "dateTime",
+            "-subtract-dayTimeDuration",
+        ),
+        (Moved::DateTimeByYearMonth, Direction::Add) => Name::new(
+            VERSION_3,
+            "dateTime",
+            "-add-yearMonthDuration",
+        ),
+        (Moved::DateTimeByYearMonth, Direction::Subtract) => Name::new(
+            VERSION_3,
+            "dateTime",
+            "-subtract-yearMonthDuration",
+        ),
+        (Moved::DateByYearMonth, Direction::Add) => Name::new(
+            VERSION_3,
+            "date",
+            "-add-yearMonthDuration",
+        ),
+        (Moved::DateByYearMonth, Direction::Subtract) => Name::new(
+            VERSION_3,
+            "date",
+            "-subtract-yearMonthDuration",
+        ),
+    }
+}
+
+/// The name of a higher-order function.
+fn higher_name(function: HigherOrder) -> Name
+    ensures { result ≡ higher_row function }
+{
+    match function {
+        HigherOrder::AnyOf => Name::new(VERSION_3, "", "any-of"),
+        HigherOrder::AllOf => Name::new(VERSION_3, "", "all-of"),
+        HigherOrder::AnyOfAny => Name::new(VERSION_3, "", "any-of-any"),
+        HigherOrder::Map => Name::new(VERSION_3, "", "map"),
+        HigherOrder::AllOfAny => Name::new(VERSION_1, "", "all-of-any"),
+        HigherOrder::AllOfAll => Name::new(VERSION_1, "", "all-of-all"),
     }
 }

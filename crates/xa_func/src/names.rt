@@ -97,16 +97,40 @@ const SINGLE: [FuncId; 32] = [
     FuncId::HigherOrder(HigherOrder::AllOfAll),
 ];
 
+impl FuncId {
+    /// The function that the URI names (XACML 3.0, core, appendix A.3); none, if it names no
+    /// function that is known here.
+    pub fn from_uri(uri: &str) -> Option<FuncId>
+        ensures each { (f : FuncId) → (result ≡ Some f) ↔ IsTrue (names uri.now f) }
+        ensures named { result ≡ function_named uri.now }
+    {
+        if let Some(function) = first_named(&SINGLE, uri) {
+            return Some(function);
+        }
+        if let Some(function) = equality_named(uri) {
+            return Some(function);
+        }
+        if let Some(function) = string_from_named(uri) {
+            return Some(function);
+        }
+        if let Some(function) = from_string_named(uri) {
+            return Some(function);
+        }
+        if let Some(function) = comparison_of_sorts(&Comparison::ALL, uri) {
+            return Some(function);
+        }
+        bag_function_of_sorts(&BagFunction::ALL, uri)
+    }
+}
+
 /// The first of the functions that the text names.
 fn first_named(functions: &[FuncId], uri: &str) -> Option<FuncId>
     ensures { result ≡ find (names uri.now) functions.now }
 {
-    for function in functions {
-        if function.is_named(uri) {
-            return Some(*function);
-        }
-    }
-    None
+    functions
+        .iter()
+        .copied()
+        .find(|function| function.is_named(uri))
 }
 
 /// The equality that the text names.
@@ -183,30 +207,4 @@ fn bag_function_of_sorts(functions: &[BagFunction], uri: &str) -> Option<FuncId>
         }
     }
     None
-}
-
-impl FuncId {
-    /// The function that the URI names (XACML 3.0, core, appendix A.3); none, if it names no
-    /// function that is known here.
-    pub fn from_uri(uri: &str) -> Option<FuncId>
-        ensures each { (f : FuncId) → (result ≡ Some f) ↔ IsTrue (names uri.now f) }
-        ensures named { result ≡ function_named uri.now }
-    {
-        if let Some(function) = first_named(&SINGLE, uri) {
-            return Some(function);
-        }
-        if let Some(function) = equality_named(uri) {
-            return Some(function);
-        }
-        if let Some(function) = string_from_named(uri) {
-            return Some(function);
-        }
-        if let Some(function) = from_string_named(uri) {
-            return Some(function);
-        }
-        if let Some(function) = comparison_of_sorts(&Comparison::ALL, uri) {
-            return Some(function);
-        }
-        bag_function_of_sorts(&BagFunction::ALL, uri)
-    }
 }

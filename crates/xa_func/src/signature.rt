@@ -32,7 +32,7 @@ pub enum Parameters {
     OneAndMore(Kind, Kind),
 }
 
-/// What a function takes and gives (XACML 3.0, appendix A.3).
+/// What a function takes and gives (XACML 3.0, core, appendix A.3).
 #[derive(Clone, Copy, Debug, PartialEq, Eq)]
 pub enum Signature {
     /// A function of values and bags, with the kind of its result.
@@ -68,6 +68,37 @@ impl Kind {
         ensures { result ≡ of_each self }
     {
         Kind::Value(self.data_type())
+    }
+}
+
+impl Parameters {
+    /// Whether the function takes this many arguments. Clause `law`: arguments fit exactly if
+    /// their number does, and each of them at its place.
+    #[tactic(auto, using(crate::proofs::PlaceLemmas::by_places))]
+    pub fn takes(self, count: usize) -> bool
+        ensures value { result ≡ takes self count }
+        ensures law { IsByPlaces self }
+    {
+        match self {
+            Parameters::One(_) => count == 1,
+            Parameters::Two(..) => count == 2,
+            Parameters::Three(..) => count == 3,
+            Parameters::AtLeast(least, _) => least <= count,
+            Parameters::OneAndMore(..) => 1 <= count,
+        }
+    }
+
+    /// The kind of the argument at the place, if an argument may stand there.
+    pub fn kind_at(self, place: usize) -> Option<Kind>
+        ensures { result ≡ kind_at self place }
+    {
+        match self {
+            Parameters::One(kind) => kind_among(&[kind], place),
+            Parameters::Two(first, second) => kind_among(&[first, second], place),
+            Parameters::Three(first, second, third) => kind_among(&[first, second, third], place),
+            Parameters::AtLeast(_, kind) => Some(kind),
+            Parameters::OneAndMore(first, more) => Some(if place == 0 { first } else { more }),
+        }
     }
 }
 
@@ -181,6 +212,16 @@ fn text_parameters(function: TextFunction) -> Parameters
     }
 }
 
+/// A function that gives a value of a type, moved by one of the other.
+fn moving(data_type: DataType, duration: DataType) -> Signature
+    ensures { result ≡ moving data_type duration }
+{
+    of_values(
+        Parameters::Two(Kind::Value(data_type), Kind::Value(duration)),
+        data_type,
+    )
+}
+
 /// What a date, or a date with a time, is moved by, and what that gives.
 fn move_signature(moved: Moved) -> Signature
     ensures { result ≡ move_signature moved }
@@ -190,16 +231,6 @@ fn move_signature(moved: Moved) -> Signature
         Moved::DateTimeByYearMonth => moving(DataType::DateTime, DataType::YearMonthDuration),
         Moved::DateByYearMonth => moving(DataType::Date, DataType::YearMonthDuration),
     }
-}
-
-/// A function that gives a value of a type, moved by one of the other.
-fn moving(data_type: DataType, duration: DataType) -> Signature
-    ensures { result ≡ moving data_type duration }
-{
-    of_values(
-        Parameters::Two(Kind::Value(data_type), Kind::Value(duration)),
-        data_type,
-    )
 }
 
 /// What a function of bags takes and gives.
@@ -217,37 +248,6 @@ fn bag_signature(function: BagFunction, data_type: DataType) -> Signature
         BagFunction::Union => Signature::FirstOrder(Parameters::AtLeast(2, bag), bag),
         BagFunction::AtLeastOneMemberOf | BagFunction::Subset | BagFunction::SetEquals => {
             question(Parameters::Two(bag, bag))
-        }
-    }
-}
-
-impl Parameters {
-    /// Whether the function takes this many arguments. Clause `law`: arguments fit exactly where
-    /// their number does, and each of them at its place.
-    #[tactic(auto, using(crate::proofs::PlaceLemmas::by_places))]
-    pub fn takes(self, count: usize) -> bool
-        ensures value { result ≡ takes self count }
-        ensures law { IsByPlaces self }
-    {
-        match self {
-            Parameters::One(_) => count == 1,
-            Parameters::Two(..) => count == 2,
-            Parameters::Three(..) => count == 3,
-            Parameters::AtLeast(least, _) => least <= count,
-            Parameters::OneAndMore(..) => 1 <= count,
-        }
-    }
-
-    /// The kind of the argument at the place, if an argument may stand there.
-    pub fn kind_at(self, place: usize) -> Option<Kind>
-        ensures { result ≡ kind_at self place }
-    {
-        match self {
-            Parameters::One(kind) => kind_among(&[kind], place),
-            Parameters::Two(first, second) => kind_among(&[first, second], place),
-            Parameters::Three(first, second, third) => kind_among(&[first, second, third], place),
-            Parameters::AtLeast(_, kind) => Some(kind),
-            Parameters::OneAndMore(first, more) => Some(if place == 0 { first } else { more }),
         }
     }
 }

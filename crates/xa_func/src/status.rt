@@ -2,7 +2,7 @@
 ghost use Rattle.std.specs.Prelude.{◌≡◌};
 ghost use Rattle.xa_func.specs.Status.{uri_of};
 
-/// A status code (XACML 3.0, appendix B.8).
+/// A status code (XACML 3.0, core, appendix B.8).
 #[derive(Clone, Copy, Debug, PartialEq, Eq)]
 pub enum Status {
     /// Success.

@@ -33,7 +33,7 @@ pub(crate) fn has_part(place: TextPart, text: &[u8], part: &[u8]) -> bool
     }
 }
 
-/// The texts in a row.
+/// The texts, one after another.
 pub(crate) fn concatenation(alloc: Global, arguments: &[Value]) -> Result<Text, AllocError>
     requires { Every (kind.Value data_type.String) (map kind_of arguments.now) }
     ensures { IfOk result (λ text. text ≡ concat (texts arguments.now)) }
@@ -64,7 +64,7 @@ fn text_of_characters(alloc: Global, characters: &[char]) -> Result<Text, AllocE
     Ok(Text::from_string(text))
 }
 
-/// The end of a substring, where -1 is that of the text.
+/// The end of a substring; -1 stands for the end of the text.
 fn end_of(end: i64, count: usize) -> i128
     ensures { result ≡ end_of end count }
 {
@@ -75,14 +75,14 @@ fn end_of(end: i64, count: usize) -> i128
     }
 }
 
-/// Whether there are such places among the characters, one not after the other.
+/// Whether both places are among the characters, or at their end, and the begin is not after the end.
 fn is_range(begin: i64, end: i128, count: usize) -> bool
     ensures { result ≡ is_range begin end count }
 {
     0 <= begin && i128::from(begin) <= end && end <= count as i128
 }
 
-/// The characters from one place up to another.
+/// The characters from one place up to another (XACML 3.0, core, appendix A.3.9).
 #[tactic(auto, unfolding(crate::specs::Text::substring))]
 pub(crate) fn substring(
     alloc: Global,

@@ -8,7 +8,7 @@ use Rattle.std.proofs.lemmas.Bool.{and_parts}
 use Rattle.xa_value.specs.declared.read_error.ReadError.TheVariants.{NotThisType, OutOfRange}
 use Rattle.xa_value.specs.Lexical.{number, number_after, trimmed}
 use Rattle.xa_value.specs.parsing.Lexical.{has_shape}
-use Rattle.xa_value.specs.parsing.Time.{read_clock}
+use Rattle.xa_value.specs.parsing.Time.{read_time}
 use Rattle.xa_value.specs.parsing.Zone.{read_zone}
 use Rattle.xa_value.specs.parsing.Calendar.{date_of, date_time_of, read_date, read_date_time}
 use Rattle.xa_value.specs.DigitGrammar.{IsDigits}
@@ -176,7 +176,7 @@ pub date_time_covers : (text : List ℕ) → DateTimeOf text ⊎ (read_date_time
 unfolding read_date_time
 date_time_covers text = by_shape (has_shape (codes "9999-99-99T") text) refl
   where
-    by_time : has_shape (codes "9999-99-99T") text ≡ true → TimeOf (drop 11 text) ⊎ (read_clock (drop 11 text) ≡ Err NotThisType) → DateTimeOf text ⊎ (read_date_time text ≡ Err NotThisType)
+    by_time : has_shape (codes "9999-99-99T") text ≡ true → TimeOf (drop 11 text) ⊎ (read_time (drop 11 text) ≡ Err NotThisType) → DateTimeOf text ⊎ (read_date_time text ≡ Err NotThisType)
     by_time shape (inl t) = inl (date_time_tree text shape t)
     by_time shape (inr refused) = inr (rw (shape, refused) refl)
 

@@ -9,7 +9,7 @@ use Rattle.jiff_core.specs.Calendar.{IsYear, days_in_month}
 use Rattle.jiff_core.specs.declared.civil.date.Date.{Date}
 use Rattle.xa_value.specs.declared.read_error.ReadError.{ReadError}
 use Rattle.xa_value.specs.parsing.Lexical.{has_shape}
-use Rattle.xa_value.specs.parsing.Time.{read_clock}
+use Rattle.xa_value.specs.parsing.Time.{read_time}
 use Rattle.xa_value.specs.Calendar.{CivilDateTime, is_day}
 use Rattle.xa_value.specs.parsing.Calendar.{read_date_time}
 
@@ -36,9 +36,9 @@ civil_is_day_at (negsuc n) m d late year month day = absurd (omega (arith, signe
 pub civil_is_day : (d : Date) → pos 1 ≤ℤ d.year → is_day (unsigned_abs d.year) d.month d.day ≡ true
 civil_is_day d late = civil_is_day_at d.year d.month d.day late d.year_in d.month_in d.day_in
 
--- the error of the clock of a date with a time, passed on, is what the whole gives
-pub date_without_clock : (text : List ℕ) (error : ReadError) (r : Result CivilDateTime ReadError)
-    → has_shape (codes "9999-99-99T") text ≡ true → read_clock (drop 11 text) ≡ Err error → IsErrAnd r (λ e. e ≡ error) → r ≡ read_date_time text
+-- the error of the time of a date with a time, passed on, is what the whole gives
+pub date_without_time : (text : List ℕ) (error : ReadError) (r : Result CivilDateTime ReadError)
+    → has_shape (codes "9999-99-99T") text ≡ true → read_time (drop 11 text) ≡ Err error → IsErrAnd r (λ e. e ≡ error) → r ≡ read_date_time text
 unfolding read_date_time
-date_without_clock text error (Err e) shaped read same = rw shaped (rw read (ap Err same))
-date_without_clock text error (Ok date_time) shaped read same = absurd same
+date_without_time text error (Err e) shaped read same = rw shaped (rw read (ap Err same))
+date_without_time text error (Ok date_time) shaped read same = absurd same

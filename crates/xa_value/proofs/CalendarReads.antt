@@ -8,7 +8,7 @@ use Rattle.xa_value.specs.Gives.{◌>>=◌}
 use Rattle.xa_value.specs.Lexical.{number, last_digits, trimmed}
 use Rattle.xa_value.specs.parsing.Lexical.{has_shape, two_digits}
 use Rattle.xa_value.specs.Time.{ClockTime, clock_text, day_nanos}
-use Rattle.xa_value.specs.parsing.Time.{read_clock}
+use Rattle.xa_value.specs.parsing.Time.{read_time}
 use Rattle.xa_value.specs.Zone.{zone_text}
 use Rattle.xa_value.specs.parsing.Zone.{read_zone}
 use Rattle.xa_value.specs.Calendar.{CivilDate, CivilDateTime, is_day, day_text, date_text, date_time_text}
@@ -56,8 +56,8 @@ date_time_read : (text : List ℕ) (v : CivilDateTime) → read_date_time text �
 unfolding read_date_time
 date_time_read text v h =
     let next = λ (t : ClockTime). date_time_of (year_of text) (two_digits text 5) (two_digits text 8) t in
-    let k = if_ok_or_err (has_shape (codes "9999-99-99T") text) (read_clock (drop 11 text) >>= next) NotThisType v h in
-    let steps = bind_ok (read_clock (drop 11 text)) next v k.1 in
+    let k = if_ok_or_err (has_shape (codes "9999-99-99T") text) (read_time (drop 11 text) >>= next) NotThisType v h in
+    let steps = bind_ok (read_time (drop 11 text)) next v k.1 in
     date_time_of_is_day _ _ _ steps.0 v (time_in_day (drop 11 text) steps.0 steps.1) steps.2
 
 -- no month has more than 31 days

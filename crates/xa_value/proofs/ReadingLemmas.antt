@@ -17,7 +17,7 @@ use Rattle.xa_value.specs.TimeGrammar.{IsTime, print_time, time_value, is_time_i
 use Rattle.xa_value.specs.DurationGrammar.{print_year_month, year_month_value, is_year_month_in_range, IsYearMonth, print_day_time, day_time_value, is_day_time_in_range, IsDayTime}
 use Rattle.xa_value.specs.BinaryGrammar.{IsHex, print_hex, hex_value, IsBase64, print_base64, base64_value}
 use Rattle.xa_value.specs.parsing.Number.{read_boolean, read_integer}
-use Rattle.xa_value.specs.parsing.Time.{read_clock}
+use Rattle.xa_value.specs.parsing.Time.{read_time}
 use Rattle.xa_value.specs.parsing.Calendar.{read_date, read_date_time}
 use Rattle.xa_value.specs.parsing.Duration.{read_day_time, read_year_month}
 use Rattle.xa_value.specs.parsing.Binary.{read_hex, read_base64}
@@ -64,7 +64,7 @@ reading_at type.Date text byte =
     agrees value.Date IsDate print_date date_value is_date_in_range trimmed read_date text (read type.Date text)
     refl date_means (date_covers (trimmed text)) date_plain
 reading_at type.Time text byte =
-    agrees value.Time IsTime print_time time_value is_time_in_range trimmed read_clock text (read type.Time text)
+    agrees value.Time IsTime print_time time_value is_time_in_range trimmed read_time text (read type.Time text)
     refl time_means (time_covers (trimmed text)) time_plain
 reading_at type.DateTime text byte =
     agrees value.DateTime IsDateTime print_date_time date_time_value is_date_time_in_range trimmed read_date_time text (read type.DateTime text)

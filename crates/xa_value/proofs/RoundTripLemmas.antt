@@ -8,7 +8,7 @@ use Rattle.xa_value.specs.declared.value.Value.TheVariants as value
 use Rattle.xa_value.specs.declared.read_error.ReadError.{ReadError}
 use Rattle.xa_value.specs.Lexical.{trimmed}
 use Rattle.xa_value.specs.parsing.Number.{read_boolean, read_integer}
-use Rattle.xa_value.specs.parsing.Time.{read_clock}
+use Rattle.xa_value.specs.parsing.Time.{read_time}
 use Rattle.xa_value.specs.parsing.Calendar.{read_date, read_date_time}
 use Rattle.xa_value.specs.parsing.Duration.{read_day_time, read_year_month}
 use Rattle.xa_value.specs.parsing.Binary.{read_hex, read_base64}
@@ -42,7 +42,7 @@ reads_back_at type.Date text byte v h =
     let k = read_as_ok value.Date (read_date (trimmed text)) v h in
     subst (Back type.Date) k.2 (ap (read_as value.Date) (date_reads (trimmed text) k.0 k.1))
 reads_back_at type.Time text byte v h =
-    let k = read_as_ok value.Time (read_clock (trimmed text)) v h in
+    let k = read_as_ok value.Time (read_time (trimmed text)) v h in
     subst (Back type.Time) k.2 (ap (read_as value.Time) (time_reads (trimmed text) k.0 k.1))
 reads_back_at type.DateTime text byte v h =
     let k = read_as_ok value.DateTime (read_date_time (trimmed text)) v h in

@@ -9,7 +9,7 @@ use Rattle.xa_value.specs.Gives.{◌>>=◌}
 use Rattle.xa_value.specs.Lexical.{trimmed}
 use Rattle.xa_value.specs.parsing.Lexical.{has_shape}
 use Rattle.xa_value.specs.Time.{nanoseconds}
-use Rattle.xa_value.specs.parsing.Time.{fraction_length, fraction_digits, is_clock, clock_nanos as nanos_read, time_of, read_clock}
+use Rattle.xa_value.specs.parsing.Time.{fraction_length, fraction_digits, is_clock, clock_nanos as nanos_read, time_of, read_time}
 use Rattle.xa_value.specs.parsing.Zone.{read_zone}
 use Rattle.xa_value.specs.DigitGrammar.{IsDigits, IsOptionalNumeral, print_fraction, fraction_nanos, is_short}
 use Rattle.xa_value.specs.TimeGrammar.{Zone, IsZone, print_zone, zone_value, is_zone_in_range, Clock, IsClock, print_clock, clock_nanos, is_clock_in_range, Time, IsTime, print_time, time_value, is_time_in_range}
@@ -49,12 +49,12 @@ tail_is f z fraction zone =
 abbrev ClockReads : Option (List ℕ) → Zone → List ℕ → List ℕ → List ℕ → Type 0
 ClockReads f z h m s =
     let c : Clock = record { hours = h; minutes = m; seconds = s; fraction = f } in
-    read_clock (print_clock c ++ print_zone z) ≡ (if is_clock_in_range c && is_zone_in_range z then Ok (record { nanos = clock_nanos c; zone = zone_value z }) else Err OutOfRange)
+    read_time (print_clock c ++ print_zone z) ≡ (if is_clock_in_range c && is_zone_in_range z then Ok (record { nanos = clock_nanos c; zone = zone_value z }) else Err OutOfRange)
 
 digits_read : (f : Option (List ℕ)) (z : Zone) (a b c d e g : ℕ) → TailIs f z (print_fraction f ++ print_zone z)
     → is_ascii_digit a ≡ true → is_ascii_digit b ≡ true → is_ascii_digit c ≡ true → is_ascii_digit d ≡ true → is_ascii_digit e ≡ true → is_ascii_digit g ≡ true
     → ClockReads f z (a ∷ b ∷ []) (c ∷ d ∷ []) (e ∷ g ∷ [])
-unfolding read_clock has_shape time_of is_clock nanos_read
+unfolding read_time has_shape time_of is_clock nanos_read
 digits_read f z a b c d e g rest a_is b_is c_is d_is e_is g_is =
     rw (number_two a b, number_two c d, number_two e g, a_is, b_is, c_is, d_is, e_is, g_is, rest.pointed, rest.zone, rest.kept, rest.value)
     (both_in_range _ (is_zone_in_range z) (zone_value z) _)
@@ -68,7 +68,7 @@ clock_means c z valid zone =
     digits_read c.fraction z h1 h2 m1 m2 s1 s2 rest h1_is h2_is m1_is m2_is s1_is s2_is)))
 
 -- a text of the grammar reads as what it means
-pub time_means : (t : Time) → IsTime t → read_clock (print_time t) ≡ (if is_time_in_range t then Ok (time_value t) else Err OutOfRange)
+pub time_means : (t : Time) → IsTime t → read_time (print_time t) ≡ (if is_time_in_range t then Ok (time_value t) else Err OutOfRange)
 time_means t valid = clock_means t.clock t.zone valid.0 valid.1
 
 Solid-clock : (c : Clock) → IsClock c → Solid (print_clock c)
@@ -128,18 +128,18 @@ time_tree text shape pointed z =
     )
 
 -- a text that is a time is a text of the grammar
-pub time_covers : (text : List ℕ) → TimeOf text ⊎ (read_clock text ≡ Err NotThisType)
-unfolding read_clock
+pub time_covers : (text : List ℕ) → TimeOf text ⊎ (read_time text ≡ Err NotThisType)
+unfolding read_time
 time_covers text = by_shape (has_shape (codes "99:99:99") text) (not (fraction_length rest == 1)) refl refl
   where
     rest : List ℕ
     rest = drop 8 text
 
-    by_zone : has_shape (codes "99:99:99") text ≡ true → not (fraction_length rest == 1) ≡ true → ZoneOf (drop (fraction_length rest) rest) ⊎ (read_zone (drop (fraction_length rest) rest) ≡ Err NotThisType) → TimeOf text ⊎ (read_clock text ≡ Err NotThisType)
+    by_zone : has_shape (codes "99:99:99") text ≡ true → not (fraction_length rest == 1) ≡ true → ZoneOf (drop (fraction_length rest) rest) ⊎ (read_zone (drop (fraction_length rest) rest) ≡ Err NotThisType) → TimeOf text ⊎ (read_time text ≡ Err NotThisType)
     by_zone shape pointed (inl z) = inl (time_tree text shape pointed z)
     by_zone shape pointed (inr refused) = inr (rw (shape, pointed, refused) refl)
 
-    by_shape : (a b : Bool) → has_shape (codes "99:99:99") text ≡ a → not (fraction_length rest == 1) ≡ b → TimeOf text ⊎ (read_clock text ≡ Err NotThisType)
+    by_shape : (a b : Bool) → has_shape (codes "99:99:99") text ≡ a → not (fraction_length rest == 1) ≡ b → TimeOf text ⊎ (read_time text ≡ Err NotThisType)
     by_shape true true shape pointed = by_zone shape pointed (zone_covers (drop (fraction_length rest) rest))
     by_shape true false shape pointed = inr (rw (shape, pointed) refl)
     by_shape false b shape pointed = inr (rw shape refl)

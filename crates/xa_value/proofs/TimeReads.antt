@@ -11,7 +11,7 @@ use Rattle.xa_value.specs.Gives.{◌>>=◌}
 use Rattle.xa_value.specs.Lexical.{number, number_after, last_digits, trimmed}
 use Rattle.xa_value.specs.parsing.Lexical.{has_shape}
 use Rattle.xa_value.specs.Time.{ClockTime, day_nanos, nanoseconds, significant_digits, fraction_text, clock_text, time_text}
-use Rattle.xa_value.specs.parsing.Time.{fraction_length, fraction_digits, is_clock, clock_nanos, time_of, read_clock}
+use Rattle.xa_value.specs.parsing.Time.{fraction_length, fraction_digits, is_clock, clock_nanos, time_of, read_time}
 use Rattle.xa_value.specs.Zone.{zone_text}
 use Rattle.xa_value.specs.parsing.Zone.{read_zone}
 use Rattle.xa_value.proofs.TimeLemmas.{clock_bounds, nanoseconds_lt, fraction_digits_count}
@@ -111,8 +111,8 @@ time_of_in_day text z t offset h =
     subst IsClockTime e (clock_nanos_lt text k.0, offset)
 
 -- a time that was read lies in a day
-pub time_in_day : (text : List ℕ) (t : ClockTime) → read_clock text ≡ Ok t → IsClockTime t
-unfolding read_clock
+pub time_in_day : (text : List ℕ) (t : ClockTime) → read_time text ≡ Ok t → IsClockTime t
+unfolding read_time
 time_in_day text t h =
     let shape = has_shape (codes "99:99:99") text && not (fraction_length (drop 8 text) == 1) in
     let zoned = read_zone (drop (fraction_length (drop 8 text)) (drop 8 text)) in
@@ -158,7 +158,7 @@ time_tree nanos z day offset =
       value = rw (h, m, s, f.value, zone.value) (ap (λ n. record { nanos = n; zone = z }) total);
     }
 
-pub time_reads : (text : List ℕ) (t : ClockTime) → read_clock text ≡ Ok t → read_clock (trimmed (time_text t)) ≡ Ok t
+pub time_reads : (text : List ℕ) (t : ClockTime) → read_time text ≡ Ok t → read_time (trimmed (time_text t)) ≡ Ok t
 time_reads text t h =
     let k = time_in_day text t h in
-    tree_reads IsTime print_time time_value is_time_in_range read_clock (time_text t) t time_means time_plain (time_tree t.nanos t.zone k.0 k.1)
+    tree_reads IsTime print_time time_value is_time_in_range read_time (time_text t) t time_means time_plain (time_tree t.nanos t.zone k.0 k.1)

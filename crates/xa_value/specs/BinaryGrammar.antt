@@ -1,5 +1,5 @@
 -- The shapes of bytes (XML Schema, part 2, sections 3.2.15 and 3.2.16). Each is a tree, the text that it prints as, a
--- fact that says which trees are valid, and its value.
+-- predicate for valid trees, and its value.
 use Rattle.std.specs.Prelude.{◌≡◌, ℕ, ◌+◌, ◌-◌, ◌*◌, ◌/◌, ◌%◌, ◌<◌, Bool, ◌&&◌, ◌||◌, nat_le}
 use Rattle.std.specs.Prelude.{if◌then◌else◌, List, [], ◌∷◌, map, codes, slice_index, IsTrue, ⊤}
 

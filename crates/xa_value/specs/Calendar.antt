@@ -5,7 +5,7 @@ use Rattle.xa_value.specs.Lexical.{last_digits}
 use Rattle.xa_value.specs.Time.{clock_text}
 use Rattle.xa_value.specs.Zone.{zone_text, offset_of}
 
--- a day of the calendar, with the offset of its zone in minutes, where it has one
+-- a day of the calendar, with the offset of its zone in minutes, if it has one
 pub record CivilDate : Type 0 where
   pub year : ℕ
   pub month : ℕ
@@ -35,7 +35,7 @@ date_text d = day_text d.year d.month d.day ++ zone_text d.zone
 abbrev pub date_time_text : CivilDateTime → List ℕ
 date_time_text d = day_text d.year d.month d.day ++ codes "T" ++ clock_text d.nanos ++ zone_text d.zone
 
--- a day's number, where 1970-01-01 is 0
+-- a day's number; that of 1970-01-01 is 0
 abbrev pub day_number : ℕ → ℕ → ℕ → ℤ
 day_number year month day = days_from_civil (pos year) month day
 

@@ -1,4 +1,4 @@
--- The attribute categories that have a shorthand (XACML 3.0, core, appendix B.2, and its JSON profile).
+-- The attribute categories that have a shorthand (XACML 3.0, core, appendix B.2; JSON Profile, section 4.2).
 use Rattle.std.specs.Prelude.{ℕ, Bool, true, false, List, [], ◌∷◌, codes, bytes_eq, find, Option, Some, None}
 use Rattle.xa_value.specs.declared.category.Category.{Category}
 use Rattle.xa_value.specs.declared.category.Category.TheVariants.{AccessSubject, RecipientSubject}

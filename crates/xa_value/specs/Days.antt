@@ -1,4 +1,4 @@
--- The day of a number, where 1970-01-01 is 0 (the proleptic Gregorian calendar; XML Schema, part 2, section 3.2.7).
+-- The day of a number; that of 1970-01-01 is 0 (the proleptic Gregorian calendar; XML Schema, part 2, section 3.2.7).
 use Rattle.std.specs.Prelude.{ℕ, zero, suc, ◌+◌, Bool, if◌then◌else◌, ℤ, unsigned_abs, int_le, ◌-ℤ◌}
 use Rattle.xa_value.specs.Calendar.{day_number}
 

@@ -20,7 +20,7 @@ abbrev pub IsOptionalNumeral : Option (List ℕ) → Type 0
 IsOptionalNumeral None = ⊤
 IsOptionalNumeral (Some digits) = IsNumeral digits
 
--- its number, and 0 where there is none
+-- its number, or 0 if there is none
 abbrev pub count : Option (List ℕ) → ℕ
 count None = 0
 count (Some digits) = number digits

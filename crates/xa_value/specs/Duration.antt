@@ -17,7 +17,7 @@ IsMonths months = (neg_ℤ (pos most_months) ≤ℤ months) × (months ≤ℤ po
 abbrev pub IsNanos : ℤ → Type 0
 IsNanos nanos = (neg_ℤ (pos most_nanos) ≤ℤ nanos) × (nanos ≤ℤ pos most_nanos)
 
--- a part with its unit, and nothing where it is zero. Of the units `Y` is 89, `M` 77, `D` 68 and `H` 72
+-- a part with its unit, or nothing if it is zero. Of the units `Y` is 89, `M` 77, `D` 68 and `H` 72
 unfoldable pub part_text : ℕ → ℕ → List ℕ
 part_text n unit = if n == 0 then [] else decimal n ++ unit ∷ []
 
@@ -32,12 +32,12 @@ year_month_text z =
     if months == 0 then codes "P0M"
     else sign_text z ++ codes "P" ++ part_text (months / 12) 89 ++ part_text (months % 12) 77
 
--- seconds with a fraction, and nothing where they are zero
+-- seconds with a fraction, or nothing if they are zero
 unfoldable pub seconds_text : ℕ → List ℕ
 seconds_text nanos =
     if nanos == 0 then [] else decimal (nanos / 1_000_000_000) ++ fraction_text (nanos % 1_000_000_000) ++ codes "S"
 
--- hours, minutes and seconds after `T`, and nothing where they are zero
+-- hours, minutes and seconds after `T`, or nothing if they are zero
 unfoldable pub clock_part_text : ℕ → List ℕ
 clock_part_text nanos =
     if nanos == 0 then []

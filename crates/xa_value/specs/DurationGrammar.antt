@@ -1,5 +1,5 @@
 -- The shapes of durations (XML Schema, part 2, section 3.2.6; XQuery and XPath data model, section 3.3.2). Each is a
--- tree, the text that it prints as, a fact that says which trees are valid, its value, and whether that is in range.
+-- tree, the text that it prints as, a predicate for valid trees, its value, and whether that is in range.
 use Rattle.std.specs.Prelude.{ℕ, ◌+◌, ◌*◌, Bool, true, ◌&&◌, ◌||◌, List, [], ◌++◌}
 use Rattle.std.specs.Prelude.{codes, nat_le, is_some, IsTrue, ⊤, ℤ, Option, Some, None}
 use Rattle.xa_value.specs.Duration.{most_months, most_nanos}
@@ -68,7 +68,7 @@ print_clock_part (Some c) =
 abbrev pub print_day_time : DayTime → List ℕ
 print_day_time d = print_minus d.negative ++ codes "P" ++ print_part (codes "D") d.days ++ print_clock_part d.clock
 
--- digits before the point, and after it where there is one
+-- digits before the point, and after it if there is one
 abbrev pub IsSeconds : Option Seconds → Type 0
 IsSeconds None = ⊤
 IsSeconds (Some s) = IsNumeral s.whole × IsOptionalNumeral s.fraction

@@ -16,13 +16,13 @@ abbrev pub answered : {X E : Type 0} → Result X E → Result X (OrMemory E)
 answered (Ok x) = Ok x
 answered (Err e) = Err (Error e)
 
--- the definition's answer, where want of memory alone is an error
+-- the definition's answer, with want of memory alone as an error
 abbrev pub memory_apart : {X E : Type 0} → Result X (OrMemory E) → Result (Result X E) AllocError
 memory_apart (Ok x) = Ok (Ok x)
 memory_apart (Err Memory) = Err alloc_error
 memory_apart (Err (Error e)) = Ok (Err e)
 
--- of what a call answers: P of its value, N where there was no memory, and Q of its error
+-- of what a call answers: P of its value, N if there was no memory, and Q of its error
 abbrev pub MatchGiven : {X E : Type 0} → Result X (OrMemory E) → (X → Type 0) → Type 0 → (E → Type 0) → Type 0
 MatchGiven (Ok x) P N Q = P x
 MatchGiven (Err Memory) P N Q = N
@@ -38,7 +38,7 @@ IsErrorAnd (Err (Error e)) P = P e
 abbrev pub ForError : {X E : Type 0} → Result X (OrMemory E) → (E → Type 0) → Type 0
 ForError {X} {E} given P = (e : E) → given ≡ Err (Error e) → P e
 
--- the second step, where the first gave a value
+-- the second step, if the first gave a value
 infixl 10 ◌>>=◌
 abbrev pub ◌>>=◌ : {A B E : Type 0} → Result A E → (A → Result B E) → Result B E
 Ok x >>= f = f x

@@ -1,5 +1,5 @@
--- Moments: whole seconds since 1970-01-01T00:00:00Z, and the date and time that they show (XACML 3.0, section 10.2.5,
--- the values of the environment's clock attributes).
+-- Moments: whole seconds since 1970-01-01T00:00:00Z, and the date and time that they show (XACML 3.0, core, section
+-- 10.2.5, the values of the environment's clock attributes).
 use Rattle.std.specs.Prelude.{ℕ, ◌*◌, ℤ, pos, negsuc, ◌≤ℤ◌, unsigned_abs, Option, Some}
 use Rattle.std.specs.Int.{int_div_euclid, int_rem_euclid}
 use Rattle.xa_value.specs.Calendar.{CivilDate, CivilDateTime}
@@ -14,7 +14,7 @@ IsMoment seconds = (negsuc 62_135_596_799 ≤ℤ seconds) × (seconds ≤ℤ pos
 abbrev pub utc : Option ℤ
 utc = Some (pos 0)
 
--- the number of its day by UTC, where 1970-01-01 is 0
+-- the number of its day by UTC; that of 1970-01-01 is 0
 abbrev pub day_number_of : ℤ → ℤ
 day_number_of seconds = int_div_euclid seconds (pos 86_400)
 

@@ -1,5 +1,5 @@
--- The shape of integers (XML Schema, part 2, section 3.3.13): a tree, the text that it prints as, a fact that says
--- which trees are valid, its value, and whether that is in range.
+-- The shape of integers (XML Schema, part 2, section 3.3.13): a tree, the text that it prints as, a predicate for
+-- valid trees, its value, and whether that is in range.
 use Rattle.std.specs.Prelude.{ℕ, ◌-◌, ◌^◌, Bool, true, false, List, [], ◌++◌, codes, nat_le, if◌then◌else◌, ℤ}
 use Rattle.xa_value.specs.Lexical.{number, with_sign}
 use Rattle.xa_value.specs.DigitGrammar.{IsNumeral}

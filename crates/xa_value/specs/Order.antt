@@ -91,6 +91,6 @@ pub record IsOrder : Type 0 where
   pub reversed : (a b : Value) → order a b ≡ option_map ordering_reverse (order b a)
   pub transitive : (a b c : Value) → order a b ≡ Some Less → order b c ≡ Some Less → order a c ≡ Some Less
 
--- of two values of one type, the keys compare as equal exactly where the values are the same
+-- of two values of one type, the keys compare as equal exactly if the values are the same
 abbrev pub KeysTellApart : Type 0
 KeysTellApart = (a b : Value) → type_of a ≡ type_of b → same a b ≡ is_eq (compare_keys (key_of a) (key_of b))

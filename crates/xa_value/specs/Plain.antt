@@ -13,7 +13,7 @@ use Rattle.xa_value.specs.declared.value.Value.TheVariants as value
 use Rattle.xa_value.specs.Printing.{printed}
 use Rattle.xa_value.specs.Reading.{read, grows}
 
--- the type of a member where none is named
+-- the type of a member if none is named
 abbrev pub type_of_plain : {T : Type 0} → Plain T → DataType
 type_of_plain (plain.Text text) = type.String
 type_of_plain (plain.Boolean b) = type.Boolean

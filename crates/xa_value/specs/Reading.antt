@@ -20,7 +20,7 @@ use Rattle.xa_value.specs.DurationGrammar.{print_day_time, day_time_value, is_da
 use Rattle.xa_value.specs.BinaryGrammar.{HexByte, IsHex, print_hex, hex_value}
 use Rattle.xa_value.specs.BinaryGrammar.{Base64, IsBase64, print_base64, base64_value}
 use Rattle.xa_value.specs.parsing.Number.{read_boolean, read_integer}
-use Rattle.xa_value.specs.parsing.Time.{read_clock}
+use Rattle.xa_value.specs.parsing.Time.{read_time}
 use Rattle.xa_value.specs.parsing.Calendar.{read_date, read_date_time}
 use Rattle.xa_value.specs.parsing.Duration.{read_day_time, read_year_month}
 use Rattle.xa_value.specs.parsing.Binary.{read_hex, read_base64}
@@ -30,7 +30,7 @@ use Rattle.xa_value.specs.parsing.Binary.{read_hex, read_base64}
 pub record IsReadBy (Tree : Type 0) (IsTree : Tree → Type 0) (print : Tree → List ℕ) (value_of : Tree → Value)
     (is_in_range : Tree → Bool) (plain : List ℕ → List ℕ) (text : List ℕ) (answer : Result Value ReadError)
     : Type 0 where
-  -- the text of a valid tree: the tree's value, where that is in range
+  -- the text of a valid tree: the tree's value if that is in range, else OutOfRange
   pub means : (tree : Tree) → IsTree tree → plain text ≡ print tree
       → answer ≡ (if is_in_range tree then Ok (value_of tree) else Err OutOfRange)
   -- every other text is not of the type
@@ -82,7 +82,7 @@ read type.String text = Ok (value.String text)
 read type.Boolean text = read_as value.Boolean (read_boolean (trimmed text))
 read type.Integer text = read_as value.Integer (read_integer (trimmed text))
 read type.Date text = read_as value.Date (read_date (trimmed text))
-read type.Time text = read_as value.Time (read_clock (trimmed text))
+read type.Time text = read_as value.Time (read_time (trimmed text))
 read type.DateTime text = read_as value.DateTime (read_date_time (trimmed text))
 read type.DayTimeDuration text = read_as value.DayTimeDuration (read_day_time (trimmed text))
 read type.YearMonthDuration text = read_as value.YearMonthDuration (read_year_month (trimmed text))

@@ -4,7 +4,7 @@ use Rattle.std.specs.Prelude.{if◌then◌else◌, List, [], ◌++◌, codes, le
 use Rattle.xa_value.specs.Lexical.{number, last_digits}
 use Rattle.xa_value.specs.Zone.{zone_text}
 
--- nanoseconds since midnight, with the offset of the zone in minutes, where it has one
+-- nanoseconds since midnight, with the offset of the zone in minutes, if it has one
 pub record ClockTime : Type 0 where
   pub nanos : ℕ
   pub zone : Option ℤ
@@ -22,7 +22,7 @@ unfoldable pub significant_digits : ℕ → ℕ → List ℕ
 significant_digits zero n = []
 significant_digits (suc count) n = if n % 10 == 0 then significant_digits count (n / 10) else last_digits (suc count) n
 
--- a point and the fraction, and nothing where it is zero
+-- a point and the fraction, or nothing if it is zero
 unfoldable pub fraction_text : ℕ → List ℕ
 fraction_text n = if n == 0 then [] else codes "." ++ significant_digits 9 n
 

@@ -1,5 +1,5 @@
 -- The shapes of zones, times, dates, and dates with times (XML Schema, part 2). Each is a tree, the text that it
--- prints as, a fact that says which trees are valid, its value, and whether that is in range.
+-- prints as, a predicate for valid trees, its value, and whether that is in range.
 use Rattle.std.specs.Prelude.{ℕ, ◌+◌, ◌*◌, Bool, true, ◌&&◌, List, [], ◌++◌, codes}
 use Rattle.std.specs.Prelude.{nat_le, if◌then◌else◌, ⊤, ℤ, pos, Option, Some, None}
 use Rattle.xa_value.specs.Lexical.{number, with_sign}
@@ -23,7 +23,7 @@ IsZone absent = ⊤
 IsZone utc = ⊤
 IsZone (offset negative hours minutes) = IsDigits 2 hours × IsDigits 2 minutes
 
--- its minutes from UTC, where there is a zone
+-- its minutes from UTC, if there is a zone
 abbrev pub zone_value : Zone → Option ℤ
 zone_value absent = None
 zone_value utc = Some (pos 0)

@@ -13,7 +13,7 @@ use std::cmp::Ordering;
 use std::hash::{Hash, Hasher};
 use std::marker::Model;
 
-/// Bytes that contracts see as their list: two of the same bytes are equal, wherever they lie.
+/// Bytes that contracts see as their list. Two are equal if their lists are, whatever their addresses.
 #[derive(Debug, Drop)]
 pub struct Bytes {
     bytes: Vec<u8>,

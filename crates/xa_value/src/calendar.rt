@@ -5,17 +5,18 @@ ghost use Rattle.jiff_core.specs.Date.{IsYmd, epoch_day};
 ghost use Rattle.xa_value.specs.Calendar.{is_day, day_text, date_text, date_time_text, day_number};
 ghost use Rattle.xa_value.specs.parsing.Calendar.{date_of, date_time_of, year_of, read_date, read_date_time};
 ghost use Rattle.xa_value.specs.Time.{day_nanos};
-ghost use Rattle.xa_value.specs.parsing.Time.{read_clock};
+ghost use Rattle.xa_value.specs.parsing.Time.{read_time};
 
 use crate::lexical::{has_shape, push_padded, two_digits};
 use crate::read_error::ReadError;
-use crate::time::{DAY_NANOS, Time, push_clock, read_clock};
+use crate::time::{DAY_NANOS, Time, push_clock, read_time};
 use crate::zone::{Offset, push_zone, read_zone};
 use jiff_core::civil;
 use std::alloc::AllocError;
 use std::marker::Model;
 
-/// A day of the calendar in the years 1 to 9999, with or without a zone.
+/// A day of the calendar in the years 1 to 9999, with or without a zone (XML Schema, part 2, section
+/// 3.2.9).
 #[derive(Clone, Copy, Debug, PartialEq, Eq)]
 pub struct Date {
     year: u16,
@@ -72,7 +73,8 @@ impl Date {
     }
 }
 
-/// A day of the calendar in the years 1 to 9999 and a time of that day, with or without a zone.
+/// A day of the calendar in the years 1 to 9999 and a time of that day, with or without a zone (XML
+/// Schema, part 2, section 3.2.7).
 #[derive(Clone, Copy, Debug, PartialEq, Eq)]
 pub struct DateTime {
     year: u16,
@@ -233,8 +235,8 @@ pub(crate) fn push_date(text: &mut String, date: Date) -> Result<(), AllocError>
 
 /// The date with a time, if the calendar has it.
 #[tactic(auto, using(crate::proofs::CalendarLemmas::day_bounds), unfolding(crate::specs::parsing::Calendar::date_time_of))]
-fn date_time_of(year: u32, month: u32, day: u32, clock: Time) -> Result<DateTime, ReadError>
-    ensures { result ≡ date_time_of year month day clock }
+fn date_time_of(year: u32, month: u32, day: u32, time: Time) -> Result<DateTime, ReadError>
+    ensures { result ≡ date_time_of year month day time }
 {
     if !is_day(year, month, day) {
         return Err(ReadError::OutOfRange);
@@ -243,17 +245,17 @@ fn date_time_of(year: u32, month: u32, day: u32, clock: Time) -> Result<DateTime
         year: year as u16,
         month: month as u8,
         day: day as u8,
-        nanos: clock.nanos(),
-        zone: clock.zone(),
+        nanos: time.nanos(),
+        zone: time.zone(),
     })
 }
 
 /// The time, with its zone, behind the day and `T`.
-fn clock_after_day(text: &[u8]) -> Result<Time, ReadError>
+fn time_after_day(text: &[u8]) -> Result<Time, ReadError>
     requires { 11 ≤ length text.now }
-    ensures { result ≡ read_clock (drop 11 text.now) }
+    ensures { result ≡ read_time (drop 11 text.now) }
 {
-    read_clock(&text[11..])
+    read_time(&text[11..])
 }
 
 /// The date and time of the text: a date without a zone, `T`, and a time.
@@ -264,12 +266,12 @@ pub(crate) fn read_date_time(text: &[u8]) -> Result<DateTime, ReadError>
     if !has_shape(b"9999-99-99T", text) {
         return Err(ReadError::NotThisType);
     }
-    let clock = clock_after_day(text)?;
+    let time = time_after_day(text)?;
     date_time_of(
         year_of(text),
         two_digits(text, 5),
         two_digits(text, 8),
-        clock,
+        time,
     )
 }
 

@@ -3,7 +3,7 @@ ghost use Rattle.std.specs.Prelude.{◌≡◌, find, bytes_eq};
 ghost use Rattle.std.specs.Option.{option_copied};
 ghost use Rattle.xa_value.specs.Category.{shorthand_of, uri_of, is_subject, of_shorthand, category_uri};
 
-/// An attribute category that has a shorthand (XACML 3.0, core, appendix B.2, and its JSON profile).
+/// An attribute category that has a shorthand (XACML 3.0, core, appendix B.2; JSON Profile, section 4.2).
 #[derive(Clone, Copy, Debug, PartialEq, Eq)]
 pub enum Category {
     /// Who asks for access.
@@ -37,7 +37,7 @@ impl Category {
         Category::Environment,
     ];
 
-    /// The category whose shorthand the text is.
+    /// The category whose shorthand the text is (JSON Profile, section 4.2).
     #[tactic(auto, unfolding(crate::specs::Category::of_shorthand))]
     pub fn from_shorthand(text: &str) -> Option<Category>
         ensures { result ≡ of_shorthand text.now }
@@ -45,7 +45,7 @@ impl Category {
         first_with_shorthand(&Category::ALL, text).copied()
     }
 
-    /// The category's shorthand.
+    /// The category's shorthand (JSON Profile, section 4.2).
     pub fn shorthand(self) -> &'static str
         ensures { result.now ≡ shorthand_of self }
     {
@@ -68,7 +68,7 @@ impl Category {
         text == self.shorthand()
     }
 
-    /// The category's URI.
+    /// The category's URI (XACML 3.0, core, appendix B.2).
     pub fn uri(self) -> &'static str
         ensures { result.now ≡ uri_of self }
     {
@@ -117,7 +117,8 @@ fn first_with_shorthand<'a>(categories: &'a [Category], text: &str) -> Option<&'
         .find(|category| category.has_shorthand(text))
 }
 
-/// The URI that a category's name stands for: a shorthand for its URI, any other text for itself.
+/// The URI that a category's name stands for: a shorthand for its URI, any other text for itself (JSON
+/// Profile, section 4.2).
 pub fn category_uri(name: &str) -> &str
     ensures { result.now ≡ category_uri name.now }
 {

@@ -3,7 +3,7 @@ ghost use Rattle.std.specs.Prelude.{◌≡◌, true, find};
 ghost use Rattle.std.specs.Option.{option_copied};
 ghost use Rattle.xa_value.specs.Types.{name_of, uri_of, place_of, type_at, same_type, names, type_named};
 
-/// A data type (XACML 3.0, appendix A.2).
+/// A data type (XACML 3.0, core, appendix A.2).
 #[derive(Clone, Copy, Debug, PartialEq, Eq)]
 pub enum DataType {
     /// Any text.
@@ -70,7 +70,8 @@ impl DataType {
         self as u8
     }
 
-    /// Whether the types are the same.
+    /// Whether the types are the same, as `==` says. For the prover: its clauses are those that contracts
+    /// cite.
     pub fn is_same(self, other: DataType) -> bool
         ensures value { result ≡ same_type self other }
         ensures same { result ≡ true → self ≡ other }
@@ -105,7 +106,7 @@ impl DataType {
         }
     }
 
-    /// The type's URI.
+    /// The type's URI (XACML 3.0, core, appendix B.3).
     pub fn uri(self) -> &'static str
         ensures { result.now ≡ uri_of self }
     {

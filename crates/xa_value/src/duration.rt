@@ -13,20 +13,21 @@ use crate::read_error::ReadError;
 use crate::time::{LONGEST_FRACTION, SECOND_NANOS, fraction_length, fraction_nanos};
 use std::marker::Model;
 
-/// 10,000 years, in months: more than lie between any two dates, of the years 1 to 9999.
+/// 10,000 years, in months: more than lie between any two dates of the years 1 to 9999.
 const MOST_MONTHS: i32 = 120_000;
 
-/// The most months of a text, whose sign is read apart.
+/// The most months that a text may write. Its sign is read apart.
 const MOST_MONTHS_WRITTEN: u128 = MOST_MONTHS as u128;
 
-/// 10,000 years of 365.25 days, in nanoseconds: more than lie between any two moments, of the years
+/// 10,000 years of 365.25 days, in nanoseconds: more than lie between any two moments of the years
 /// 1 to 9999.
 const MOST_NANOS: i128 = 315_576_000_000_000_000_000;
 
-/// The most nanoseconds of a text, whose sign is read apart.
+/// The most nanoseconds that a text may write. Its sign is read apart.
 const MOST_NANOS_WRITTEN: u128 = MOST_NANOS as u128;
 
-/// A duration in years and months, as months: at most 120,000 to either side.
+/// A duration in years and months, as months: at most 120,000 to either side (XML Schema, part 2, section
+/// 3.2.6; XQuery and XPath data model, section 3.3.2).
 #[derive(Clone, Copy, Debug, PartialEq, Eq)]
 pub struct YearMonthDuration {
     months: i32,
@@ -67,7 +68,7 @@ impl YearMonthDuration {
 }
 
 /// A duration in days, hours, minutes and seconds, as nanoseconds: at most 315,576,000,000 seconds
-/// to either side.
+/// to either side (XML Schema, part 2, section 3.2.6; XQuery and XPath data model, section 3.3.2).
 #[derive(Clone, Copy, Debug, PartialEq, Eq)]
 pub struct DayTimeDuration {
     nanos: i128,
@@ -177,7 +178,7 @@ fn without_minus(text: &[u8]) -> &[u8]
 }
 
 /// The text without its first character.
-fn rest_of(text: &[u8]) -> &[u8]
+fn without_first(text: &[u8]) -> &[u8]
     ensures { result.now ≡ drop 1 text.now }
 {
     match text {
@@ -221,7 +222,7 @@ pub(crate) fn read_year_month(text: &[u8]) -> Result<YearMonthDuration, ReadErro
     if !is_years_and_months(whole) {
         return Err(ReadError::NotThisType);
     }
-    let body = rest_of(whole);
+    let body = without_first(whole);
     months_within(
         begins_with(b'-', text),
         part(b'Y', body),
@@ -329,8 +330,8 @@ pub(crate) fn read_day_time(text: &[u8]) -> Result<DayTimeDuration, ReadError>
     if !is_days_and_clock(whole) {
         return Err(ReadError::NotThisType);
     }
-    let body = rest_of(whole);
-    let clock = rest_of(after_part(b'D', body));
+    let body = without_first(whole);
+    let clock = without_first(after_part(b'D', body));
     if !has_short_fraction(clock) {
         return Err(ReadError::OutOfRange);
     }

@@ -7,7 +7,7 @@ use crate::duration::{DayTimeDuration, YearMonthDuration};
 use crate::time::{DAY_NANOS, HOUR_NANOS, MINUTE_NANOS, SECOND_NANOS, push_fraction};
 use std::alloc::AllocError;
 
-/// Writes a minus for what is below zero.
+/// Writes a minus if it is negative.
 fn push_sign(text: &mut String, negative: bool) -> Result<(), AllocError>
     ensures { OnOk result
         (string_bytes text.new ≡ string_bytes text.old ++ (if negative then codes "-" else [])) }
@@ -15,7 +15,7 @@ fn push_sign(text: &mut String, negative: bool) -> Result<(), AllocError>
     if negative { text.push('-') } else { Ok(()) }
 }
 
-/// Writes a part with its unit, and nothing if it is zero.
+/// Writes a part with its unit, or nothing if it is zero.
 #[tactic(auto, unfolding(crate::specs::Duration::part_text))]
 fn push_part(text: &mut String, number: u64, unit: char) -> Result<(), AllocError>
     requires { unit < 128 }
@@ -46,7 +46,7 @@ pub(crate) fn push_year_month(
     push_part(text, u64::from(months % 12), 'M')
 }
 
-/// Writes seconds with a fraction, and nothing if they are zero.
+/// Writes seconds with a fraction, or nothing if they are zero.
 #[tactic(auto, unfolding(crate::specs::Duration::seconds_text))]
 fn push_seconds(text: &mut String, nanos: u64) -> Result<(), AllocError>
     ensures { OnOk result (string_bytes text.new ≡ string_bytes text.old ++ seconds_text nanos) }
@@ -60,7 +60,7 @@ fn push_seconds(text: &mut String, nanos: u64) -> Result<(), AllocError>
     text.push('S')
 }
 
-/// Writes hours, minutes and seconds after `T`, and nothing if they are zero.
+/// Writes hours, minutes and seconds after `T`, or nothing if they are zero.
 #[tactic(auto, unfolding(crate::specs::Duration::clock_part_text))]
 fn push_clock_part(text: &mut String, nanos: u64) -> Result<(), AllocError>
     ensures { OnOk result (string_bytes text.new ≡ string_bytes text.old ++ clock_part_text nanos) }

@@ -19,13 +19,6 @@ impl DateTime {
     }
 }
 
-/// Nanoseconds since 1970-01-01T00:00:00Z.
-pub(crate) fn instant(day: i32, nanos: u64, zone: Option<Offset>) -> i128
-    ensures { result ≡ instant day nanos zone }
-{
-    local_nanos(day, nanos) - offset_nanos(zone)
-}
-
 /// Nanoseconds since the midnight that began 1970, by the zone's clock.
 fn local_nanos(day: i32, nanos: u64) -> i128
     ensures value { result ≡ day *ℤ pos 86_400_000_000_000 +ℤ pos nanos }
@@ -40,4 +33,11 @@ fn offset_nanos(zone: Option<Offset>) -> i128
     ensures within { IsBetween (neg_ℤ (pos (2 ^ 100))) (pos (2 ^ 100)) result }
 {
     i128::from(offset_of(zone)) * i128::from(MINUTE_NANOS)
+}
+
+/// Nanoseconds since 1970-01-01T00:00:00Z.
+pub(crate) fn instant(day: i32, nanos: u64, zone: Option<Offset>) -> i128
+    ensures { result ≡ instant day nanos zone }
+{
+    local_nanos(day, nanos) - offset_nanos(zone)
 }

@@ -5,7 +5,8 @@ ghost use Rattle.std.specs.Cmp.Lexicographic.{pointwise, lists_equiv, lists_per}
 use std::alloc::{AllocError, Global};
 use std::marker::Model;
 
-/// A `Vec` that contracts see as the list of its items: two of the same items are equal, wherever they lie.
+/// A `Vec` that contracts see as the list of its items. Two are equal if their lists are, whatever their
+/// addresses.
 #[derive(Debug, Drop)]
 pub struct Items<T> {
     items: Vec<T>,

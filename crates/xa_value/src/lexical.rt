@@ -61,7 +61,7 @@ pub(crate) fn begins_with(byte: u8, text: &[u8]) -> bool
     }
 }
 
-/// Whether a character fits a place of a shape, where 9 stands for any digit.
+/// Whether a character fits a place of a shape; 9 stands for any digit.
 fn fits_place(place: u8, byte: u8) -> bool
     ensures { result ≡ fits_place place byte }
 {
@@ -131,7 +131,7 @@ fn push_digit(text: &mut String, digit: u8) -> Result<(), AllocError>
     text.push(char::from(b'0' + digit))
 }
 
-/// Writes a given number of the last digits of the number.
+/// Writes the last `count` digits of the number.
 #[tactic(auto, unfolding(crate::specs::Lexical::last_digits))]
 pub(crate) fn push_padded(text: &mut String, count: u8, number: u32) -> Result<(), AllocError>
     ensures { OnOk result (string_bytes text.new ≡ string_bytes text.old ++ last_digits count number) }

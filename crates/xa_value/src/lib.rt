@@ -7,7 +7,7 @@
 //! another notation. `order` compares values by a `sort_key`, and days and times by an `instant`.
 //!
 //! A `moment` shows a date and a time. A `category` of attributes has a URI and a shorthand. `digits` reads
-//! numbers that are no values, as those of a version.
+//! numbers that are no values, such as those of a version.
 //!
 //! Contracts see a `text`, `bytes`, `items` and what is `boxed` or `shared` as what is in them. Want of
 //! memory goes by `or_memory`.

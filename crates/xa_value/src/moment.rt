@@ -16,7 +16,8 @@ use std::marker::Model;
 /// The seconds of a day.
 const SECONDS_OF_A_DAY: i64 = 86_400;
 
-/// A moment: whole seconds since 1970-01-01T00:00:00Z, from 0001-01-01T00:00:00Z to 9999-12-31T23:59:59Z.
+/// A moment: whole seconds since 1970-01-01T00:00:00Z, from 0001-01-01T00:00:00Z to 9999-12-31T23:59:59Z
+/// (XACML 3.0, core, section 10.2.5).
 #[derive(Clone, Copy, Debug, PartialEq, Eq)]
 pub struct Moment {
     seconds: i64,

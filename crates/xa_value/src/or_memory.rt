@@ -1,5 +1,5 @@
-//! One road for want of memory: a call that may grow something answers as its definition does, or
-//! that there was no memory.
+//! Want of memory: a call that may grow something answers as its definition does, or that there was
+//! no memory.
 ghost use Rattle.std.specs.Prelude.{◌≡◌, Ok, Err, IfOk, is_ok};
 ghost use Rattle.xa_value.specs.declared.or_memory.OrMemory.TheVariants.{Memory};
 ghost use Rattle.xa_value.specs.Gives.{answered, memory_apart, ForError, IsErrorAnd, MatchGiven};
@@ -39,8 +39,8 @@ impl<E, T: Drop> From<AllocFailed<T>> for OrMemory<E> {
     }
 }
 
-/// The answer that the definition gives, apart from want of memory: that alone is the error, so that
-/// `?` passes it on, and a match of two arms is left.
+/// The definition's answer, with want of memory apart: it alone is the error. So `?` passes it on, and
+/// a match of two arms is left.
 pub fn memory_apart<T, E>(given: Result<T, OrMemory<E>>) -> Result<Result<T, E>, AllocError>
     ensures value { result ≡ memory_apart given }
     ensures answer { IfOk result (λ answer. given ≡ answered answer) }
@@ -52,7 +52,7 @@ pub fn memory_apart<T, E>(given: Result<T, OrMemory<E>>) -> Result<Result<T, E>,
     }
 }
 
-/// The same answer, whose error, if it is one, is made into another. Want of memory stays.
+/// The same answer, with its error changed into another. Want of memory stays.
 pub fn map_error<T, E, D, F: FnOnce(E) -> D>(
     given: Result<T, OrMemory<E>>,
     change: F,

@@ -10,16 +10,6 @@ use crate::sort_key::SortKey;
 use crate::value::Value;
 use std::cmp::Ordering;
 
-/// Whether values of the type have an order.
-fn is_ordered(data_type: DataType) -> bool
-    ensures { result ≡ is_ordered data_type }
-{
-    matches!(
-        data_type,
-        DataType::String | DataType::Integer | DataType::Date | DataType::Time | DataType::DateTime
-    )
-}
-
 impl Value {
     /// The number by which the value compares.
     #[tactic(auto, unfolding(crate::specs::Order::number_of))]
@@ -54,7 +44,7 @@ impl Value {
         }
     }
 
-    /// What the value is ordered by among those of its type, and equal by.
+    /// The key by which the values of its type are ordered, and equal.
     pub fn sort_key(&self) -> SortKey<'_>
         ensures value { result ≡ key_of self.now }
         ensures law { KeysTellApart }
@@ -76,8 +66,8 @@ impl Value {
         }
     }
 
-    /// Whether the values are of one type, and what they are ordered by is the same. Not by `sort_key`:
-    /// where the numbers differ, the bytes aren't asked for.
+    /// Whether the values are of one type and have one key. Not by `sort_key`: if the numbers differ, the
+    /// bytes aren't asked for.
     #[tactic(auto, unfolding(crate::specs::Order::same))]
     fn has_same_key(&self, other: &Value) -> bool
         ensures { result ≡ same self.now other.now }
@@ -101,4 +91,14 @@ impl Value {
             None
         }
     }
+}
+
+/// Whether values of the type have an order.
+fn is_ordered(data_type: DataType) -> bool
+    ensures { result ≡ is_ordered data_type }
+{
+    matches!(
+        data_type,
+        DataType::String | DataType::Integer | DataType::Date | DataType::Time | DataType::DateTime
+    )
 }

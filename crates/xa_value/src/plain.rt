@@ -38,9 +38,8 @@ impl<T> Plain<T> {
 
 impl Value {
     /// The value of the member under the type: a text is read by the type, a boolean fits boolean
-    /// alone, and a whole number integer. NotThisType of one that doesn't fit. OutOfRange of a
-    /// whole number that needs more than 64 bits, and of a text of which the reading under the type
-    /// says so.
+    /// alone, and a whole number integer. NotThisType if it doesn't fit. OutOfRange of a
+    /// whole number that needs more than 64 bits, and of a text that is read as out of range.
     pub fn from_plain(
         alloc: Global,
         data_type: DataType,
@@ -88,6 +87,14 @@ fn from_boolean(data_type: DataType, value: bool) -> Result<Value, ReadError>
     }
 }
 
+/// The whole number as a value, if it fits 64 bits.
+fn integer(value: i128) -> Result<Value, ReadError>
+    ensures { result ≡ from_integer DataType.Integer value }
+{
+    let value = i64::try_from(value).map_err(|_| ReadError::OutOfRange)?;
+    Ok(Value::Integer(value))
+}
+
 /// The whole number as a value of the type.
 fn from_integer(data_type: DataType, value: i128) -> Result<Value, ReadError>
     ensures { result ≡ from_integer data_type value }
@@ -96,12 +103,4 @@ fn from_integer(data_type: DataType, value: i128) -> Result<Value, ReadError>
         DataType::Integer => integer(value),
         _ => Err(ReadError::NotThisType),
     }
-}
-
-/// The whole number as a value, if it fits 64 bits.
-fn integer(value: i128) -> Result<Value, ReadError>
-    ensures { result ≡ from_integer DataType.Integer value }
-{
-    let value = i64::try_from(value).map_err(|_| ReadError::OutOfRange)?;
-    Ok(Value::Integer(value))
 }

@@ -5,7 +5,7 @@ ghost use Rattle.xa_value.specs.declared.or_memory.OrMemory.TheVariants.{Error};
 use crate::or_memory::OrMemory;
 use thiserror::Error;
 
-/// Why a text was not read as a value of a type (XACML 3.0, appendix A.2).
+/// Why a text was not read as a value of a type (XACML 3.0, core, appendix A.2).
 #[derive(Clone, Copy, Debug, PartialEq, Eq, Error)]
 pub enum ReadError {
     /// The text does not have the shape of the type.

@@ -13,7 +13,7 @@ use crate::number::{read_boolean, read_integer};
 use crate::or_memory::OrMemory;
 use crate::read_error::ReadError;
 use crate::text::Text;
-use crate::time::read_clock;
+use crate::time::read_time;
 use crate::value::Value;
 use std::alloc::Global;
 
@@ -54,7 +54,7 @@ fn read_by_type(
         DataType::Boolean => Ok(Value::Boolean(read_boolean(bytes)?)),
         DataType::Integer => Ok(Value::Integer(read_integer(bytes)?)),
         DataType::Date => Ok(Value::Date(read_date(bytes)?)),
-        DataType::Time => Ok(Value::Time(read_clock(bytes)?)),
+        DataType::Time => Ok(Value::Time(read_time(bytes)?)),
         DataType::DateTime => Ok(Value::DateTime(read_date_time(bytes)?)),
         DataType::DayTimeDuration => Ok(Value::DayTimeDuration(read_day_time(bytes)?)),
         DataType::YearMonthDuration => Ok(Value::YearMonthDuration(read_year_month(bytes)?)),

@@ -8,7 +8,7 @@ ghost use Rattle.std.proofs.Common.{rules};
 use std::cmp::Ordering;
 use std::marker::Model;
 
-/// What the values of one type are ordered by, and equal by: a number, and then bytes (XACML 3.0,
+/// The key by which the values of one type are ordered, and equal: a number, and then bytes (XACML 3.0,
 /// core, appendix A.3).
 #[derive(Debug, Drop)]
 pub struct SortKey<'a> {

@@ -17,8 +17,8 @@ use std::cmp::Ordering;
 use std::hash::{Hash, Hasher};
 use std::marker::Model;
 
-/// A text that contracts see as the list of its UTF-8 bytes: two texts of the same bytes are equal,
-/// wherever they lie.
+/// A text that contracts see as the list of its UTF-8 bytes. Two are equal if their lists are, whatever
+/// their addresses.
 #[derive(Debug, Drop)]
 pub struct Text {
     string: String,
@@ -83,36 +83,6 @@ impl Text {
     }
 }
 
-/// A borrowed text that contracts see as the list of its UTF-8 bytes.
-#[derive(Debug, Drop)]
-pub struct TextRef<'a> {
-    text: &'a str,
-}
-
-impl<'a> Model for TextRef<'a> {
-    ghost use Rattle.std.specs.Prelude.{List, ℕ};
-
-    ghost Value = { List ℕ };
-
-    ghost view = { λ t. t.text.now };
-}
-
-impl<'a> TextRef<'a> {
-    /// The text, with no copy.
-    pub fn new(text: &'a str) -> TextRef<'a>
-        ensures { result ≡ text.now }
-    {
-        TextRef { text }
-    }
-
-    /// The text as a `&str`.
-    pub fn as_str(&self) -> &str
-        ensures { result.now ≡ self.now }
-    {
-        self.text
-    }
-}
-
 impl Clone for Text {
     ghost is_clone = { λ text copy. copy ≡ text };
 
@@ -168,5 +138,35 @@ impl Hash for Text {
 
     fn hash<H: Hasher>(&self, state: &mut H) {
         self.as_str().hash(state);
+    }
+}
+
+/// A borrowed text that contracts see as the list of its UTF-8 bytes.
+#[derive(Debug, Drop)]
+pub struct TextRef<'a> {
+    text: &'a str,
+}
+
+impl<'a> Model for TextRef<'a> {
+    ghost use Rattle.std.specs.Prelude.{List, ℕ};
+
+    ghost Value = { List ℕ };
+
+    ghost view = { λ t. t.text.now };
+}
+
+impl<'a> TextRef<'a> {
+    /// The text, with no copy.
+    pub fn new(text: &'a str) -> TextRef<'a>
+        ensures { result ≡ text.now }
+    {
+        TextRef { text }
+    }
+
+    /// The text as a `&str`.
+    pub fn as_str(&self) -> &str
+        ensures { result.now ≡ self.now }
+    {
+        self.text
     }
 }

@@ -5,7 +5,7 @@ ghost use Rattle.xa_value.specs.parsing.Lexical.{digit_count};
 ghost use Rattle.xa_value.specs.Time.{day_nanos, nanoseconds, significant_digits};
 ghost use Rattle.xa_value.specs.Time.{fraction_text, clock_text, time_text};
 ghost use Rattle.xa_value.specs.parsing.Time.{fraction_length, fraction_digits};
-ghost use Rattle.xa_value.specs.parsing.Time.{is_clock, clock_nanos, time_of, read_clock};
+ghost use Rattle.xa_value.specs.parsing.Time.{is_clock, clock_nanos, time_of, read_time};
 
 use crate::lexical::{digit_count, has_shape, number, push_padded, two_digits};
 use crate::read_error::ReadError;
@@ -28,7 +28,8 @@ pub const DAY_NANOS: u64 = 86_400_000_000_000;
 /// The length of the longest fraction of a second: its point and nine digits.
 pub(crate) const LONGEST_FRACTION: usize = 10;
 
-/// A time of day, in nanoseconds since midnight, with or without a zone.
+/// A time of day, in nanoseconds since midnight, with or without a zone (XML Schema, part 2, section
+/// 3.2.8).
 #[derive(Clone, Copy, Debug, PartialEq, Eq)]
 pub struct Time {
     nanos: u64,
@@ -111,19 +112,6 @@ fn is_clock(text: &[u8]) -> bool
         && fraction_length(&text[8..]) <= LONGEST_FRACTION
 }
 
-/// The time in its zone, if a clock shows it.
-#[tactic(auto, unfolding(crate::specs::parsing::Time::time_of))]
-fn time_of(text: &[u8], zone: Option<Offset>) -> Result<Time, ReadError>
-    requires { 8 ≤ length text.now }
-    ensures { result ≡ time_of text.now zone }
-{
-    if !is_clock(text) {
-        return Err(ReadError::OutOfRange);
-    }
-    let nanos = clock_nanos(text);
-    Ok(Time { nanos, zone })
-}
-
 /// The nanoseconds of the fraction that the text begins with, if it has one.
 #[tactic(auto, using(crate::proofs::TimeLemmas::fraction_digits_count, crate::proofs::TimeLemmas::no_fraction))]
 pub(crate) fn fraction_nanos(text: &[u8]) -> u64
@@ -152,10 +140,23 @@ fn clock_nanos(text: &[u8]) -> u64
     ((hours * 60 + minutes) * 60 + seconds) * SECOND_NANOS + fraction_nanos(&text[8..])
 }
 
+/// The time in its zone, if a clock shows it.
+#[tactic(auto, unfolding(crate::specs::parsing::Time::time_of))]
+fn time_of(text: &[u8], zone: Option<Offset>) -> Result<Time, ReadError>
+    requires { 8 ≤ length text.now }
+    ensures { result ≡ time_of text.now zone }
+{
+    if !is_clock(text) {
+        return Err(ReadError::OutOfRange);
+    }
+    let nanos = clock_nanos(text);
+    Ok(Time { nanos, zone })
+}
+
 /// The time of the text, `hh:mm:ss` with or without a fraction and a zone.
-#[tactic(auto, unfolding(crate::specs::parsing::Time::read_clock))]
-pub(crate) fn read_clock(text: &[u8]) -> Result<Time, ReadError>
-    ensures { result ≡ read_clock text.now }
+#[tactic(auto, unfolding(crate::specs::parsing::Time::read_time))]
+pub(crate) fn read_time(text: &[u8]) -> Result<Time, ReadError>
+    ensures { result ≡ read_time text.now }
 {
     if !has_shape(b"99:99:99", text) {
         return Err(ReadError::NotThisType);
@@ -183,7 +184,7 @@ fn push_significant(text: &mut String, count: u8, nanos: u32) -> Result<(), Allo
     push_padded(text, count, nanos)
 }
 
-/// Writes a point and the fraction, and nothing if it is zero.
+/// Writes a point and the fraction, or nothing if it is zero.
 #[tactic(auto, unfolding(crate::specs::Time::fraction_text))]
 pub(crate) fn push_fraction(text: &mut String, nanos: u32) -> Result<(), AllocError>
     ensures { OnOk result (string_bytes text.new ≡ string_bytes text.old ++ fraction_text nanos) }

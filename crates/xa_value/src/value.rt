@@ -9,7 +9,7 @@ use crate::duration::{DayTimeDuration, YearMonthDuration};
 use crate::text::Text;
 use crate::time::Time;
 
-/// A value of one of the data types (XACML 3.0, appendix A.2).
+/// A value of one of the data types (XACML 3.0, core, appendix A.2).
 #[derive(Clone, Debug, Drop, PartialEq, Eq)]
 pub enum Value {
     /// Any text.

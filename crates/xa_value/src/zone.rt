@@ -9,10 +9,11 @@ use crate::read_error::ReadError;
 use std::alloc::AllocError;
 use std::marker::Model;
 
-/// The greatest distance from UTC, in minutes, of a text, whose sign is read apart: 14 hours.
+/// The greatest distance from UTC that a text may write, in minutes: 14 hours. Its sign is read apart.
 const MOST_WRITTEN: u32 = Offset::MOST as u32;
 
-/// The minutes by which a zone is ahead of UTC, at most 14 hours to either side.
+/// The minutes by which a zone is ahead of UTC, at most 14 hours to either side (XML Schema, part 2,
+/// section 3.2.7.3).
 #[derive(Clone, Copy, Debug, PartialEq, Eq)]
 pub struct Offset {
     minutes: i16,
@@ -129,7 +130,7 @@ pub(crate) fn push_zone(text: &mut String, zone: Option<Offset>) -> Result<(), A
     push_offset(text, minutes.unsigned_abs())
 }
 
-/// The minutes by which the zone is ahead of UTC, where an absent zone counts as UTC.
+/// The minutes by which the zone is ahead of UTC. An absent zone counts as UTC.
 pub(crate) fn offset_of(zone: Option<Offset>) -> i16
     ensures value { result ≡ offset_of zone }
     ensures within { IsOffset result }

@@ -9,16 +9,16 @@ use Rattle.xa_value.specs.Time.{nanoseconds}
 use Rattle.xa_value.specs.parsing.Time.{fraction_length, fraction_digits}
 use Rattle.xa_value.specs.Duration.{most_months, most_nanos}
 
--- how many digits stand before the unit, where the text begins with a part of that unit
+-- how many digits stand before the unit, if the text begins with a part of that unit
 unfoldable pub part_length : ℕ → List ℕ → ℕ
 part_length unit text =
     if nat_lt 0 (digit_count text) && begins_with unit (drop (digit_count text) text) then digit_count text else 0
 
--- the number of that part, and 0 where it is absent
+-- the number of that part, or 0 if it is absent
 abbrev pub part : ℕ → List ℕ → ℕ
 part unit text = number (take (part_length unit text) text)
 
--- what follows a part of this many characters and its unit, where it is there
+-- what follows a part of this many characters and its unit, if it is there
 abbrev pub after : ℕ → List ℕ → List ℕ
 after count text = if count == 0 then text else drop (count + 1) text
 
@@ -26,7 +26,7 @@ after count text = if count == 0 then text else drop (count + 1) text
 abbrev pub after_part : ℕ → List ℕ → List ℕ
 after_part unit text = after (part_length unit text) text
 
--- the length of seconds with a fraction, where the text begins with them
+-- the length of seconds with a fraction, if the text begins with them
 unfoldable pub seconds_length : List ℕ → ℕ
 seconds_length text =
     let fraction = fraction_length (drop (digit_count text) text) in

@@ -26,13 +26,13 @@ unfoldable pub clock_nanos : List ℕ → ℕ
 clock_nanos text = ((two_digits text 0 * 60 + two_digits text 3) * 60 + two_digits text 6) * 1_000_000_000
     + nanoseconds (fraction_digits (drop 8 text))
 
--- the time in its zone, where a clock shows it
+-- the time in its zone, if a clock shows it
 unfoldable pub time_of : List ℕ → Option ℤ → Result ClockTime ReadError
 time_of text zone = if is_clock text then Ok (record { nanos = clock_nanos text; zone = zone }) else Err OutOfRange
 
--- `hh:mm:ss`, a fraction that has digits where there is a point, and a zone
-unfoldable pub read_clock : List ℕ → Result ClockTime ReadError
-read_clock text =
+-- `hh:mm:ss`, a fraction that has digits if there is a point, and a zone
+unfoldable pub read_time : List ℕ → Result ClockTime ReadError
+read_time text =
     if has_shape (codes "99:99:99") text && not (fraction_length (drop 8 text) == 1)
     then (read_zone (drop (fraction_length (drop 8 text)) (drop 8 text)) >>= λ zone. time_of text zone)
     else Err NotThisType

@@ -7,4 +7,4 @@ pub returns-in-Compare : goal.returns-in-Compare
 returns-in-Compare c = rw c.in-Compare.is c.compared_at_once-in-Compare.ensures
 
 pub returns-in-Logic : goal.returns-in-Logic
-returns-in-Logic c = rw c.in-Logic.is c.decided_at_once.ensures
+returns-in-Logic c = rw c.in-Logic.is c.logical_at_once.ensures
