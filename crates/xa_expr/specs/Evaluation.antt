@@ -37,7 +37,7 @@ abbrev pub is_empty : List Value → Bool
 is_empty [] = true
 is_empty (_ ∷ _) = false
 
--- what a designator gives (7.3.5): its bag, or a fault where that is empty and must not be
+-- what a designator gives (7.3.5): its bag, or a fault if that is empty and must not be
 abbrev pub attribute : Attributes → Designator → Outcome
 attribute values_of d =
     if is_empty (values_of d) && d.must_be_present then Err MissingAttribute
@@ -63,7 +63,7 @@ abbrev pub value_in : ValueOrBag → Value
 value_in (given.Value v) = v
 value_in (given.Bag b) = misfit_value
 
--- the boolean and the number that an argument is, where a type check let no other through
+-- the boolean and the number that an argument is, if a type check let no other through
 abbrev pub truth : ValueOrBag → Bool
 truth (given.Value (value.Boolean b)) = b
 truth _ = misfit_truth
@@ -102,12 +102,12 @@ higher_applied h f rs =
     collected rs
     >>= (λ given. of_bag_function (higher_order_applied h (result_type_of (signature_of f)) (func.applied f) given))
 
--- the result of the variable at a place; a type check lets through no place that none is at
+-- the result of the variable at a place; a type check lets no place through at which there is none
 abbrev pub result_at : Option Outcome → Outcome
 result_at (Some r) = r
 result_at None = misfit
 
--- each expression, by what those in it come to, where the variables come to these
+-- each expression, by what those in it come to, if the variables come to these
 abbrev pub outcome_step : Attributes → List Outcome → Typed-F Outcome → Outcome
 outcome_step values_of variables (Typed-F.Literal v) = Ok (given.Value v)
 outcome_step values_of variables (Typed-F.Attribute d) = attribute values_of d

@@ -1,5 +1,5 @@
--- What a look at the values of a bag for one value comes to (XACML 3.0, core, section 7.6, where the function of a
--- match is an equality).
+-- What a look at the values of a bag for one value comes to (XACML 3.0, core, section 7.6, if the function of a match
+-- is an equality).
 use Rattle.std.specs.Prelude.{Bool, true, false, if◌then◌else◌, List, [], ◌∷◌}
 use Rattle.std.specs.List.{list_any}
 use Rattle.xa_value.specs.declared.value.Value.{Value}
@@ -10,7 +10,7 @@ use Rattle.xa_expr.specs.declared.looked.Looked.TheVariants.{Nothing, Found, Not
 use Rattle.xa_expr.specs.declared.matching.Matching.{Matching}
 use Rattle.xa_expr.specs.declared.matching.Matching.TheVariants as matching
 
--- whether some value is the one that is sought, where there are any
+-- whether some value is the one that is sought, if there are any
 abbrev pub looked : Value → List Value → Looked
 looked sought [] = Nothing
 looked sought (v ∷ vs) = if list_any (same sought) (v ∷ vs) then Found else NotFound

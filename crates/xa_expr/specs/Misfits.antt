@@ -1,4 +1,4 @@
--- Where a checked expression is evaluated, no wrong type is met: every function is given what it takes (XACML 3.0,
+-- When a checked expression is evaluated, no wrong type is met: every function is given what it takes (XACML 3.0,
 -- core, sections 5.27, 7.3.2, 7.3.5 and 7.4, appendix A.3). The definitions of values are total, so they answer
 -- something for arguments of other kinds too, by words like `misfit`. Of an expression that a type check gives a
 -- kind, none of these lines is ever reached: that is what `MeetsNoMisfit` says of one expression, and clause `fits`
@@ -45,7 +45,7 @@ EachComesTo (k ∷ ks) (r ∷ rs) = ComesTo k r × EachComesTo ks rs
 
 -- Arguments that come to these are what a function takes that takes arguments of such kinds: each is of the kind at
 -- its place, or a fault. So this says it of each place by itself, as or, and and n-of need it, and of all together
--- where none is a fault.
+-- if none is a fault.
 pub record AreTaken (Takes : List Kind → Type 0) (rs : List Outcome) : Type 0 where
   pub kinds : List Kind
   pub taken : Takes kinds
@@ -60,7 +60,7 @@ abbrev pub AnswersEach : FuncId → List (List Value) → Type 0
 AnswersEach f [] = Unit {0}
 AnswersEach f (vs ∷ others) = Answers f vs × AnswersEach f others
 
--- so for each choice of a value of every argument, where none is a fault (A.3.12)
+-- so for each choice of a value of every argument, if none is a fault (A.3.12)
 abbrev pub AnswersChoices : FuncId → Result (List ValueOrBag) Fault → Type 0
 AnswersChoices f (Ok given) = AnswersEach f (choices given)
 AnswersChoices f (Err fault) = Unit {0}
@@ -70,8 +70,8 @@ abbrev pub IsThere : Option Outcome → Kind → Type 0
 IsThere (Some r) k = ComesTo k r
 IsThere None k = ⊥
 
--- an expression, by what those in it come to, is given what it takes; where the variables come to these. A literal
--- and an attribute take nothing
+-- an expression, by what those in it come to, is given what it takes, if the variables come to these. A literal and
+-- an attribute take nothing
 abbrev pub Fits : List Outcome → Typed-F Outcome → Type 0
 Fits variables (Typed-F.Literal v) = Unit {0}
 Fits variables (Typed-F.Attribute d) = Unit {0}
@@ -92,7 +92,7 @@ DefinitionsFit source before (d ∷ ds) =
     FitsThroughout source before d.expression
     × DefinitionsFit source (before ++ outcome source before d.expression ∷ []) ds
 
--- no wrong type is met where an expression is evaluated under definitions
+-- no wrong type is met when an expression is evaluated under definitions
 pub record MeetsNoMisfit (source : Attributes) (definitions : List Definition) (expression : Typed) : Type 0 where
   pub variables : DefinitionsFit source [] definitions
   pub itself : FitsThroughout source (outcomes source definitions) expression

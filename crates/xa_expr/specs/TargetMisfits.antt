@@ -1,7 +1,7 @@
--- Where a target is looked at, no wrong type is met: the function of each match is given what it takes, and gives a
+-- When a target is looked at, no wrong type is met: the function of each match is given what it takes, and gives a
 -- boolean for it (XACML 3.0, core, sections 5.9, 7.3.5 and 7.6). The definition of a match's answer is total, so it
--- says No match of a value that is no boolean (`matching_of` of `specs/Target`): that line is never reached where the
--- value isn't False. So says clause `fits` of `Target::matching` of every target.
+-- says No match of a value that is no boolean (`matching_of` of `specs/Target`): that line is only reached if the
+-- value is False. So says clause `fits` of `Target::matching` of every target.
 use Rattle.std.specs.Prelude.{◌≡◌, Bool, List, [], ◌∷◌, map, Ok}
 use Rattle.std.specs.List.{AllByRecursion}
 use Rattle.xa_value.specs.declared.value.Value.{Value}

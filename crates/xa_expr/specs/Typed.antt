@@ -102,23 +102,23 @@ gives_boolean _ f = same_type (result_type_of (signature_of f)) type.Boolean
 abbrev pub higher_accepted : HigherOrder → FuncId → List Kind → Bool
 higher_accepted h f ks = has_bags h ks && accepted (signature_of f) (map of_each ks) && gives_boolean h f
 
--- a kind before others, where they are there
+-- a kind before others, if they are there
 abbrev pub put_first : Kind → Option (List Kind) → Option (List Kind)
 put_first k (Some ks) = Some (k ∷ ks)
 put_first k None = None
 
--- all kinds, where each is there
+-- all kinds, if each is there
 abbrev pub all_there : List (Option Kind) → Option (List Kind)
 all_there [] = Some []
 all_there (Some k ∷ ks) = put_first k (all_there ks)
 all_there (None ∷ ks) = None
 
--- the kind, where the arguments are all there and pass
+-- the kind, if the arguments are all there and pass
 abbrev pub kind_where : (List Kind → Bool) → Kind → Option (List Kind) → Option Kind
 kind_where passes k (Some ks) = if passes ks then Some k else None
 kind_where passes k None = None
 
--- a variable's kind, where the definition at its place has that
+-- a variable's kind, if the definition at its place has that
 abbrev pub variable_kind : Option Kind → Kind → Option Kind
 variable_kind (Some l) k = if same_kind l k then Some k else None
 variable_kind None k = None

@@ -20,8 +20,8 @@ use Rattle.xa_expr.specs.declared.typed.Typed.TheVariants as typed
 use Rattle.xa_expr.specs.declared.variables.Definition.{Definition}
 use Rattle.xa_expr.specs.Typed.{kind_of_typed, counted, accepted, higher_counted, higher_accepted}
 
--- what an expression is at its place: the name of a function, where it is a Function; and what it comes to as an
--- argument at a depth
+-- what an expression is at its place: the name of a function, if it is a Function; and what it comes to as an argument
+-- at a depth
 pub record Judged : Type 0 where
   pub function : Option (List ℕ)
   pub argument : ℕ → Result Typed CheckError
@@ -58,7 +58,7 @@ higher_applied h f ts =
     else if higher_accepted h f (map kind_of_typed ts) then Ok (typed.HigherOrder h f ts)
     else Err WrongType
 
--- a function of values is known where a function is an argument
+-- as an argument, a function is known if it is one of values
 abbrev pub known_inner : Option FuncId → Result FuncId CheckError
 known_inner (Some f) = if is_scalar f then Ok f else Err UnknownFunction
 known_inner None = Err UnknownFunction
@@ -111,7 +111,7 @@ NamesNone (Expr-F.Variable name) = ⊥
 abbrev pub AppliesNone : Expr → Type 0
 AppliesNone expression = NamesNone (out-Expr expression)
 
--- the checked expression, or the first fault, where the expression stands in no other and these variables are defined
+-- the checked expression, or the first fault, if the expression stands in no other and these variables are defined
 -- before it
 abbrev pub checked : List Definition → Expr → Result Typed CheckError
 checked variables expression = (judged variables expression).argument 1

@@ -11,7 +11,18 @@ use std::alloc::{AllocError, Global};
 use xa_func::{FuncFault, FuncId};
 use xa_value::{Value, memory_apart};
 
-/// What the function says, of arguments that it takes.
+/// What the function's answer says of a match.
+fn matching_of(answer: Result<Value, FuncFault>) -> Matching
+    ensures { result ≡ matching_of (of_function answer) }
+{
+    match answer {
+        Ok(Value::Boolean(true)) => Matching::Match,
+        Ok(_) => Matching::NoMatch,
+        Err(fault) => Matching::Indeterminate(Fault::with(fault.status())),
+    }
+}
+
+/// What the function says of arguments that it takes.
 pub(crate) fn answer_for(
     alloc: Global,
     function: FuncId,
@@ -22,15 +33,4 @@ pub(crate) fn answer_for(
 {
     let answer = memory_apart(function.apply(alloc, arguments))?;
     Ok(matching_of(answer))
-}
-
-/// What the function's answer says of a match.
-fn matching_of(answer: Result<Value, FuncFault>) -> Matching
-    ensures { result ≡ matching_of (of_function answer) }
-{
-    match answer {
-        Ok(Value::Boolean(true)) => Matching::Match,
-        Ok(_) => Matching::NoMatch,
-        Err(fault) => Matching::Indeterminate(Fault::with(fault.status())),
-    }
 }

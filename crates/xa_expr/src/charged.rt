@@ -12,7 +12,7 @@ use xa_bag::{BagFault, Inner, ValueOrBag};
 use xa_func::{FuncFault, FuncId, HasKind, HigherOrder};
 use xa_value::{DataType, OrMemory, Value};
 
-/// A function of values, each of whose calls takes what it costs from the work that the message may ask for.
+/// A function of values. Each call takes its units from the work that the message may ask for.
 #[derive(Drop)]
 pub(crate) struct Charged<'a, C: Context> {
     /// The function that is called.

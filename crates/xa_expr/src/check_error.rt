@@ -6,8 +6,8 @@ use thiserror::Error;
 use xa_value::OrMemory;
 
 /// Why an expression or a match has no type: the first fault found. An unknown function, and too many
-/// expressions inside one another, are told before the arguments are looked at; then come the faults of
-/// the arguments from the first to the last, then their number, then their kinds.
+/// expressions inside one another, come before the arguments. Then come the faults of these from the first
+/// to the last, then their number, then their kinds.
 #[derive(Clone, Copy, Debug, PartialEq, Eq, Error)]
 pub enum CheckError {
     /// No function has this name, or none that may stand here.

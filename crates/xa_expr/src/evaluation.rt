@@ -1,5 +1,4 @@
-//! The values of checked expressions (XACML 3.0, core, section 7.4), where the results of variables are
-//! given.
+//! The values of checked expressions (XACML 3.0, core, section 7.4), by the results of variables.
 ghost use Rattle.std.specs.Prelude.{◌≡◌, map, if◌then◌else◌, IfOk};
 ghost use Rattle.xa_value.specs.Gives.{Gives};
 ghost use Rattle.xa_func.specs.declared.func_id.FuncId.TheVariants as function_id;
@@ -21,7 +20,7 @@ ghost use Rattle.xa_expr.specs.Variables.{kinds};
 
 use crate::context::Context;
 use crate::fault::Fault;
-use crate::function::{of_bags, of_function, of_values};
+use crate::function::{call_bag_function, call_function, call_higher_order};
 use crate::scope::{Scope, attribute};
 use crate::typed::Typed;
 use crate::work::{LIST, LOOK, STEP, VALUE, units_of};
@@ -30,36 +29,6 @@ use xa_bag::{Quantifier, ValueOrBag};
 use xa_func::{BagFunction, FuncId, HigherOrder, Logic};
 use xa_value::{DataType, Items, OrMemory, Value};
 
-/// What the expression comes to, where the variables come to the results. Each expression that is
-/// evaluated takes a step from the work that the message may ask for, before anything is done.
-#[cycle(evaluation)]
-pub(crate) fn evaluate<'a, C: Context>(
-    alloc: Global,
-    scope: &Scope<'a, C>,
-    expression: &Typed,
-) -> Result<ValueOrBag, OrMemory<Fault>>
-    requires right { AreOfKinds (kinds scope.now.definitions.now) scope.now.results.now }
-    requires typed { IsTyped (kinds scope.now.definitions.now) expression.now }
-    ensures value { Gives result
-        (outcome (C.values_of scope.now.context.now) scope.now.results.now expression.now) }
-    ensures typed { IfOk result (λ given. kind_of_argument given ≡ kind_of_typed expression.now) }
-{
-    scope.context.spend(STEP)?;
-    match expression {
-        Typed::Literal(value) => Ok(literal(scope.context, value)?),
-        Typed::Attribute(designator) => attribute(alloc, scope.context, designator),
-        Typed::Variable(place, _) => scope.variable(*place),
-        Typed::Apply(function, arguments) => apply(alloc, scope, *function, arguments.as_slice()),
-        Typed::HigherOrder(function, inner, arguments) => apply_higher_order(
-            alloc,
-            scope,
-            *function,
-            *inner,
-            arguments.as_slice(),
-        ),
-    }
-}
-
 /// A copy of the literal. Its units are taken before it is made, and those of another value beside them:
 /// literals were measured to take longer than their units.
 fn literal<C: Context>(context: &C, value: &Value) -> Result<ValueOrBag, AllocError>
@@ -67,58 +36,6 @@ fn literal<C: Context>(context: &C, value: &Value) -> Result<ValueOrBag, AllocEr
 {
     context.spend(units_of(value).saturating_add(VALUE))?;
     Ok(ValueOrBag::Value(value.clone()?))
-}
-
-/// What the function comes to on the arguments.
-#[cycle(evaluation)]
-fn apply<'a, C: Context>(
-    alloc: Global,
-    scope: &Scope<'a, C>,
-    function: FuncId,
-    arguments: &[Typed],
-) -> Result<ValueOrBag, OrMemory<Fault>>
-    requires right { AreOfKinds (kinds scope.now.definitions.now) scope.now.results.now }
-    requires typed { AreTypedUnder (kinds scope.now.definitions.now) arguments.now }
-    requires accepted { AcceptsKinds (signature_of function) (map kind_of_typed arguments.now) }
-    ensures value { Gives result (applied function
-        (map (outcome (C.values_of scope.now.context.now) scope.now.results.now) arguments.now)) }
-    ensures typed { IfOk result (λ given. kind_of_argument given ≡ result_kind (signature_of function)) }
-{
-    match function {
-        FuncId::Logic(function) => apply_logic(alloc, scope, function, arguments),
-        FuncId::Bag(function, data_type) => {
-            apply_to_bags(alloc, scope, function, data_type, arguments)
-        }
-        _ => apply_to_values(alloc, scope, function, arguments),
-    }
-}
-
-/// What the function of booleans comes to on the arguments. It takes a look, beside the step of its
-/// expression, before anything is done.
-#[cycle(evaluation)]
-fn apply_logic<'a, C: Context>(
-    alloc: Global,
-    scope: &Scope<'a, C>,
-    function: Logic,
-    arguments: &[Typed],
-) -> Result<ValueOrBag, OrMemory<Fault>>
-    requires right { AreOfKinds (kinds scope.now.definitions.now) scope.now.results.now }
-    requires typed { AreTypedUnder (kinds scope.now.definitions.now) arguments.now }
-    requires accepted { AcceptsKinds (signature_of (function_id.Logic function))
-        (map kind_of_typed arguments.now) }
-    ensures value { Gives result
-        (applied (function_id.Logic function)
-        (map (outcome (C.values_of scope.now.context.now) scope.now.results.now) arguments.now)) }
-    ensures typed { IfOk result (λ given.
-        kind_of_argument given ≡ result_kind (signature_of (function_id.Logic function))) }
-{
-    scope.context.spend(LOOK)?;
-    match function {
-        Logic::Or => Ok(ValueOrBag::boolean(decide(alloc, scope, Quantifier::Any, arguments)?)),
-        Logic::And => Ok(ValueOrBag::boolean(decide(alloc, scope, Quantifier::All, arguments)?)),
-        Logic::NOf => Ok(ValueOrBag::boolean(n_of(alloc, scope, arguments)?)),
-        Logic::Not => apply_to_values(alloc, scope, FuncId::Logic(function), arguments),
-    }
 }
 
 // The last arm of each of the next three functions is never reached: a type check lets nothing else through
@@ -154,10 +71,92 @@ fn value_in(given: ValueOrBag) -> Value
     }
 }
 
+/// What the expression comes to, if the variables come to the results. Before anything is done, each
+/// expression takes a step from the work that the message may ask for.
+#[cycle(evaluation)]
+pub(crate) fn evaluate<'a, C: Context>(
+    alloc: Global,
+    scope: &Scope<'a, C>,
+    expression: &Typed,
+) -> Result<ValueOrBag, OrMemory<Fault>>
+    requires right { AreOfKinds (kinds scope.now.definitions.now) scope.now.results.now }
+    requires typed { IsTyped (kinds scope.now.definitions.now) expression.now }
+    ensures value { Gives result
+        (outcome (C.values_of scope.now.context.now) scope.now.results.now expression.now) }
+    ensures typed { IfOk result (λ given. kind_of_argument given ≡ kind_of_typed expression.now) }
+{
+    scope.context.spend(STEP)?;
+    match expression {
+        Typed::Literal(value) => Ok(literal(scope.context, value)?),
+        Typed::Attribute(designator) => attribute(alloc, scope.context, designator),
+        Typed::Variable(place, _) => scope.variable(*place),
+        Typed::Apply(function, arguments) => apply(alloc, scope, *function, arguments.as_slice()),
+        Typed::HigherOrder(function, inner, arguments) => apply_higher_order(
+            alloc,
+            scope,
+            *function,
+            *inner,
+            arguments.as_slice(),
+        ),
+    }
+}
+
+/// What the function comes to on the arguments.
+#[cycle(evaluation)]
+fn apply<'a, C: Context>(
+    alloc: Global,
+    scope: &Scope<'a, C>,
+    function: FuncId,
+    arguments: &[Typed],
+) -> Result<ValueOrBag, OrMemory<Fault>>
+    requires right { AreOfKinds (kinds scope.now.definitions.now) scope.now.results.now }
+    requires typed { AreTypedUnder (kinds scope.now.definitions.now) arguments.now }
+    requires accepted { AcceptsKinds (signature_of function) (map kind_of_typed arguments.now) }
+    ensures value { Gives result (applied function
+        (map (outcome (C.values_of scope.now.context.now) scope.now.results.now) arguments.now)) }
+    ensures typed { IfOk result (λ given. kind_of_argument given ≡ result_kind (signature_of function)) }
+{
+    match function {
+        FuncId::Logic(function) => apply_logic(alloc, scope, function, arguments),
+        FuncId::Bag(function, data_type) => {
+            apply_to_bags(alloc, scope, function, data_type, arguments)
+        }
+        _ => apply_to_values(alloc, scope, function, arguments),
+    }
+}
+
+/// What the function of booleans comes to on the arguments. Before anything is done, it takes the units of
+/// a look, beside the step of its expression.
+#[cycle(evaluation)]
+fn apply_logic<'a, C: Context>(
+    alloc: Global,
+    scope: &Scope<'a, C>,
+    function: Logic,
+    arguments: &[Typed],
+) -> Result<ValueOrBag, OrMemory<Fault>>
+    requires right { AreOfKinds (kinds scope.now.definitions.now) scope.now.results.now }
+    requires typed { AreTypedUnder (kinds scope.now.definitions.now) arguments.now }
+    requires accepted { AcceptsKinds (signature_of (function_id.Logic function))
+        (map kind_of_typed arguments.now) }
+    ensures value { Gives result
+        (applied (function_id.Logic function)
+        (map (outcome (C.values_of scope.now.context.now) scope.now.results.now) arguments.now)) }
+    ensures typed { IfOk result (λ given.
+        kind_of_argument given ≡ result_kind (signature_of (function_id.Logic function))) }
+{
+    scope.context.spend(LOOK)?;
+    match function {
+        Logic::Or => Ok(ValueOrBag::boolean(are_true(alloc, scope, Quantifier::Any, arguments)?)),
+        Logic::And => Ok(ValueOrBag::boolean(are_true(alloc, scope, Quantifier::All, arguments)?)),
+        Logic::NOf => Ok(ValueOrBag::boolean(n_of(alloc, scope, arguments)?)),
+        Logic::Not => apply_to_values(alloc, scope, FuncId::Logic(function), arguments),
+    }
+}
+
 /// Whether any or all of the arguments are True. No argument is evaluated after one that settles it or
 /// gives a fault.
 #[cycle(evaluation)]
-fn decide<'a, C: Context>(
+fn are_true<'a, C: Context>(
     alloc: Global,
     scope: &Scope<'a, C>,
     quantifier: Quantifier,
@@ -202,8 +201,8 @@ fn n_of<'a, C: Context>(
     n_among(alloc, scope, wanted.unsigned_abs() as usize, booleans)
 }
 
-/// Whether this many of the booleans are True, where there are this many: no argument is evaluated after
-/// the last of these, after the one with which too few are left, and after a fault.
+/// Whether at least this many of the booleans are True; a fault if there are fewer booleans. None is
+/// evaluated after the last True that is wanted, after the one with which too few are left, or after a fault.
 #[cycle(evaluation)]
 fn n_among<'a, C: Context>(
     alloc: Global,
@@ -259,7 +258,7 @@ fn apply_to_values<'a, C: Context>(
     ensures typed { IfOk result (λ given. kind_of_argument given ≡ result_kind (signature_of function)) }
 {
     let values = all_values(alloc, scope, arguments)?;
-    of_values(alloc, scope.context, function, values.as_slice())
+    call_function(alloc, scope.context, function, values.as_slice())
 }
 
 /// What a function of bags comes to on the arguments.
@@ -281,7 +280,7 @@ fn apply_to_bags<'a, C: Context>(
         kind_of_argument given ≡ result_kind (bag_signature function data_type)) }
 {
     let given = all_given(alloc, scope, arguments)?;
-    of_bags(alloc, scope.context, function, data_type, given.as_slice())
+    call_bag_function(alloc, scope.context, function, data_type, given.as_slice())
 }
 
 /// What a higher-order function comes to, with its inner function and the arguments after that.
@@ -303,7 +302,7 @@ fn apply_higher_order<'a, C: Context>(
         kind_of_argument given ≡ kind_given function (result_type_of (signature_of inner))) }
 {
     let given = all_given(alloc, scope, arguments)?;
-    of_function(alloc, scope.context, function, inner, given.as_slice())
+    call_higher_order(alloc, scope.context, function, inner, given.as_slice())
 }
 
 /// What the arguments come to, none of which is a bag, from the first to the last. The list is counted

@@ -20,9 +20,9 @@ use std::marker::Model;
 use xa_bag::ValueOrBag;
 use xa_value::OrMemory;
 
-/// Expressions are evaluated in a context under the variables of a policy, each of which is worked out
-/// when an expression first names it or a later one, and once at most. Clauses see the context and the
-/// definitions.
+/// Evaluates expressions in a context under the variables of a policy (core, sections 7.4 and 7.8). A
+/// variable is worked out when an expression first names it or a later one, and once at most. Clauses see
+/// the context and the definitions.
 #[derive(Drop)]
 pub struct Evaluator<'a, C: Context> {
     /// Where the values of attributes come from.
@@ -50,7 +50,7 @@ impl<'a, C: Context> Model for Evaluator<'a, C> {
 }
 
 impl<'a, C: Context> Evaluator<'a, C> {
-    /// Nothing is worked out yet, and nothing allocated.
+    /// An evaluator that has worked out nothing yet. Nothing is allocated.
     pub fn new(alloc: Global, context: &'a C, variables: &'a Variables) -> Evaluator<'a, C>
         ensures { result ≡ (context.now, variables.now) }
     {
@@ -61,13 +61,13 @@ impl<'a, C: Context> Evaluator<'a, C> {
         }
     }
 
-    /// Takes the units from the work that the message may still ask for, for what is made of the values.
+    /// Takes the units of what is made of the values from the work that the message may still ask for.
     pub fn spend(&self, units: u64) -> Result<(), AllocError> {
         self.context.spend(units)
     }
 
-    /// What the expression comes to. After want of memory nothing that was worked out is lost. Clause
-    /// `fits`: no wrong type is met, neither in the expression nor in the definitions of the variables.
+    /// What the expression comes to (core, section 7.4). After want of memory nothing that was worked out is
+    /// lost. Clause `fits`: no wrong type is met, in the expression or in the definitions of the variables.
     pub fn value(
         &mut self,
         alloc: Global,
@@ -92,24 +92,8 @@ impl<'a, C: Context> Evaluator<'a, C> {
     }
 }
 
-/// What the expression comes to under the variables.
-pub fn value<C: Context>(
-    alloc: Global,
-    context: &C,
-    variables: &Variables,
-    expression: &Typed,
-) -> Result<ValueOrBag, OrMemory<Fault>>
-    requires { IsTyped (kinds variables.now) expression.now }
-    ensures value { Gives result (value_of (C.values_of context.now) variables.now expression.now) }
-    ensures typed { IfOk result (λ given.
-        Some (kind_of_argument given) ≡ kind_under (kinds variables.now) expression.now) }
-    ensures fits { MeetsNoMisfit (C.values_of context.now) variables.now expression.now }
-{
-    Evaluator::new(alloc, context, variables).value(alloc, expression)
-}
-
-/// Works out the variables that the expression names and those before them. Where all were worked out,
-/// nobody looks at the expression.
+/// Works out the variables that the expression names and those before them. If all were worked out, the
+/// expression isn't looked at.
 fn prepare<C: Context>(
     alloc: Global,
     context: &C,
@@ -132,7 +116,7 @@ fn prepare<C: Context>(
     }
 }
 
-/// What the expression comes to, and what is worked out for it, in the results.
+/// What the expression comes to. What is worked out for it is put behind the results.
 fn value_with<C: Context>(
     alloc: Global,
     context: &C,
@@ -154,4 +138,20 @@ fn value_with<C: Context>(
         results: results.as_slice(),
     };
     evaluate(alloc, &scope, expression)
+}
+
+/// What the expression comes to under the variables (core, sections 7.4 and 7.8).
+pub fn value<C: Context>(
+    alloc: Global,
+    context: &C,
+    variables: &Variables,
+    expression: &Typed,
+) -> Result<ValueOrBag, OrMemory<Fault>>
+    requires { IsTyped (kinds variables.now) expression.now }
+    ensures value { Gives result (value_of (C.values_of context.now) variables.now expression.now) }
+    ensures typed { IfOk result (λ given.
+        Some (kind_of_argument given) ≡ kind_under (kinds variables.now) expression.now) }
+    ensures fits { MeetsNoMisfit (C.values_of context.now) variables.now expression.now }
+{
+    Evaluator::new(alloc, context, variables).value(alloc, expression)
 }

@@ -1,6 +1,6 @@
-//! Functions of arguments that were worked out. Each takes from the work that the message may ask for
-//! before it is called, by the sizes of its arguments: what functions give is no larger than these
-//! together.
+//! Calls of functions, with arguments that were worked out. Before each call its units are taken from the
+//! work that the message may ask for, by the sizes of its arguments: what functions give is no larger than
+//! these together.
 ghost use Rattle.std.specs.Prelude.{◌≡◌, map, Ok, Err, IfOk};
 ghost use Rattle.xa_value.specs.Gives.{Gives, MatchGiven};
 ghost use Rattle.xa_value.specs.declared.or_memory.OrMemory.TheVariants.{Memory, Error};
@@ -25,7 +25,7 @@ use xa_value::{DataType, OrMemory, Value, map_error};
 
 /// What a function of values gives.
 #[tactic(auto, using(crate::proofs::FunctionLemmas::result_typed))]
-pub(crate) fn of_values<C: Context>(
+pub(crate) fn call_function<C: Context>(
     alloc: Global,
     context: &C,
     function: FuncId,
@@ -41,7 +41,7 @@ pub(crate) fn of_values<C: Context>(
     Ok(ValueOrBag::Value(value))
 }
 
-/// What was given, its fault told by the status code alone.
+/// What was given. Of its fault the status code alone is kept.
 fn by_status(
     given: Result<ValueOrBag, OrMemory<BagFault<FuncFault>>>,
 ) -> Result<ValueOrBag, OrMemory<Fault>>
@@ -53,7 +53,7 @@ fn by_status(
 
 /// What a bag function of the type gives.
 #[tactic(auto, using(crate::proofs::FunctionLemmas::bag_result_typed))]
-pub(crate) fn of_bags<C: Context>(
+pub(crate) fn call_bag_function<C: Context>(
     alloc: Global,
     context: &C,
     function: BagFunction,
@@ -70,7 +70,7 @@ pub(crate) fn of_bags<C: Context>(
 }
 
 /// What a higher-order function gives, with its inner function and the arguments after that.
-pub(crate) fn of_function<C: Context>(
+pub(crate) fn call_higher_order<C: Context>(
     alloc: Global,
     context: &C,
     function: HigherOrder,

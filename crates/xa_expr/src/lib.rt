@@ -8,7 +8,7 @@
 //! out by `working_out`, and then the expression by `evaluation`. This reads what was worked out from its
 //! `scope`, and calls a `function`, whose inner function is `charged`. Whatever has no value is a `fault`.
 //!
-//! A `target` is made of matches (`match_`: `match` is a keyword), each of which is told by `looked` or by
+//! A `target` is made of matches (`match_`: `match` is a keyword), each of which goes by `looked` or by
 //! `answering`. What each part comes to is a `matching`. `timeless` finds whether the clock is asked.
 //!
 //! `work` says what each step costs and counts what is left; `rates` says what calls cost beside that.

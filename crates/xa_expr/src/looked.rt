@@ -7,8 +7,8 @@ use crate::matching::Matching;
 use xa_bag::{Bag, Members, is_in};
 use xa_value::Value;
 
-/// What a look for a value among those of a bag comes to. Of looks at parts of the bag, one after
-/// another, `and` makes that at all of it.
+/// What a look for a value among those of a bag comes to. A match by an equality goes by it (core, section
+/// 7.6). Looks at parts of the bag, one after another, are joined by `and`.
 #[derive(Clone, Copy, Debug, PartialEq, Eq)]
 pub enum Looked {
     /// There are no values.
@@ -57,7 +57,7 @@ impl Looked {
         }
     }
 
-    /// This look at some values, and the next one at those behind them.
+    /// This look at some values, joined with the next one at those behind them.
     pub fn and(self, next: Looked) -> Looked
         ensures { result ≡ joined self next }
     {
@@ -68,8 +68,8 @@ impl Looked {
         }
     }
 
-    /// What a match by an equality comes to by this look for its literal. Where a value must be present,
-    /// none at all is a fault.
+    /// What a match by an equality comes to by this look for its literal. If a value must be present, none
+    /// at all is a fault.
     pub(crate) fn matching(self, must_be_present: bool) -> Matching
         ensures { result ≡ match_by must_be_present self }
     {

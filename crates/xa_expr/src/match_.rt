@@ -25,7 +25,7 @@ pub struct Match {
     function: FuncId,
     /// Its first argument.
     literal: Value,
-    /// Whose values are its second argument, one after another.
+    /// The designator whose values are its second argument, one after another.
     designator: Designator,
     pub ghost right: { IsTrue (may_ask function (argument_kinds literal designator.data_type)) },
 }
@@ -39,8 +39,8 @@ impl Match {
     ghost use Rattle.xa_expr.specs.Target.{answer, match_value, some_match};
 
     /// The match of the function of that name (core, sections 5.9 and 7.6). The literal is the
-    /// function's first argument, each value of the bag its second. UnknownFunction where no function
-    /// has the name; WrongType of one that doesn't take the two, or gives no boolean.
+    /// function's first argument, each value of the bag its second. The fault is UnknownFunction if no
+    /// function has the name, and WrongType of one that doesn't take the two, or gives no boolean.
     pub fn new(function: &str, literal: Value, designator: Designator) -> Result<Match, CheckError>
         ensures { result ≡ matched function.now literal designator }
     {
@@ -83,14 +83,18 @@ impl Match {
         ensures { IfOk result (λ m. m ≡ match_value (C.values_of context.now) self.now) }
     {
         match self.function {
-            FuncId::Equal(_) => self.literal_in(alloc, context),
-            _ => self.true_in(alloc, context),
+            FuncId::Equal(_) => self.matching_by_look(alloc, context),
+            _ => self.matching_by_calls(alloc, context),
         }
     }
 
-    /// What a look for the literal says of the match. It takes two steps, as asking for the bag and
-    /// looking at it do, and one where a value is missing.
-    fn literal_in<C: Context>(&self, alloc: Global, context: &C) -> Result<Matching, AllocError>
+    /// The value of the match by a look for its literal. It takes two steps, as asking for the bag and
+    /// looking at it do, and one if a value is missing.
+    fn matching_by_look<C: Context>(
+        &self,
+        alloc: Global,
+        context: &C,
+    ) -> Result<Matching, AllocError>
         ensures { IfOk result (λ m. m ≡ match_by self.now.designator.must_be_present
             (looked self.now.literal (C.values_of context.now self.now.designator))) }
     {
@@ -102,19 +106,23 @@ impl Match {
         Ok(found.matching(self.designator.must_be_present))
     }
 
-    /// Whether the function is true of one of the values of the bag.
-    fn true_in<C: Context>(&self, alloc: Global, context: &C) -> Result<Matching, AllocError>
+    /// The value of the match by calls: whether the function is true of one of the values of the bag.
+    fn matching_by_calls<C: Context>(
+        &self,
+        alloc: Global,
+        context: &C,
+    ) -> Result<Matching, AllocError>
         ensures { IfOk result (λ m. m ≡ match_value (C.values_of context.now) self.now) }
     {
         match memory_apart(attribute(alloc, context, &self.designator))? {
-            Ok(bag) => self.found_in(alloc, context, bag.values()),
+            Ok(bag) => self.some_match_counted(alloc, context, bag.values()),
             Err(fault) => Ok(Matching::Indeterminate(fault)),
         }
     }
 
-    /// Whether the function is true of one of the values. What it takes to call it for all of them is
-    /// counted before.
-    fn found_in<C: Context>(
+    /// Whether the function is true of one of the values. The units of calls for all of them are taken
+    /// before.
+    fn some_match_counted<C: Context>(
         &self,
         alloc: Global,
         context: &C,
@@ -124,7 +132,7 @@ impl Match {
         ensures { IfOk result (λ m. m ≡ some_match (map (answer self.now) values.now)) }
     {
         context.spend(STEP.saturating_add(self.units_of_asking(values)))?;
-        self.found_true(alloc, values)
+        self.some_match(alloc, values)
     }
 
     /// The units of a call for a copy of each of the values, beside one of the literal.
@@ -139,9 +147,9 @@ impl Match {
             .saturating_add(units_of_calls(self.function, count, arguments))
     }
 
-    /// Whether the function is true of one of the values. The first of which it is settles it.
+    /// Whether the function is true of one of the values. The first of which it is true settles it.
     #[tactic(auto, using(crate::proofs::TargetLemmas::some_match_joined, crate::proofs::TargetLemmas::some_match_single))]
-    fn found_true(&self, alloc: Global, values: &[Value]) -> Result<Matching, AllocError>
+    fn some_match(&self, alloc: Global, values: &[Value]) -> Result<Matching, AllocError>
         requires { OfType self.now.designator.data_type values.now }
         ensures { IfOk result (λ m. m ≡ some_match (map (answer self.now) values.now)) }
     {
@@ -157,7 +165,7 @@ impl Match {
         Ok(so_far)
     }
 
-    /// What the function says of the literal, which is the only argument yet, and the value.
+    /// What the function says of the literal, the only argument so far, and the value.
     fn answer(
         &self,
         alloc: Global,
@@ -176,6 +184,14 @@ impl Match {
     }
 }
 
+/// Whether a function of the signature takes arguments of these two kinds. For the prover: the clause is by
+/// `accepted`, as the definitions are.
+fn takes_both(signature: Signature, first: Kind, second: Kind) -> bool
+    ensures { result ≡ accepted signature (first ∷ second ∷ []) }
+{
+    signature.accepts(&[first, second])
+}
+
 /// Whether the function may stand in a match: it is a function of values that takes the literal and a
 /// value of the type, and gives a boolean.
 fn may_ask(function: FuncId, literal: &Value, data_type: DataType) -> bool
@@ -185,11 +201,4 @@ fn may_ask(function: FuncId, literal: &Value, data_type: DataType) -> bool
     function.is_scalar()
         && takes_both(signature, literal.kind(), Kind::Value(data_type))
         && signature.result_type().is_same(DataType::Boolean)
-}
-
-/// Whether a function of the signature takes arguments of these two kinds.
-fn takes_both(signature: Signature, first: Kind, second: Kind) -> bool
-    ensures { result ≡ accepted signature (first ∷ second ∷ []) }
-{
-    signature.accepts(&[first, second])
 }

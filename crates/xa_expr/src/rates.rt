@@ -1,6 +1,5 @@
-//! What a call of a function of values costs more than a step and its arguments. A unit is to take no
-//! more than some nanosecond and a half wherever it is spent: what was measured to take longer is
-//! charged more (`bench/units` measures all of it).
+//! What a call of a function of values costs beside a step and its arguments. A unit should take at most
+//! 1.6 ns: what was measured to take longer is charged more (`bench/units.py` measures all of it).
 use crate::work::STEP;
 use xa_func::{FuncId, TextFunction, TextPart};
 use xa_value::DataType;
@@ -14,8 +13,20 @@ struct Rate {
     times: u64,
 }
 
-/// What a call of the function costs. A text that a function gives is made, a substring of a list of
-/// characters. A search of a text in a text begins with tables of the first, and may go back at each
+/// The units of printing a value of the type, beside those of the value itself.
+pub fn units_of_printing(data_type: DataType) -> u64 {
+    match data_type {
+        DataType::DateTime | DataType::DayTimeDuration => 6 * STEP,
+        DataType::Time => 4 * STEP,
+        DataType::Date => 3 * STEP,
+        DataType::YearMonthDuration | DataType::HexBinary | DataType::Base64Binary => 2 * STEP,
+        DataType::Boolean | DataType::Integer => STEP,
+        DataType::String | DataType::AnyUri => 0,
+    }
+}
+
+/// What a call of the function costs. A text that a function gives is made; a substring is made of a list
+/// of characters. A search for a text in another begins with tables of the first, and may go back at each
 /// byte.
 fn rate_of(function: FuncId) -> Rate {
     match function {
@@ -43,20 +54,8 @@ fn rate_of(function: FuncId) -> Rate {
     }
 }
 
-/// The units of printing a value of the type, beside those of the value itself.
-pub fn units_of_printing(data_type: DataType) -> u64 {
-    match data_type {
-        DataType::DateTime | DataType::DayTimeDuration => 6 * STEP,
-        DataType::Time => 4 * STEP,
-        DataType::Date => 3 * STEP,
-        DataType::YearMonthDuration | DataType::HexBinary | DataType::Base64Binary => 2 * STEP,
-        DataType::Boolean | DataType::Integer => STEP,
-        DataType::String | DataType::AnyUri => 0,
-    }
-}
-
-/// The units of so many calls of the function, beside a step for each, whose arguments have these units
-/// together.
+/// The units of this many calls of the function, beside a step for each. Their arguments together have
+/// these units.
 pub(crate) fn units_of_calls(function: FuncId, count: u64, arguments: u64) -> u64 {
     let rate = rate_of(function);
     rate.call

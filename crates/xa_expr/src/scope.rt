@@ -44,9 +44,8 @@ impl<'a, C: Context> Scope<'a, C> {
     }
 }
 
-/// What the designator gives (core, section 7.3.5): its bag, or a fault where that is empty and must not
-/// be. It takes a step and the bag's units; the context counts by itself what it looks at before the bag
-/// is there.
+/// What the designator gives (core, section 7.3.5): its bag, or a fault if that is empty and must not be.
+/// It takes a step and the bag's units. The context itself counts what it looks at before the bag is there.
 pub(crate) fn attribute<C: Context>(
     alloc: Global,
     context: &C,

@@ -26,7 +26,7 @@ pub struct AnyOf {
     pub all_of: Items<AllOf>,
 }
 
-/// To what a policy or a rule applies (core, section 5.6). An empty target matches everything.
+/// A target (core, section 5.6): to what a policy or a rule applies. An empty one matches everything.
 #[derive(Debug, Drop)]
 pub struct Target {
     /// The conditions, in order; without one it matches everything.

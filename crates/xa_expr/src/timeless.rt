@@ -1,4 +1,4 @@
-//! Whether the clock is asked for the time by the designators that stand in something.
+//! Whether the designators that stand in something ask the clock for the time.
 ghost use Rattle.std.specs.Prelude.{◌≡◌, List, map, flat_map};
 ghost use Rattle.xa_expr.specs.declared.designator.Designator.{Designator};
 ghost use Rattle.xa_expr.specs.Designators.{designators, designators_of_all_of, designators_of_any_of};
@@ -22,19 +22,6 @@ pub trait HasDesignators {
         ensures { result ≡ is_timeless (designators_in self.now) };
 }
 
-/// Whether no designator in any of the parts names the clock.
-#[tactic(auto, using(crate::proofs::TimelessLemmas::timeless_both))]
-pub fn all_timeless<T: HasDesignators>(parts: &[T]) -> bool
-    ensures { result ≡ is_timeless (flat_map T.designators_in parts.now) }
-{
-    for part in parts {
-        if !part.is_timeless() {
-            return false;
-        }
-    }
-    true
-}
-
 impl Designator {
     /// Whether the clock gives the attribute (core, appendix B.7), whatever the issuer and the type.
     #[tactic(auto, unfolding(crate::specs::Timeless::names_the_clock))]
@@ -46,63 +33,12 @@ impl Designator {
     }
 }
 
-/// Whether the clock gives the environment's attribute of that id.
-#[tactic(auto, unfolding(crate::specs::Timeless::is_some_clock_id))]
-fn is_some_clock_id(id: &str) -> bool
-    ensures { result ≡ is_some_clock_id id.now }
-{
-    is_clock_id(DataType::Time, id)
-        || is_clock_id(DataType::Date, id)
-        || is_clock_id(DataType::DateTime, id)
-}
-
-/// Whether the id is that of the environment's attribute that the clock gives as a value of the type
-/// (core, appendix B.7).
-#[tactic(auto, unfolding(crate::specs::Timeless::is_clock_id))]
-pub fn is_clock_id(data_type: DataType, id: &str) -> bool
-    ensures { result ≡ is_clock_id data_type id.now }
-{
-    match data_type {
-        DataType::Time => id == "urn:oasis:names:tc:xacml:1.0:environment:current-time",
-        DataType::Date => id == "urn:oasis:names:tc:xacml:1.0:environment:current-date",
-        DataType::DateTime => id == "urn:oasis:names:tc:xacml:1.0:environment:current-dateTime",
-        _ => false,
-    }
-}
-
 impl HasDesignators for Typed {
     ghost designators_in = { designators };
 
     fn is_timeless(&self) -> bool {
         expression_is_timeless(self)
     }
-}
-
-/// Whether no designator in the expression names the clock. Those of its variables stand in their
-/// definitions.
-#[cycle(timeless)]
-fn expression_is_timeless(expression: &Typed) -> bool
-    ensures { result ≡ is_timeless (designators expression.now) }
-{
-    match expression {
-        Typed::Literal(_) | Typed::Variable(_, _) => true,
-        Typed::Attribute(designator) => !designator.names_the_clock(),
-        Typed::Apply(_, arguments) => expressions_are_timeless(arguments.as_slice()),
-        Typed::HigherOrder(_, _, arguments) => expressions_are_timeless(arguments.as_slice()),
-    }
-}
-
-/// Whether no designator in the expressions names the clock.
-#[cycle(timeless)]
-fn expressions_are_timeless(expressions: &[Typed]) -> bool
-    ensures { result ≡ is_timeless (flat_map (λ ds. ds) (map designators expressions.now)) }
-{
-    for expression in expressions {
-        if !expression_is_timeless(expression) {
-            return false;
-        }
-    }
-    true
 }
 
 impl HasDesignators for Definition {
@@ -143,4 +79,68 @@ impl HasDesignators for Target {
     fn is_timeless(&self) -> bool {
         all_timeless(self.any_of.as_slice())
     }
+}
+
+/// Whether no designator in any of the parts names the clock.
+#[tactic(auto, using(crate::proofs::TimelessLemmas::timeless_both))]
+pub fn all_timeless<T: HasDesignators>(parts: &[T]) -> bool
+    ensures { result ≡ is_timeless (flat_map T.designators_in parts.now) }
+{
+    for part in parts {
+        if !part.is_timeless() {
+            return false;
+        }
+    }
+    true
+}
+
+/// Whether the id is that of the environment's attribute that the clock gives as a value of the type
+/// (core, appendix B.7).
+#[tactic(auto, unfolding(crate::specs::Timeless::is_clock_id))]
+pub fn is_clock_id(data_type: DataType, id: &str) -> bool
+    ensures { result ≡ is_clock_id data_type id.now }
+{
+    match data_type {
+        DataType::Time => id == "urn:oasis:names:tc:xacml:1.0:environment:current-time",
+        DataType::Date => id == "urn:oasis:names:tc:xacml:1.0:environment:current-date",
+        DataType::DateTime => id == "urn:oasis:names:tc:xacml:1.0:environment:current-dateTime",
+        _ => false,
+    }
+}
+
+/// Whether the clock gives the environment's attribute of that id.
+#[tactic(auto, unfolding(crate::specs::Timeless::is_some_clock_id))]
+fn is_some_clock_id(id: &str) -> bool
+    ensures { result ≡ is_some_clock_id id.now }
+{
+    is_clock_id(DataType::Time, id)
+        || is_clock_id(DataType::Date, id)
+        || is_clock_id(DataType::DateTime, id)
+}
+
+/// Whether no designator in the expression names the clock. Those of its variables stand in their
+/// definitions.
+#[cycle(timeless)]
+fn expression_is_timeless(expression: &Typed) -> bool
+    ensures { result ≡ is_timeless (designators expression.now) }
+{
+    match expression {
+        Typed::Literal(_) | Typed::Variable(_, _) => true,
+        Typed::Attribute(designator) => !designator.names_the_clock(),
+        Typed::Apply(_, arguments) => expressions_are_timeless(arguments.as_slice()),
+        Typed::HigherOrder(_, _, arguments) => expressions_are_timeless(arguments.as_slice()),
+    }
+}
+
+/// Whether no designator in the expressions names the clock.
+#[cycle(timeless)]
+fn expressions_are_timeless(expressions: &[Typed]) -> bool
+    ensures { result ≡ is_timeless (flat_map (λ ds. ds) (map designators expressions.now)) }
+{
+    for expression in expressions {
+        if !expression_is_timeless(expression) {
+            return false;
+        }
+    }
+    true
 }

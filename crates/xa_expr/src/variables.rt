@@ -25,7 +25,8 @@ pub struct Definition {
     pub expression: Typed,
 }
 
-/// The variables of a policy: definitions in order, each of which may name those before it.
+/// The variables of a policy (core, section 5.23): definitions in order, each of which may name those
+/// before it.
 #[derive(Debug, Drop)]
 pub struct Variables {
     /// The definitions, in order.
@@ -85,9 +86,9 @@ impl Variables {
         Ok(Typed::Variable(*place, kind))
     }
 
-    /// Checks the expression under the variables so far, and puts its definition behind them. Where a
-    /// variable of the name is there already, the answer is false, whatever the expression. Where the
-    /// expression has a fault, the error is that of `check`. In both cases nothing changes.
+    /// Checks the expression under the variables so far, and puts its definition behind them. If a variable
+    /// of the name is there already, the answer is false, whatever the expression. If the expression has a
+    /// fault, the error is that of `check`. In both cases nothing changes.
     pub fn define(
         &mut self,
         alloc: Global,
@@ -107,7 +108,7 @@ impl Variables {
         Ok(true)
     }
 
-    /// Puts a definition at the end, whose name no other has. Without memory nothing changes.
+    /// Puts a definition, whose name no other has, at the end. Without memory nothing changes.
     fn put(&mut self, name: Text, expression: Typed) -> Result<(), AllocError>
         requires other { is_defined self.old name ≡ false }
         requires typed { IsTyped (kinds self.old) expression }

@@ -1,7 +1,7 @@
 //! How much work one message may ask for. One thread answers every domain, and the tenants write the
-//! policies and the requests: work is counted where it is done, and a message that asks for too much is
-//! left, so that the others are not kept waiting. Work is counted and not timed: the same message on the
-//! same state is left, or is not, on every machine.
+//! policies and the requests. So that others aren't kept waiting, work is counted where it is done, and a
+//! message that asks for too much is refused. Work is counted and not timed: the same message on the same
+//! state is refused on every machine, or on none.
 use std::alloc::AllocError;
 use std::cell::Cell;
 use xa_bag::{Bag, ValueOrBag};
@@ -12,29 +12,28 @@ use xa_value::{DataType, Value};
 /// an obligation.
 pub const STEP: u64 = 32;
 
-/// The units of a call of an inner function, for which a list of copies of its arguments is made.
+/// The units of a call of an inner function, beside those of its arguments, which are copied for it.
 pub(crate) const CALL: u64 = 2 * STEP;
 
 /// The units of the list that is made of a call's arguments.
 pub(crate) const LIST: u64 = STEP / 2;
 
-/// The units of a look at something that costs less than a step: a value that is compared where it is,
-/// or a part of a target or of an expression that is passed on the way to others; and those that a call
-/// of a function of booleans takes beside a step.
+/// The units of a look, which costs less than a step: at a value that is compared where it is, or at a part
+/// of a target or of an expression that is passed on the way to others. A call of a function of booleans
+/// takes them beside a step.
 pub const LOOK: u64 = STEP / 4;
 
 /// The units of a value that is made, copied or compared, beside the bytes of its text. A literal takes
 /// them once more.
 pub(crate) const VALUE: u64 = 16;
 
-/// With how many values of a bag one that is searched for is compared at most: from that many on, which is
-/// `ORDERED_FROM` of `xa_bag`, they are ordered, and then it is compared with as many as the logarithm of
-/// their number.
+/// How often the units of the arguments are taken at most. From this many values and searches on
+/// (`ORDERED_FROM` of `xa_bag`) the values are ordered, and a search takes the logarithm of their number.
 const MOST_COMPARISONS: u64 = 32;
 
-/// What is left of the work that a message may ask for, in units: a byte of text or of a value that is
-/// made, copied or compared. No clause speaks of it: a message that asks for too much is answered like
-/// one for which memory is wanting.
+/// What is left of the work that a message may ask for, in units. A unit is a byte of text or of a value
+/// that is made, copied or compared. No clause speaks of it: a message that asks for too much is refused
+/// like one for which memory is wanting.
 #[derive(Drop)]
 pub struct Budget {
     /// The units that may still be spent.
@@ -49,8 +48,8 @@ impl Budget {
         }
     }
 
-    /// Takes the units from what is left. Where they are more than that, the error is `AllocError`, and
-    /// nothing is left afterwards, so that no smaller work is done after one that was refused.
+    /// Takes the units from what is left. If they are more than that, the error is `AllocError`, and nothing
+    /// is left afterwards: no smaller work is done after one that was refused.
     pub fn spend(&self, units: u64) -> Result<(), AllocError> {
         match self.left.get().checked_sub(units) {
             Some(left) => {
@@ -96,7 +95,7 @@ pub fn is_of_one_size(data_type: DataType) -> bool {
     )
 }
 
-/// The units of the bag's values. Where these are of one size, nobody looks at them.
+/// The units of the bag's values. If they are of one size, they aren't looked at.
 pub fn units_of_bag(bag: &Bag) -> u64 {
     if is_of_one_size(bag.data_type()) {
         return VALUE.saturating_mul(bag.len() as u64);
@@ -125,13 +124,31 @@ fn units_of_arguments(arguments: &[ValueOrBag]) -> u64 {
     )
 }
 
-/// The units of what a bag function does with its arguments. The set functions search for the values of
-/// one bag in another.
-pub(crate) fn units_of_bag_function(function: BagFunction, arguments: &[ValueOrBag]) -> u64 {
-    units_of_arguments(arguments).saturating_mul(comparisons_in(function, arguments))
+/// How often the units of the arguments are taken if each value is searched for among so many: at least
+/// once.
+fn comparisons_among(count: usize) -> u64 {
+    (count as u64).max(1).min(MOST_COMPARISONS)
 }
 
-/// With how many others each value is compared at most.
+/// How often the units of the arguments are taken if the values of one of two bags are searched for in the
+/// other. It goes by the length of the shorter one.
+fn comparisons_of_both(arguments: &[ValueOrBag]) -> u64 {
+    match arguments {
+        [first, second] => comparisons_among(first.values().len().min(second.values().len())),
+        _ => 1,
+    }
+}
+
+/// How often the units of the arguments are taken if each value is searched for among all.
+fn comparisons_of_all(arguments: &[ValueOrBag]) -> u64 {
+    let count = arguments.iter().fold(
+        0usize,
+        |count, argument| count.saturating_add(argument.values().len()),
+    );
+    comparisons_among(count)
+}
+
+/// How often the units of the arguments are taken by a bag function.
 fn comparisons_in(function: BagFunction, arguments: &[ValueOrBag]) -> u64 {
     match function {
         BagFunction::Intersection
@@ -143,31 +160,14 @@ fn comparisons_in(function: BagFunction, arguments: &[ValueOrBag]) -> u64 {
     }
 }
 
-/// With how many of so many values one that is searched for is compared at most.
-fn comparisons_among(count: usize) -> u64 {
-    (count as u64).max(1).min(MOST_COMPARISONS)
-}
-
-/// With how many others each value is compared at most where the values of one of two bags are searched
-/// for in the other: with those of the shorter one.
-fn comparisons_of_both(arguments: &[ValueOrBag]) -> u64 {
-    match arguments {
-        [first, second] => comparisons_among(first.values().len().min(second.values().len())),
-        _ => 1,
-    }
-}
-
-/// With how many others each value is compared at most where each is searched for among all.
-fn comparisons_of_all(arguments: &[ValueOrBag]) -> u64 {
-    let count = arguments.iter().fold(
-        0usize,
-        |count, argument| count.saturating_add(argument.values().len()),
-    );
-    comparisons_among(count)
+/// The units of what a bag function does with its arguments. The set functions search for the values of
+/// one bag in another.
+pub(crate) fn units_of_bag_function(function: BagFunction, arguments: &[ValueOrBag]) -> u64 {
+    units_of_arguments(arguments).saturating_mul(comparisons_in(function, arguments))
 }
 
 /// The units of what a higher-order function does beside the calls of its inner function, which are
-/// counted one by one: by equality any-of-any and all-of-any search; else each value of the arguments is
+/// counted one by one. By equality, any-of-any and all-of-any search; else the units of the arguments are
 /// taken once.
 pub(crate) fn units_of_higher_order(
     function: HigherOrder,

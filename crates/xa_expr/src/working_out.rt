@@ -16,7 +16,18 @@ use std::alloc::{AllocError, Global};
 use xa_bag::ValueOrBag;
 use xa_value::memory_apart;
 
-/// The place of the last variable that the expression names. Its cost is the expression's size, and
+/// The later of two places.
+fn later(first: Option<usize>, second: Option<usize>) -> Option<usize>
+    ensures { up_to result ≡ max (up_to first) (up_to second) }
+{
+    match (first, second) {
+        (Some(first), Some(second)) => Some(first.max(second)),
+        (None, _) => second,
+        (_, None) => first,
+    }
+}
+
+/// The place of the last variable that the expression names. The cost grows with the expression and is
 /// counted: more may be looked at here than is evaluated afterwards.
 #[cycle(last_variable)]
 pub(crate) fn last_variable<C: Context>(
@@ -46,19 +57,8 @@ fn last_of_all<C: Context>(context: &C, expressions: &[Typed]) -> Result<Option<
     Ok(last)
 }
 
-/// The later of two places.
-fn later(first: Option<usize>, second: Option<usize>) -> Option<usize>
-    ensures { up_to result ≡ max (up_to first) (up_to second) }
-{
-    match (first, second) {
-        (Some(first), Some(second)) => Some(first.max(second)),
-        (None, _) => second,
-        (_, None) => first,
-    }
-}
-
-/// What the first variable without a result comes to. It takes a step, beside that of its expression,
-/// before anything is done.
+/// What the first variable without a result comes to. Before anything is done, it takes a step, beside that
+/// of its expression.
 fn next_outcome<C: Context>(
     alloc: Global,
     context: &C,
@@ -81,8 +81,8 @@ fn next_outcome<C: Context>(
     memory_apart(evaluate(alloc, &scope, &definitions[place].expression))
 }
 
-/// What an expression gave, the values of a bag of many lent from now on: what names the variable takes
-/// no time to copy them.
+/// What an expression gave. The values of a large bag are lent from now on, so that whatever names the
+/// variable copies none of them.
 fn lent(given: ValueOrBag) -> Result<ValueOrBag, AllocError>
     ensures { IfOk result (λ lent. lent ≡ given) }
 {
@@ -102,7 +102,7 @@ fn lent_outcome(outcome: Result<ValueOrBag, Fault>) -> Result<Result<ValueOrBag,
     }
 }
 
-/// Works out the variables up to that at the place. Without memory, what was worked out stays.
+/// Works out the variables up to the one at the place. Without memory, what was worked out stays.
 pub(crate) fn work_out<C: Context>(
     alloc: Global,
     context: &C,

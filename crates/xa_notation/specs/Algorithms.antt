@@ -5,7 +5,7 @@ use Rattle.xa_policy.specs.declared.combining.Alg.TheVariants.{DenyOverrides, Pe
 use Rattle.xa_policy.specs.declared.combining.Alg.TheVariants.{OrderedPermitOverrides, DenyUnlessPermit}
 use Rattle.xa_policy.specs.declared.combining.Alg.TheVariants.{PermitUnlessDeny, FirstApplicable, OnlyOneApplicable}
 
--- the algorithm's name in a policy, where it may stand there
+-- the algorithm's name in a policy, if it may stand there
 unfoldable pub rule_uri_of : Alg → Option (List ℕ)
 rule_uri_of DenyOverrides = Some (codes "urn:oasis:names:tc:xacml:3.0:rule-combining-algorithm:deny-overrides")
 rule_uri_of PermitOverrides = Some (codes "urn:oasis:names:tc:xacml:3.0:rule-combining-algorithm:permit-overrides")
@@ -37,7 +37,7 @@ all_algorithms =
     DenyOverrides ∷ PermitOverrides ∷ OrderedDenyOverrides ∷ OrderedPermitOverrides ∷ DenyUnlessPermit
     ∷ PermitUnlessDeny ∷ FirstApplicable ∷ OnlyOneApplicable ∷ []
 
--- the text is the name, where there is one
+-- the text is the name, if there is one
 abbrev pub is_name : List ℕ → Option (List ℕ) → Bool
 is_name text None = false
 is_name text (Some uri) = bytes_eq text uri

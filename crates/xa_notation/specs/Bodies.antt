@@ -71,7 +71,7 @@ chosen_root d = do
   inner ← needed_member name d
   root_named name inner
 
--- the root, and none where the object has no members
+-- the root, and none if the object has no members
 unfoldable pub root : Data → Result (Option Reference) NotationError
 root d = do
   size ← size_of d

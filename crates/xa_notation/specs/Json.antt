@@ -22,7 +22,7 @@ use Rattle.xa_notation.specs.Tables.{name_of, member_of, members_of, alternative
 unfoldable pub json : List ℕ → Result Data NotationError
 json text = if is_utf8 text then ok_or (read text) NotJson else Err NotJson
 
--- the member, where it is an object and has it
+-- the member, if it is an object and has it
 abbrev pub at : Member → Data → Option Data
 at name d = get (name_of name) d
 
@@ -43,7 +43,7 @@ has_only entries (member name d ms) = is_named entries name && has_only entries 
 abbrev pub knows : List Entry → Data → Result (Unit {0}) NotationError
 knows entries d = ok_or (as_object d) BadValue >>= (λ ms. if has_only entries ms then Ok tt else Err UnknownMember)
 
--- a member is there, where it has to be
+-- a member is there, if it has to be
 abbrev pub has_entry : Entry → Data → Result (Unit {0}) NotationError
 has_entry (Required name) d = needed_member name d >>= (λ _. Ok tt)
 has_entry (Optional name) d = Ok tt

@@ -80,7 +80,7 @@ expression_of below d = do
   inner ← needed_member name d
   expression_named below name inner
 
--- an expression in which at most this many stand inside one another, it being one of them
+-- an expression in which at most this many stand inside one another, itself included
 unfoldable pub expression_within : ℕ → Data → Result Expr NotationError
 expression_within zero d = Err NotJson
 expression_within (suc depth) d = expression_of (expression_within depth) d
@@ -280,7 +280,7 @@ written_child set d = do
 abbrev pub too_deep : Data → NotationError
 too_deep d = if is_some (as_object d) then TooLarge else BadValue
 
--- a policy set in which at most this many stand inside one another, it being one of them
+-- a policy set in which at most this many stand inside one another, itself included
 unfoldable pub written_set_within : ℕ → Data → Result WrittenSetWithChildren NotationError
 written_set_within zero d = Err (too_deep d)
 written_set_within (suc depth) d = written_set_of (written_child (written_set_within depth)) d

@@ -1,7 +1,7 @@
 -- The notation's tables: the names of members, and which of them each object has. Members of documents are named as
 -- in the XML schema of XACML 3.0 (core, section 5); `Children` is this project's name for the ordered content of a
--- policy set. So are the names of the members of the bodies that administer a domain, where that schema has none:
--- `Role`, `Token`, `Row` and `Entity`.
+-- policy set. So are, in the bodies that administer a domain, the names that the schema lacks: `Role`, `Token`, `Row`
+-- and `Entity`.
 use Rattle.std.specs.Prelude.{ℕ, List, [], ◌∷◌, codes}
 use Rattle.xa_notation.specs.declared.member.Member.{Member}
 use Rattle.xa_notation.specs.declared.member.Member.TheVariants as member

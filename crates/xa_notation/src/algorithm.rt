@@ -17,7 +17,7 @@ const ALGORITHMS: [Alg; 8] = [
     Alg::OnlyOneApplicable,
 ];
 
-/// The algorithm's name in a policy (XACML 3.0, core, appendix C), where it may stand there.
+/// The algorithm's name in a policy (XACML 3.0, core, appendix C), if it may stand there.
 #[tactic(auto, unfolding(crate::specs::Algorithms::rule_uri_of))]
 fn rule_uri(algorithm: Alg) -> Option<&'static str>
     ensures { option_map (λ uri. uri.now) result ≡ rule_uri_of algorithm }

@@ -16,7 +16,7 @@ use std::alloc::Global;
 use xa_expr::Designator;
 use xa_value::{DataType, OrMemory, Plain, TextRef, Value, map_error};
 
-/// The whole number, where the value is one.
+/// The whole number, if the value is one.
 fn whole_number(value: &Json) -> Option<i128>
     ensures { result ≡ option_and_then as_integer (as_number (view value.now)) }
 {

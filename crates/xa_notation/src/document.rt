@@ -93,7 +93,7 @@ impl Parsed {
     }
 }
 
-/// The document as the text writes it, of which no JSON is left.
+/// The document as the text writes it. Its JSON isn't kept.
 fn document_as_written(
     alloc: Global,
     text: &[u8],

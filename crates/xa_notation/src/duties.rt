@@ -48,17 +48,6 @@ impl Reader for AssignmentReader {
     }
 }
 
-/// The attributes that an obligation or a piece of advice carries.
-fn written_assignments(
-    alloc: Global,
-    value: &Json,
-) -> Result<Items<AttributeAssignmentExpression<Expr>>, OrMemory<NotationError>>
-    ensures { Gives result (written_assignments (view value.now)) }
-{
-    let values = items_if_any(member_at(value, Member::AttributeAssignmentExpression))?;
-    each(alloc, &AssignmentReader, values)
-}
-
 /// Reads an obligation or a piece of advice (core, sections 5.39 and 5.40).
 #[derive(Drop)]
 struct DutyReader {
@@ -106,6 +95,17 @@ const ADVICE: DutyReader = DutyReader {
     id: Member::AdviceId,
     effect: Member::AppliesTo,
 };
+
+/// The attributes that an obligation or a piece of advice carries.
+fn written_assignments(
+    alloc: Global,
+    value: &Json,
+) -> Result<Items<AttributeAssignmentExpression<Expr>>, OrMemory<NotationError>>
+    ensures { Gives result (written_assignments (view value.now)) }
+{
+    let values = items_if_any(member_at(value, Member::AttributeAssignmentExpression))?;
+    each(alloc, &AssignmentReader, values)
+}
 
 /// The obligations and the advice of a rule, a policy or a policy set (core, sections 5.37 and 5.38).
 #[tactic(auto, unfolding(crate::specs::Shape::written_duties))]

@@ -103,8 +103,8 @@ fn expression_of(alloc: Global, value: &Json, depth: usize) -> Result<Expr, OrMe
     expression_named(alloc, name, needed_member(value, name)?, depth)
 }
 
-/// An expression in which at most `depth` stand inside one another, it being one of them. The fault of one
-/// too deep is NotJson: JSON that nests more than 127 deep was refused as that before.
+/// An expression in which at most `depth` stand inside one another, itself included. The fault of one that
+/// is too deep is NotJson: JSON that nests more than 127 deep was refused as that before.
 #[cycle(expressions)]
 #[tactic(auto, unfolding(crate::specs::Shape::expression_within))]
 fn expression_within(

@@ -20,6 +20,19 @@ use serde_json::{Map, Value as Json};
 use std::alloc::Global;
 use xa_value::{Items, OrMemory, Text};
 
+/// What is read from one value.
+pub trait Reader {
+    /// What it is.
+    type Output;
+
+    /// What the value stands for.
+    ghost reads: { Self → Data → Result Self.Output ReadFault };
+
+    /// What the value stands for, or its first fault.
+    fn read(&self, alloc: Global, value: &Json) -> Result<Self::Output, OrMemory<NotationError>>
+        ensures { Gives result (reads self.now (view value.now)) };
+}
+
 /// The JSON that a text is (RFC 8259); the fault is NotJson. Of several members of one name the last one
 /// counts.
 #[tactic(auto, unfolding(crate::specs::Json::json))]
@@ -33,7 +46,7 @@ pub fn json(alloc: Global, text: &[u8]) -> Result<Json, OrMemory<NotationError>>
     }
 }
 
-/// The member, where it is there.
+/// The member, if it is there.
 pub fn member_at(value: &Json, name: Member) -> Option<&Json>
     ensures { option_map (λ v. view v.now) result ≡ at name (view value.now) }
 {
@@ -154,7 +167,7 @@ pub(crate) fn member_count(value: &Json) -> Result<usize, NotationError>
 }
 
 /// The one of the alternatives that is there, of an object of one member. The faults are BadValue of what
-/// is no object, MissingMember of the first alternative where there is no member, and UnknownMember.
+/// is no object, MissingMember of the first alternative if there is no member, and UnknownMember.
 #[tactic(auto, unfolding(crate::specs::Json::chosen_member))]
 pub(crate) fn chosen_member(value: &Json, choice: Choice) -> Result<Member, NotationError>
     ensures { result ≡ chosen_member choice (view value.now) }
@@ -231,20 +244,8 @@ pub(crate) fn not_empty(items: &[Json]) -> Result<&[Json], NotationError>
     Ok(items)
 }
 
-/// What is read from one value.
-pub trait Reader {
-    /// What it is.
-    type Output;
-
-    /// What the value stands for.
-    ghost reads: { Self → Data → Result Self.Output ReadFault };
-
-    /// What the value stands for, or its first fault.
-    fn read(&self, alloc: Global, value: &Json) -> Result<Self::Output, OrMemory<NotationError>>
-        ensures { Gives result (reads self.now (view value.now)) };
-}
-
-/// Each of the values, read in order, behind the items.
+/// Each of the values, read in order, behind the items. `each` gives none: they are a parameter for the
+/// prover, since what the loop keeps is this clause of the items so far.
 fn each_behind<R: Reader>(
     alloc: Global,
     mut items: Items<R::Output>,

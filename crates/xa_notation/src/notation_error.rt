@@ -12,12 +12,12 @@ use xa_value::OrMemory;
 #[derive(Clone, Copy, Debug, PartialEq, Eq, Error)]
 pub enum NotationError {
     /// The text is not JSON.
-    #[error("the document is not JSON")]
+    #[error("the text is not JSON")]
     NotJson,
     /// An object lacks a member that it has to have.
     #[error("the member {0} is missing")]
     MissingMember(Member),
-    /// An object has a member that it cannot have, or a second one where it has exactly one.
+    /// An object has a member that it cannot have, or a second one if it may have only one.
     #[error("a member is unknown")]
     UnknownMember,
     /// A member has a value that it cannot have.

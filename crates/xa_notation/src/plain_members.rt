@@ -103,7 +103,7 @@ pub fn data_type(value: &Json) -> Result<DataType, NotationError>
     DataType::from_uri(text(value)?).ok_or(NotationError::BadValue)
 }
 
-/// A copy of the URI of a category, of which the value is the shorthand or any text; the fault is BadValue.
+/// A copy of the URI of a category. The value is its shorthand, or any text; the fault is BadValue.
 pub fn category(alloc: Global, value: &Json) -> Result<Text, OrMemory<NotationError>>
     ensures { Gives result (category (view value.now)) }
 {

@@ -124,7 +124,7 @@ fn too_deep(value: &Json) -> NotationError
     }
 }
 
-/// A policy set in which at most `depth` stand inside one another, it being one of them.
+/// A policy set in which at most `depth` stand inside one another, itself included.
 #[cycle(sets)]
 #[tactic(auto, unfolding(crate::specs::Shape::written_set_within))]
 pub(crate) fn written_set_within(

@@ -194,7 +194,7 @@ pub(crate) enum Choice {
     Child,
     /// An expression (core, section 5.25).
     Expression,
-    /// The root of a domain's policies, where there is one.
+    /// The root of a domain's policies, if there is one.
     Root,
 }
 
@@ -223,7 +223,7 @@ impl Choice {
         }
     }
 
-    /// The first of them, which is named where none is there.
+    /// The first of them, which is named if none is there.
     #[tactic(auto, unfolding(crate::specs::Tables::alternatives_of, crate::specs::Tables::first_of))]
     pub(crate) fn first(self) -> Member
         ensures value { result ≡ first_of self }

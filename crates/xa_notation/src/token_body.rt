@@ -73,10 +73,9 @@ fn old_token(alloc: Global, value: &Json) -> Result<Text, OrMemory<NotationError
     token(alloc, needed_member(value, Member::Token)?)
 }
 
-/// The token that a body gives to a domain, `{"Role":"ask","Token":".."}`, where the role is `ask` or
-/// `admin` and the token has 8 to 64 visible ASCII characters; or its first fault: NotJson, then
-/// UnknownMember, then MissingMember, then BadValue of the role and of the token. A body that is no
-/// object is a BadValue.
+/// The token that a body gives to a domain, `{"Role":"ask","Token":".."}`, or its first fault: NotJson, then
+/// UnknownMember, then MissingMember, then BadValue of the role and of the token. The role is `ask` or
+/// `admin`, and the token has 8 to 64 visible ASCII characters. A body that is no object is a BadValue.
 #[tactic(auto, unfolding(crate::specs::Bodies::new_token_of))]
 pub fn read_new_token(alloc: Global, body: &[u8]) -> Result<NewToken, OrMemory<NotationError>>
     ensures { Gives result (new_token_of body.now) }

@@ -22,7 +22,7 @@ use xa_value::{Items, OrMemory, Text};
 struct Definitions {
     /// The definitions, in order.
     variables: Vec<WrittenVariable>,
-    /// Their names, among which one is found without a look at each.
+    /// Their names, in an order by which one is found without a look at each.
     names: BTreeSet<Text>,
 }
 
@@ -75,7 +75,7 @@ impl Definitions {
         Ok(name)
     }
 
-    /// Puts a definition at the end, whose name no other has. Without memory nothing changes.
+    /// Puts a definition, whose name no other has, at the end. Without memory nothing changes.
     fn push(&mut self, variable: WrittenVariable) -> Result<(), AllocError>
         requires { is_taken self.old variable.name ≡ false }
         ensures ok { OnOk result (self.new ≡ self.old ++ variable ∷ []) }

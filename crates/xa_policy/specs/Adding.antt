@@ -26,11 +26,11 @@ with_rules p rules =
       duties = p.duties;
     }
 
--- the policy with a rule behind those that it has, where the rule passes
+-- the policy with a rule behind those that it has, if the rule passes
 abbrev pub rule_added : PolicyParts → Rule Expr → Result PolicyParts CheckError
 rule_added p rule = checked_rule p.variables rule >>= (λ r. Ok (with_rules p (r ∷ [])))
 
--- the policy with these obligations and this advice in place of its own, where they pass
+-- the policy with these obligations and this advice in place of its own, if they pass
 abbrev pub with_duties : PolicyParts → DutyExpressions Typed → PolicyParts
 with_duties p duties =
     record {

@@ -80,8 +80,8 @@ applies child = is_match child.target
 abbrev pub may_apply : Child → Bool
 may_apply child = target.is_indeterminate child.target
 
--- of the decisions of the applicable children: the only one (C.9), and {DP} where there are more (C.1). That the only
--- one stays {P} or {D} where it is that, which C.1 by itself would make {DP}, is this project's choice.
+-- of the decisions of the applicable children: the only one (C.9), and {DP} if there are more (C.1). That the only
+-- one stays {P} or {D} if it is that, which C.1 by itself would make {DP}, is this project's choice.
 abbrev pub the_only_one : List Decision → Decision
 the_only_one [] = NotApplicable
 the_only_one (decision ∷ []) = decision

@@ -31,7 +31,7 @@ abbrev pub and_then : DutyLists → DutyLists → DutyLists
 and_then first second =
     record { obligations = first.obligations ++ second.obligations; advice = first.advice ++ second.advice }
 
--- the effect of a decision, where it is a Permit or a Deny
+-- the effect of a decision, if it is a Permit or a Deny
 abbrev pub effect_of : Decision → Option Effect
 effect_of decision.Permit = Some Permit
 effect_of decision.Deny = Some Deny

@@ -51,7 +51,7 @@ ends DenyUnlessPermit d = is Permit d
 ends FirstApplicable d = not (is NotApplicable d)
 ends OnlyOneApplicable d = false
 
--- the one, where there is one alone
+-- the one, if there is one alone
 abbrev pub only : {X : Type 0} → List X → List X
 only (x ∷ []) = x ∷ []
 only _ = []
@@ -93,7 +93,7 @@ with_decision algorithm children d =
 unfoldable pub combination : Alg → List EvaluatedChild → Verdict
 combination algorithm children = with_decision algorithm children (combined_decision algorithm (map child_of children))
 
--- what is decided where the target is Indeterminate (7.14)
+-- what is decided if the target is Indeterminate (7.14)
 abbrev pub under_indeterminate : Status → Decision → Verdict
 under_indeterminate s NotApplicable = not_applicable
 under_indeterminate s Permit = without_duties IndeterminatePermit s
@@ -181,7 +181,7 @@ without_ids v = with_ids [] v
 abbrev pub evaluation : Attributes → Linked → Evaluated
 evaluation values_of linked = with_ids (element values_of linked).ids (verdict values_of linked)
 
--- what is answered of it: the policies and policy sets where they are asked for (5.42)
+-- what is answered of it: the policies and policy sets if they are asked for (5.42)
 abbrev pub as_asked : Bool → Evaluated → Evaluated
 as_asked true e = e
 as_asked false e = record { decision = e.decision; status = e.status; duties = e.duties; ids = [] }

@@ -40,7 +40,7 @@ abbrev pub condition_value : (Typed → Outcome) → Option Typed → Result Boo
 condition_value value_of None = Ok true
 condition_value value_of (Some e) = place (value_of e)
 
--- what a rule of this effect decides, by its condition, where its target matches
+-- what a rule of this effect decides, by its condition, if its target matches
 abbrev pub by_condition : Effect → Result Bool Fault → Verdict
 by_condition effect (Ok true) = without_duties (decision_with effect) status.Ok
 by_condition effect (Ok false) = not_applicable

@@ -20,7 +20,7 @@ pub record EvaluatedChild : Type 0 where
 abbrev pub fault_of : EvaluatedChild → Option Status
 fault_of child = if is_indeterminate child.value.decision then Some child.value.status else None
 
--- the status of the first fault among the children's; `ok` where there is none
+-- the status of the first fault among the children's; `ok` if there is none
 abbrev pub first_fault : List (Option Status) → Status
 first_fault [] = Ok
 first_fault (fault ∷ faults) = unwrap_or fault (first_fault faults)
@@ -36,7 +36,7 @@ end_of (Match ∷ Match ∷ _) = Some ProcessingError
 end_of (Match ∷ Indeterminate fault ∷ _) = Some (expr.status_of fault)
 end_of _ = None
 
--- the status of the one applicable child; `ok` where there is none
+-- the status of the one applicable child; `ok` if there is none
 abbrev pub status_of_one : List EvaluatedChild → Status
 status_of_one [] = Ok
 status_of_one (child ∷ _) = child.value.status

@@ -35,11 +35,11 @@ abbrev pub of_none : Alg → Combination
 of_none algorithm =
     record { algorithm = algorithm; decision = decision_of_none algorithm; fault = None; duties = no_duties }
 
--- the status of what was decided, where it is Indeterminate
+-- the status of what was decided, if it is Indeterminate
 abbrev pub fault_in : Verdict → Option Status
 fault_in e = if is_indeterminate e.decision then Some e.status else None
 
--- the decision so far with that of a child that doesn't end it
+-- the decision so far with that of a child that doesn't end the evaluation
 abbrev pub joined_decision : Alg → Decision → Decision → Decision
 joined_decision DenyOverrides so_far d = deny_overrides (so_far ∷ d ∷ [])
 joined_decision OrderedDenyOverrides so_far d = deny_overrides (so_far ∷ d ∷ [])
@@ -56,7 +56,7 @@ joined so_far child = record {
   duties = if is_some (effect_of child.decision) then and_then so_far.duties child.duties else so_far.duties;
 }
 
--- the decision of the child that ends it
+-- the decision of the child that ends the evaluation
 abbrev pub ending_decision : Alg → Decision → Decision
 ending_decision FirstApplicable d = first_applicable (d ∷ [])
 ending_decision _ d = d
@@ -101,7 +101,7 @@ pub record Named : Type 0 where
   pub asked : Bool
   pub ids : List DocumentKey
 
--- with these behind them, where they are asked for
+-- with these behind them, if they are asked for
 abbrev pub with_named : Named → List DocumentKey → Named
 with_named so_far keys = record { asked = so_far.asked; ids = so_far.ids ++ (if so_far.asked then keys else []) }
 
@@ -109,7 +109,7 @@ with_named so_far keys = record { asked = so_far.asked; ids = so_far.ids ++ (if 
 abbrev pub first_named : ℕ → Named → Named
 first_named count so_far = record { asked = so_far.asked; ids = take count so_far.ids }
 
--- all of them where Permit or Deny is decided, and else the first `count`
+-- all of them if Permit or Deny is decided, and else the first `count`
 abbrev pub kept_by : Decision → ℕ → Named → Named
 kept_by d count so_far = if is_some (effect_of d) then so_far else first_named count so_far
 

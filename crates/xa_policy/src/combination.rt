@@ -17,21 +17,10 @@ pub(crate) struct Combination {
     algorithm: Alg,
     /// What the children so far decide, if there is no other.
     decision: Decision,
-    /// The status of the first child so far that is Indeterminate, or of the one that ended it.
+    /// The status of the first child so far that is Indeterminate, or of the one that ended the evaluation.
     fault: Option<Status>,
     /// The obligations and advice of the children so far that decide Permit or Deny, in order.
     duties: Duties,
-}
-
-/// The status, where what was decided is Indeterminate.
-fn fault_in(child: &Verdict) -> Option<Status>
-    ensures { result ≡ fault_in child.now }
-{
-    if child.decision.is_indeterminate() {
-        Some(child.status)
-    } else {
-        None
-    }
 }
 
 impl Combination {
@@ -47,8 +36,8 @@ impl Combination {
         }
     }
 
-    /// Takes the next child, and answers whether it ends the evaluation: whatever comes behind it
-    /// changes nothing.
+    /// Takes the next child, and answers whether it ends the evaluation. If so, no child behind it changes
+    /// anything.
     pub(crate) fn add(&mut self, child: Verdict) -> Result<bool, AllocError>
         ensures ok { OnOk result (self.new ≡ with_next self.old child) }
         ensures ended { IfOk result (λ end. end ≡ ends self.old.algorithm child.decision) }
@@ -85,5 +74,16 @@ impl Combination {
             status: Status::Ok,
             duties: self.duties,
         }
+    }
+}
+
+/// The status, if what was decided is Indeterminate.
+fn fault_in(child: &Verdict) -> Option<Status>
+    ensures { result ≡ fault_in child.now }
+{
+    if child.decision.is_indeterminate() {
+        Some(child.status)
+    } else {
+        None
     }
 }

@@ -11,7 +11,7 @@ ghost use Rattle.xa_policy.specs.Walk.{decision_of_none, ending_decision, joined
 use crate::decision::{Decision, Effect};
 use xa_expr::Matching;
 
-/// A combining algorithm (XACML 3.0, appendix C). In the names, RULE stands for
+/// A combining algorithm (XACML 3.0, core, appendix C). In the names, RULE stands for
 /// `urn:oasis:names:tc:xacml:3.0:rule-combining-algorithm` and POLICY for
 /// `urn:oasis:names:tc:xacml:3.0:policy-combining-algorithm`.
 #[derive(Clone, Copy, Debug, PartialEq, Eq)]
@@ -64,7 +64,7 @@ impl Alg {
         }
     }
 
-    /// The decision so far with that of a child that doesn't end it.
+    /// The decision so far, with that of a child that doesn't end the evaluation.
     pub(crate) fn joined_decision(self, so_far: Decision, decision: Decision) -> Decision
         ensures { result ≡ joined_decision self so_far decision }
     {
@@ -79,7 +79,7 @@ impl Alg {
         }
     }
 
-    /// The decision of a child that ends it.
+    /// The decision that comes of a child that ends the evaluation.
     pub(crate) fn ending_decision(self, decision: Decision) -> Decision
         ensures { result ≡ ending_decision self decision }
     {
@@ -90,7 +90,7 @@ impl Alg {
     }
 }
 
-/// A child of a policy or of a policy set, as it is combined.
+/// A child of a policy or of a policy set, as it is combined (core, appendix C).
 #[derive(Clone, Copy, Debug, PartialEq, Eq)]
 pub struct Child {
     /// What it decides.
@@ -112,41 +112,6 @@ impl Child {
         ensures { result ≡ may_apply self }
     {
         matches!(self.target, Matching::Indeterminate(_))
-    }
-}
-
-/// The decision that the algorithm makes of the children, in their order.
-#[tactic(auto, using(crate::proofs::WalkLemmas::walked_decisions))]
-pub fn combine(algorithm: Alg, children: &[Child]) -> Decision
-    ensures { result ≡ combined_decision algorithm children.now }
-{
-    match algorithm {
-        Alg::OnlyOneApplicable => only_one_applicable(children),
-        _ => combine_decisions(algorithm, children),
-    }
-}
-
-/// What an algorithm that goes by decisions makes of the children, by the steps that evaluation takes.
-fn combine_decisions(algorithm: Alg, children: &[Child]) -> Decision
-    ensures { result ≡ walked_decision algorithm (decision_of_none algorithm) (map decision_of children.now) }
-{
-    let mut so_far = algorithm.decision_of_none();
-    for child in children {
-        if algorithm.ends(child.decision) {
-            return algorithm.ending_decision(child.decision);
-        }
-        so_far = algorithm.joined_decision(so_far, child.decision);
-    }
-    so_far
-}
-
-/// Deny-overrides or permit-overrides of two.
-fn overrides_of_two(effect: Effect, first: Decision, second: Decision) -> Decision
-    ensures { result ≡ overrides effect (first ∷ second ∷ []) }
-{
-    match effect {
-        Effect::Permit => permit_overrides_of_two(first, second),
-        Effect::Deny => deny_overrides_of_two(first, second),
     }
 }
 
@@ -183,6 +148,16 @@ fn permit_overrides_of_two(first: Decision, second: Decision) -> Decision
     deny_overrides_of_two(first.mirror_of(), second.mirror_of()).mirror_of()
 }
 
+/// Deny-overrides or permit-overrides of two.
+fn overrides_of_two(effect: Effect, first: Decision, second: Decision) -> Decision
+    ensures { result ≡ overrides effect (first ∷ second ∷ []) }
+{
+    match effect {
+        Effect::Permit => permit_overrides_of_two(first, second),
+        Effect::Deny => deny_overrides_of_two(first, second),
+    }
+}
+
 /// First-applicable of one. The algorithm doesn't track extended Indeterminates, so its own is {DP}
 /// (appendix C.1).
 #[tactic(auto, using(crate::proofs::FirstApplicableLemmas::first_applicable_alone))]
@@ -194,6 +169,35 @@ fn first_applicable_of_one(decision: Decision) -> Decision
     } else {
         decision
     }
+}
+
+/// What an algorithm that goes by decisions makes of the children, by the steps that evaluation takes.
+fn combine_decisions(algorithm: Alg, children: &[Child]) -> Decision
+    ensures { result ≡ walked_decision algorithm (decision_of_none algorithm) (map decision_of children.now) }
+{
+    let mut so_far = algorithm.decision_of_none();
+    for child in children {
+        if algorithm.ends(child.decision) {
+            return algorithm.ending_decision(child.decision);
+        }
+        so_far = algorithm.joined_decision(so_far, child.decision);
+    }
+    so_far
+}
+
+/// Only-one-applicable of an applicable child and the others behind it. The first target that isn't No
+/// match settles it.
+#[tactic(auto, using(crate::proofs::OnlyOneLemmas::only_one_steps))]
+fn unless_another_applies(decision: Decision, others: &[Child]) -> Decision
+    ensures { result
+        ≡ only_one_applicable (record { decision = decision; target = target.Match } ∷ others.now) }
+{
+    for other in others {
+        if other.applies() || other.may_apply() {
+            return Decision::IndeterminateDenyPermit;
+        }
+    }
+    decision
 }
 
 /// Only-one-applicable, by the targets in their order. The first that isn't No match leaves it to the
@@ -213,17 +217,13 @@ fn only_one_applicable(children: &[Child]) -> Decision
     Decision::NotApplicable
 }
 
-/// Only-one-applicable of an applicable child and the others behind it. The first target that isn't No
-/// match settles it.
-#[tactic(auto, using(crate::proofs::OnlyOneLemmas::only_one_steps))]
-fn unless_another_applies(decision: Decision, others: &[Child]) -> Decision
-    ensures { result
-        ≡ only_one_applicable (record { decision = decision; target = target.Match } ∷ others.now) }
+/// The decision that the algorithm makes of the children, in their order (core, appendix C).
+#[tactic(auto, using(crate::proofs::WalkLemmas::walked_decisions))]
+pub fn combine(algorithm: Alg, children: &[Child]) -> Decision
+    ensures { result ≡ combined_decision algorithm children.now }
 {
-    for other in others {
-        if other.applies() || other.may_apply() {
-            return Decision::IndeterminateDenyPermit;
-        }
+    match algorithm {
+        Alg::OnlyOneApplicable => only_one_applicable(children),
+        _ => combine_decisions(algorithm, children),
     }
-    decision
 }

@@ -6,7 +6,7 @@ ghost use Rattle.xa_policy.specs.Duties.{effect_of, same_effect};
 ghost use Rattle.xa_policy.specs.Mirror.{mirrored};
 ghost use Rattle.xa_policy.specs.Effect.{decision_with, decision_left_open};
 
-/// What a rule gives where it applies (XACML 3.0, section 5.22).
+/// What a rule gives if it applies (XACML 3.0, core, section 5.22).
 #[derive(Clone, Copy, Debug, PartialEq, Eq)]
 pub enum Effect {
     /// It permits.
@@ -15,7 +15,7 @@ pub enum Effect {
     Deny,
 }
 
-/// A decision, with the three kinds of Indeterminate (XACML 3.0, section 7.10).
+/// A decision, with the three kinds of Indeterminate (XACML 3.0, core, section 7.10).
 #[derive(Clone, Copy, Debug, PartialEq, Eq)]
 pub enum Decision {
     /// Permit.
@@ -43,7 +43,7 @@ impl Effect {
         }
     }
 
-    /// Whether it is this effect.
+    /// Whether it is this effect. For the prover: the clause is by `same_effect`, as the definitions are.
     pub(crate) fn is(self, effect: Effect) -> bool
         ensures { result ≡ same_effect effect self }
     {
@@ -69,7 +69,7 @@ impl Decision {
         effect.decision() == self
     }
 
-    /// The effect, where it is a Permit or a Deny.
+    /// The effect, if it is a Permit or a Deny.
     pub(crate) fn effect(self) -> Option<Effect>
         ensures { result ≡ effect_of self }
     {

@@ -9,14 +9,14 @@ use xa_expr::STEP;
 use xa_value::{Items, Text, Value};
 
 /// An attribute that an obligation or a piece of advice carries, as a policy states it (XACML 3.0, core,
-/// section 5.41). `E` is how expressions stand there: as read, or checked.
+/// section 5.41). Its expression, an `E`, is an `Expr` as read and a `Typed` once it is checked.
 #[derive(Debug, Drop)]
 pub struct AttributeAssignmentExpression<E> {
     /// The attribute's id.
     pub attribute_id: Text,
-    /// Its category, where one is named.
+    /// Its category, if one is named.
     pub category: Option<Text>,
-    /// Its issuer, where one is named.
+    /// Its issuer, if one is named.
     pub issuer: Option<Text>,
     /// What gives its value, or by a bag its values.
     pub expression: E,
@@ -59,9 +59,9 @@ impl<E> DutyExpressions<E> {
 pub struct AttributeAssignment {
     /// The attribute's id.
     pub attribute_id: Text,
-    /// Its category, where one is named.
+    /// Its category, if one is named.
     pub category: Option<Text>,
-    /// Its issuer, where one is named.
+    /// Its issuer, if one is named.
     pub issuer: Option<Text>,
     /// Its value.
     pub value: Value,
@@ -148,8 +148,8 @@ impl Duties {
     }
 }
 
-/// Puts the others behind those that there are. Where there are none yet the others are taken as they
-/// are, so that what is carried up through nested sets isn't moved once more at each of them.
+/// Puts the others behind those that there are. If there are none yet, the others are taken as they are:
+/// what is carried up through nested sets isn't moved once more at each of them.
 fn put_behind(duties: &mut Vec<Duty>, mut others: Vec<Duty>) -> Result<(), AllocError>
     ensures { OnOk result (duties.new.items ≡ duties.old.items ++ others.items) }
 {

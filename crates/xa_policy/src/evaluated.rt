@@ -18,12 +18,12 @@ use xa_value::{Items, Shared};
 pub struct Evaluated {
     /// The decision.
     pub decision: Decision,
-    /// Why, where the decision is Indeterminate; else `Ok`.
+    /// Why the decision is Indeterminate; `Ok` if it isn't.
     pub status: Status,
     /// What comes with a Permit or a Deny.
     pub duties: Duties,
-    /// The policies and policy sets that are named with a Permit or a Deny, in order; none where they
-    /// weren't asked for.
+    /// The policies and policy sets that are named with a Permit or a Deny, in order; none if they weren't
+    /// asked for.
     pub ids: Items<Shared<DocumentKey>>,
 }
 
@@ -52,8 +52,8 @@ impl Evaluated {
         Evaluated::new(Verdict::not_applicable(alloc), Items::new(alloc))
     }
 
-    /// Indeterminate, whether Deny or Permit, for the fault's reason, with no obligations, no advice and
-    /// nothing named. Nothing is allocated.
+    /// Indeterminate{DP}, with the fault's status, no obligations, no advice and nothing named. Nothing is
+    /// allocated.
     pub fn undecided(alloc: Global, fault: Fault) -> Evaluated
         ensures { result ≡ without_ids (undecided fault) }
     {

@@ -25,30 +25,8 @@ use crate::verdict::Verdict;
 use std::alloc::{AllocError, Global};
 use xa_expr::{Context, Evaluator, Fault, Matching, STEP, Typed, Variables};
 
-/// The units of a policy, a set or a rule that is looked at, and of what becomes of it behind its target.
+/// The units of a policy, a set or a rule whose target is looked at, and of what is done with it after that.
 const CHILD: u64 = 2 * STEP + STEP / 2;
-
-/// What the tree decides (XACML 3.0, core, sections 7.9 to 7.15 and 7.18), why where that is
-/// Indeterminate, its obligations and advice, and where `names_policies` says so the policies and policy
-/// sets that are named with it (5.49). No child is evaluated after the one that settles its parent, and
-/// none where its parent's target is No match. Want of memory is the only error; it is also what comes
-/// where the context refuses more work. Each policy, set and rule that is looked at is counted, beside
-/// what expressions count: tenants nest and repeat them as they like.
-#[tactic(auto, using(crate::proofs::IdLemmas::asked_from_none))]
-pub fn evaluate<C: Context>(
-    alloc: Global,
-    linked: &Linked,
-    context: &C,
-    names_policies: bool,
-) -> Result<Evaluated, AllocError>
-    ensures { IfOk result (λ e.
-        e ≡ as_asked names_policies (evaluation (C.values_of context.now) linked.now)) }
-{
-    let target = target_of(alloc, linked, context)?;
-    let mut ids = Identifiers::new(alloc, names_policies);
-    let verdict = evaluate_linked(alloc, linked, target, context, &mut ids)?;
-    Ok(Evaluated::new(verdict, ids.into_items()))
-}
 
 /// What the target of the tree's root comes to; that of a reference that leads to nothing is
 /// Indeterminate. Each root that is looked at is counted.
@@ -67,61 +45,6 @@ fn target_of<C: Context>(
     }
 }
 
-/// What the tree decides, where its target comes to this.
-#[cycle(evaluation)]
-fn evaluate_linked<C: Context>(
-    alloc: Global,
-    linked: &Linked,
-    target: Matching,
-    context: &C,
-    ids: &mut Identifiers,
-) -> Result<Verdict, AllocError>
-    requires { target ≡ (evaluated (C.values_of context.now) linked.now).target }
-    ensures value { IfOk result (λ e. e ≡ verdict (C.values_of context.now) linked.now) }
-    ensures named { OnOk result
-        (ids.new ≡ with_named ids.old (element (C.values_of context.now) linked.now).ids) }
-{
-    match linked {
-        Linked::Unresolved => Ok(Verdict::undecided(alloc, Fault::ProcessingError)),
-        Linked::Policy(policy) => evaluate_policy(alloc, policy.get(), target, context, ids),
-        Linked::PolicySet(set, children) => {
-            evaluate_set(
-                alloc,
-                set.get(),
-                children.get().as_slice(),
-                target,
-                context,
-                ids,
-            )
-        }
-    }
-}
-
-/// What the policy decides, where its target comes to this.
-fn evaluate_policy<C: Context>(
-    alloc: Global,
-    policy: &Policy,
-    target: Matching,
-    context: &C,
-    ids: &mut Identifiers,
-) -> Result<Verdict, AllocError>
-    requires { target ≡ target_value (C.values_of context.now) policy.now.target }
-    ensures value { IfOk result (λ e. e ≡ policy_value (C.values_of context.now) policy.now) }
-    ensures named { OnOk result (ids.new ≡ with_named ids.old
-        (named_by (policy_value (C.values_of context.now) policy.now).decision policy.now.key [])) }
-{
-    if target == Matching::NoMatch {
-        return Ok(Verdict::not_applicable(alloc));
-    }
-    let mut evaluator = Evaluator::new(alloc, context, policy.variables());
-    let rules = policy.rules();
-    let combined = combine_rules(alloc, policy.algorithm(), context, &mut evaluator, rules)?;
-    let by_target = combined.by_target(alloc, target);
-    let decided = with_own(alloc, &mut evaluator, policy.duties(), by_target)?;
-    ids.add_by(decided.decision, policy.key())?;
-    Ok(decided)
-}
-
 /// What the target of the rule comes to. Each rule that is looked at is counted.
 fn target_of_rule<C: Context>(
     alloc: Global,
@@ -134,54 +57,31 @@ fn target_of_rule<C: Context>(
     rule.target.matching(alloc, context)
 }
 
-/// What the algorithm makes of the rules.
-#[tactic(auto, using(crate::proofs::WalkLemmas::walk_is_combination))]
-fn combine_rules<'a, C: Context>(
+/// What only-one-applicable makes of an applicable rule and the others behind it. The first target that
+/// isn't No match settles it.
+#[tactic(auto, using(crate::proofs::TidyLemmas::applicable_steps))]
+fn rule_unless_another<'a, C: Context>(
     alloc: Global,
-    algorithm: Alg,
     context: &C,
     evaluator: &mut Evaluator<'a, C>,
-    rules: &[Rule<Typed>],
+    rule: &Rule<Typed>,
+    others: &[Rule<Typed>],
 ) -> Result<Verdict, AllocError>
     requires same { evaluator.old.0 ≡ context.now }
-    requires typed { AreTypedRules (kinds evaluator.old.1) rules.now }
-    ensures value { IfOk result (λ e.
-        e ≡ combination algorithm (map (rule_child (C.values_of context.now) evaluator.old.1) rules.now)) }
+    requires typed { IsTypedRule (kinds evaluator.old.1) rule.now }
+    requires applies { target_value (C.values_of context.now) rule.now.target ≡ matching.Match }
+    ensures value { IfOk result (λ e. e ≡ combination OnlyOneApplicable
+        (map (rule_child (C.values_of context.now) evaluator.old.1) (rule.now ∷ others.now))) }
     ensures kept { evaluator.new ≡ evaluator.old }
 {
-    match algorithm {
-        Alg::OnlyOneApplicable => only_applicable_rule(alloc, context, evaluator, rules),
-        _ => walk_rules(alloc, algorithm, context, evaluator, rules),
-    }
-}
-
-/// What an algorithm that goes by decisions makes of the rules. One whose target doesn't match is passed.
-fn walk_rules<'a, C: Context>(
-    alloc: Global,
-    algorithm: Alg,
-    context: &C,
-    evaluator: &mut Evaluator<'a, C>,
-    rules: &[Rule<Typed>],
-) -> Result<Verdict, AllocError>
-    requires same { evaluator.old.0 ≡ context.now }
-    requires typed { AreTypedRules (kinds evaluator.old.1) rules.now }
-    ensures value { IfOk result (λ e. e
-        ≡ walked (of_none algorithm) (map (rule_child (C.values_of context.now) evaluator.old.1) rules.now)) }
-    ensures kept { evaluator.new ≡ evaluator.old }
-{
-    let mut so_far = Combination::new(alloc, algorithm);
-    for rule in rules {
-        let target = target_of_rule(alloc, rule, context)?;
-        if target == Matching::NoMatch {
-            continue;
-        }
-        let child = evaluate_rule(alloc, evaluator, rule, target)?;
-        context.spend(child.duties.units_of_moving())?;
-        if so_far.add(child)? {
-            return Ok(so_far.result_so_far(alloc));
+    for other in others {
+        match target_of_rule(alloc, other, context)? {
+            Matching::NoMatch => continue,
+            Matching::Indeterminate(fault) => return Ok(Verdict::undecided(alloc, fault)),
+            Matching::Match => return Ok(Verdict::undecided(alloc, Fault::ProcessingError)),
         }
     }
-    Ok(so_far.result_so_far(alloc))
+    evaluate_rule(alloc, evaluator, rule, Matching::Match)
 }
 
 /// What only-one-applicable makes of the rules. The first target that isn't No match leaves it to the
@@ -213,34 +113,112 @@ fn only_applicable_rule<'a, C: Context>(
     Ok(Verdict::not_applicable(alloc))
 }
 
-/// What only-one-applicable makes of an applicable rule and the others behind it. The first target that
-/// isn't No match settles it.
-#[tactic(auto, using(crate::proofs::TidyLemmas::applicable_steps))]
-fn rule_unless_another<'a, C: Context>(
+/// What an algorithm that goes by decisions makes of the rules. One whose target doesn't match is passed.
+fn walk_rules<'a, C: Context>(
     alloc: Global,
+    algorithm: Alg,
     context: &C,
     evaluator: &mut Evaluator<'a, C>,
-    rule: &Rule<Typed>,
-    others: &[Rule<Typed>],
+    rules: &[Rule<Typed>],
 ) -> Result<Verdict, AllocError>
     requires same { evaluator.old.0 ≡ context.now }
-    requires typed { IsTypedRule (kinds evaluator.old.1) rule.now }
-    requires applies { target_value (C.values_of context.now) rule.now.target ≡ matching.Match }
-    ensures value { IfOk result (λ e. e ≡ combination OnlyOneApplicable
-        (map (rule_child (C.values_of context.now) evaluator.old.1) (rule.now ∷ others.now))) }
+    requires typed { AreTypedRules (kinds evaluator.old.1) rules.now }
+    ensures value { IfOk result (λ e. e
+        ≡ walked (of_none algorithm) (map (rule_child (C.values_of context.now) evaluator.old.1) rules.now)) }
     ensures kept { evaluator.new ≡ evaluator.old }
 {
-    for other in others {
-        match target_of_rule(alloc, other, context)? {
-            Matching::NoMatch => continue,
-            Matching::Indeterminate(fault) => return Ok(Verdict::undecided(alloc, fault)),
-            Matching::Match => return Ok(Verdict::undecided(alloc, Fault::ProcessingError)),
+    let mut so_far = Combination::new(alloc, algorithm);
+    for rule in rules {
+        let target = target_of_rule(alloc, rule, context)?;
+        if target == Matching::NoMatch {
+            continue;
+        }
+        let child = evaluate_rule(alloc, evaluator, rule, target)?;
+        context.spend(child.duties.units_of_moving())?;
+        if so_far.add(child)? {
+            return Ok(so_far.result_so_far(alloc));
         }
     }
-    evaluate_rule(alloc, evaluator, rule, Matching::Match)
+    Ok(so_far.result_so_far(alloc))
 }
 
-/// What the policy set decides of its children, where its target comes to this.
+/// What the algorithm makes of the rules.
+#[tactic(auto, using(crate::proofs::WalkLemmas::walk_is_combination))]
+fn combine_rules<'a, C: Context>(
+    alloc: Global,
+    algorithm: Alg,
+    context: &C,
+    evaluator: &mut Evaluator<'a, C>,
+    rules: &[Rule<Typed>],
+) -> Result<Verdict, AllocError>
+    requires same { evaluator.old.0 ≡ context.now }
+    requires typed { AreTypedRules (kinds evaluator.old.1) rules.now }
+    ensures value { IfOk result (λ e.
+        e ≡ combination algorithm (map (rule_child (C.values_of context.now) evaluator.old.1) rules.now)) }
+    ensures kept { evaluator.new ≡ evaluator.old }
+{
+    match algorithm {
+        Alg::OnlyOneApplicable => only_applicable_rule(alloc, context, evaluator, rules),
+        _ => walk_rules(alloc, algorithm, context, evaluator, rules),
+    }
+}
+
+/// What the policy decides, if its target comes to this.
+fn evaluate_policy<C: Context>(
+    alloc: Global,
+    policy: &Policy,
+    target: Matching,
+    context: &C,
+    ids: &mut Identifiers,
+) -> Result<Verdict, AllocError>
+    requires { target ≡ target_value (C.values_of context.now) policy.now.target }
+    ensures value { IfOk result (λ e. e ≡ policy_value (C.values_of context.now) policy.now) }
+    ensures named { OnOk result (ids.new ≡ with_named ids.old
+        (named_by (policy_value (C.values_of context.now) policy.now).decision policy.now.key [])) }
+{
+    if target == Matching::NoMatch {
+        return Ok(Verdict::not_applicable(alloc));
+    }
+    let mut evaluator = Evaluator::new(alloc, context, policy.variables());
+    let rules = policy.rules();
+    let combined = combine_rules(alloc, policy.algorithm(), context, &mut evaluator, rules)?;
+    let by_target = combined.by_target(alloc, target);
+    let decided = with_own(alloc, &mut evaluator, policy.duties(), by_target)?;
+    ids.add_by(decided.decision, policy.key())?;
+    Ok(decided)
+}
+
+/// What the tree decides, if its target comes to this.
+#[cycle(evaluation)]
+fn evaluate_linked<C: Context>(
+    alloc: Global,
+    linked: &Linked,
+    target: Matching,
+    context: &C,
+    ids: &mut Identifiers,
+) -> Result<Verdict, AllocError>
+    requires { target ≡ (evaluated (C.values_of context.now) linked.now).target }
+    ensures value { IfOk result (λ e. e ≡ verdict (C.values_of context.now) linked.now) }
+    ensures named { OnOk result
+        (ids.new ≡ with_named ids.old (element (C.values_of context.now) linked.now).ids) }
+{
+    match linked {
+        Linked::Unresolved => Ok(Verdict::undecided(alloc, Fault::ProcessingError)),
+        Linked::Policy(policy) => evaluate_policy(alloc, policy.get(), target, context, ids),
+        Linked::PolicySet(set, children) => {
+            evaluate_set(
+                alloc,
+                set.get(),
+                children.get().as_slice(),
+                target,
+                context,
+                ids,
+            )
+        }
+    }
+}
+
+/// What the policy set decides by its children, if its target comes to this.
 #[cycle(evaluation)]
 fn evaluate_set<C: Context>(
     alloc: Global,
@@ -376,4 +354,25 @@ fn child_unless_another<C: Context>(
         }
     }
     evaluate_linked(alloc, child, Matching::Match, context, ids)
+}
+
+/// The tree's decision (XACML 3.0, core, sections 7.9 to 7.15 and 7.18), with its status, obligations and
+/// advice, and, if `names_policies`, the policies and sets named with it (5.49). No child is evaluated after
+/// the one that settles its parent, and none if its parent's target is No match. Want of memory is the only
+/// error, also if the context refuses more work. Each policy, set and rule that is looked at is counted,
+/// beside what expressions count: tenants nest and repeat them as they like.
+#[tactic(auto, using(crate::proofs::IdLemmas::asked_from_none))]
+pub fn evaluate<C: Context>(
+    alloc: Global,
+    linked: &Linked,
+    context: &C,
+    names_policies: bool,
+) -> Result<Evaluated, AllocError>
+    ensures { IfOk result (λ e.
+        e ≡ as_asked names_policies (evaluation (C.values_of context.now) linked.now)) }
+{
+    let target = target_of(alloc, linked, context)?;
+    let mut ids = Identifiers::new(alloc, names_policies);
+    let verdict = evaluate_linked(alloc, linked, target, context, &mut ids)?;
+    Ok(Evaluated::new(verdict, ids.into_items()))
 }

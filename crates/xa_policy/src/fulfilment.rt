@@ -40,7 +40,7 @@ fn with_value(
     })
 }
 
-/// The units of a copy of the text, where there is one.
+/// The units of a copy of the text, if there is one.
 fn units_of_text(text: &Option<Text>) -> u64 {
     match text {
         Some(text) => text.as_bytes().len() as u64,

@@ -9,10 +9,10 @@ use std::alloc::{AllocError, Global};
 use std::marker::Model;
 use xa_value::{Items, Shared};
 
-/// The keys of the policies and policy sets that are named so far, in order. Where they aren't asked for
+/// The keys of the policies and policy sets that are named so far, in order. If they aren't asked for,
 /// there are never any. One list serves the whole tree: a policy set puts itself there before its
-/// children, and takes all of them away again where it decides neither Permit nor Deny. So each key is
-/// put there once, and taken away once at most.
+/// children, and takes all of them away again if it decides neither Permit nor Deny. So each key is put
+/// there once, and taken away once at most.
 #[derive(Debug, Drop)]
 pub(crate) struct Identifiers {
     /// Whether they are asked for.
@@ -48,7 +48,7 @@ impl Identifiers {
         self.found.len()
     }
 
-    /// Puts the key behind those so far. A share of it is put there: no text is copied.
+    /// Puts the key behind those so far, if they are asked for. It is a share: no text is copied.
     pub(crate) fn add(&mut self, key: &Shared<DocumentKey>) -> Result<(), AllocError>
         ensures { OnOk result (self.new ≡ with_named self.old (key.now ∷ [])) }
     {
@@ -58,7 +58,7 @@ impl Identifiers {
         Ok(())
     }
 
-    /// Puts the key of a policy that decides this behind those so far, where that is Permit or Deny.
+    /// Puts the key of a policy that decides this behind those so far, if that is Permit or Deny.
     pub(crate) fn add_by(
         &mut self,
         decision: Decision,
@@ -72,8 +72,8 @@ impl Identifiers {
         }
     }
 
-    /// Keeps the first `count`, and those behind them too where the policy set that found them decides
-    /// Permit or Deny.
+    /// Keeps the first `count`, and those behind them too if the policy set that found them decides Permit
+    /// or Deny.
     pub(crate) fn keep_by(&mut self, decision: Decision, count: usize)
         ensures { self.new ≡ kept_by decision count self.old }
     {

@@ -2,8 +2,8 @@
 //! their versions (5.10 to 5.13).
 //!
 //! `policy` and `policy_set` hold rules (`rule`), obligations and advice (`duty`), whose expressions
-//! `checking` has checked. `linked` is the tree of them in which `reference` has given way to what it leads
-//! to; `designators` tells which attributes it asks for. `version` and `pattern` are read and written.
+//! `checking` has checked. `linked` is the tree of them, in which each `reference` is replaced by what it
+//! refers to; `designators` tells which attributes it asks for. `version` and `pattern` are read and written.
 //!
 //! `evaluation` works out what a tree decides. `combination` takes the verdicts (`verdict`) of children one
 //! after another, `fulfilment` adds obligations and advice, and `identifiers` the keys (`document_key`) that

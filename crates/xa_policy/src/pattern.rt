@@ -11,7 +11,7 @@ use std::alloc::{AllocError, Global};
 use std::marker::Model;
 use xa_value::{Text, is_number};
 
-/// A part of a pattern (XACML 3.0, section 5.13).
+/// A part of a pattern (XACML 3.0, core, section 5.13).
 #[derive(Clone, Copy, Debug, PartialEq, Eq)]
 pub enum PatternPart {
     /// A number, which stands for itself.
@@ -22,7 +22,7 @@ pub enum PatternPart {
     AnyNumbers,
 }
 
-/// A pattern of versions (XACML 3.0, section 5.13): the list of its parts.
+/// A pattern of versions (XACML 3.0, core, section 5.13): the list of its parts.
 #[derive(Clone, Copy, Debug, PartialEq, Eq)]
 pub struct Pattern {
     /// The parts, and `*` behind them.
@@ -51,9 +51,9 @@ impl Model for Pattern {
 }
 
 impl Pattern {
-    /// The pattern that the text writes: numbers and `*` with dots between, where `+` may stand last
-    /// (XACML 3.0, core, section 5.13). Leading zeros are dropped. BadText of any other shape; TooLong
-    /// of more than eight parts, or of a number of more than nine digits.
+    /// The pattern that the text writes: numbers and `*` with dots between, the last of which may be `+`
+    /// (XACML 3.0, core, section 5.13). Leading zeros are dropped. The fault is BadText of any other shape,
+    /// and TooLong of more than eight parts, or of a number of more than nine digits.
     pub fn read(text: &str) -> Result<Pattern, VersionError>
         ensures { result ≡ read_pattern text.now }
     {
@@ -109,27 +109,6 @@ impl Pattern {
     }
 }
 
-/// Whether the text is numbers and `*` with dots between, where `+` may stand last.
-fn is_pattern(text: &str) -> bool
-    ensures { result ≡ is_pattern (parts text.now) }
-{
-    let mut ended = false;
-    for part in text.split('.') {
-        if ended || !is_part(part.as_bytes()) {
-            return false;
-        }
-        ended = is_plus(part.as_bytes());
-    }
-    true
-}
-
-/// Whether the text is a number, `*` or `+`.
-fn is_part(part: &[u8]) -> bool
-    ensures { result ≡ (is_number part.now || is_star part.now || is_plus part.now) }
-{
-    is_number(part) || is_star(part) || is_plus(part)
-}
-
 /// Whether the text is `*`.
 fn is_star(part: &[u8]) -> bool
     ensures { result ≡ is_star part.now }
@@ -142,6 +121,27 @@ fn is_plus(part: &[u8]) -> bool
     ensures { result ≡ is_plus part.now }
 {
     part == b"+".as_slice()
+}
+
+/// Whether the text is a number, `*` or `+`.
+fn is_part(part: &[u8]) -> bool
+    ensures { result ≡ (is_number part.now || is_star part.now || is_plus part.now) }
+{
+    is_number(part) || is_star(part) || is_plus(part)
+}
+
+/// Whether the text is numbers and `*` with dots between, the last of which may be `+`.
+fn is_pattern(text: &str) -> bool
+    ensures { result ≡ is_pattern (parts text.now) }
+{
+    let mut ended = false;
+    for part in text.split('.') {
+        if ended || !is_part(part.as_bytes()) {
+            return false;
+        }
+        ended = is_plus(part.as_bytes());
+    }
+    true
 }
 
 /// What the part stands for.
@@ -159,6 +159,17 @@ fn part_of(part: &str) -> PatternPart
     }
 }
 
+/// Writes a number, `*` or `+`.
+fn push_part(text: &mut String, part: PatternPart) -> Result<(), AllocError>
+    ensures { OnOk result (string_bytes text.new ≡ string_bytes text.old ++ part_text part) }
+{
+    match part {
+        PatternPart::Number(number) => push_number(text, number),
+        PatternPart::AnyNumber => text.push('*'),
+        PatternPart::AnyNumbers => text.push('+'),
+    }
+}
+
 /// Writes the parts with dots between.
 fn push_parts(text: &mut String, parts: &[PatternPart]) -> Result<(), AllocError>
     ensures { OnOk result (string_bytes text.new ≡ string_bytes text.old ++ pattern_text parts.now) }
@@ -171,16 +182,5 @@ fn push_parts(text: &mut String, parts: &[PatternPart]) -> Result<(), AllocError
             text.push('.')?;
             push_parts(text, rest)
         }
-    }
-}
-
-/// Writes a number, `*` or `+`.
-fn push_part(text: &mut String, part: PatternPart) -> Result<(), AllocError>
-    ensures { OnOk result (string_bytes text.new ≡ string_bytes text.old ++ part_text part) }
-{
-    match part {
-        PatternPart::Number(number) => push_number(text, number),
-        PatternPart::AnyNumber => text.push('*'),
-        PatternPart::AnyNumbers => text.push('+'),
     }
 }

@@ -91,7 +91,7 @@ impl Policy {
     }
 
     /// Checks the rule's condition, obligations and advice, in this order, and puts it behind the rules
-    /// so far. Where one has a fault, nothing changes.
+    /// so far. If one has a fault, nothing changes.
     #[tactic(auto, using(crate::proofs::CheckingLemmas::one_more_rule))]
     pub fn add_rule(&mut self, alloc: Global, rule: Rule<Expr>) -> Result<(), OrMemory<CheckError>>
         ensures value { Gives (result_map_both (λ _. self.new) (λ e. e) result) (rule_added self.old rule) }
@@ -103,7 +103,7 @@ impl Policy {
     }
 
     /// Checks the obligations and the advice, in this order, and gives them to the policy in place of
-    /// those that it has. Where one has a fault, nothing changes.
+    /// those that it has. If one has a fault, nothing changes.
     pub fn set_duties(
         &mut self,
         alloc: Global,

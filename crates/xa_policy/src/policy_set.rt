@@ -58,7 +58,7 @@ impl PolicySet {
     }
 
     /// Checks the obligations and the advice, in this order, and gives them to the policy set in place
-    /// of those that it has. Where one has a fault, nothing changes.
+    /// of those that it has. If one has a fault, nothing changes.
     pub fn set_duties(
         &mut self,
         alloc: Global,

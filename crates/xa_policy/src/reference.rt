@@ -9,9 +9,9 @@ use xa_value::Text;
 /// What a document is: a policy or a policy set.
 #[derive(Clone, Copy, Debug, PartialEq, Eq, PartialOrd, Ord)]
 pub enum DocumentKind {
-    /// A policy (XACML 3.0, section 5.14).
+    /// A policy (XACML 3.0, core, section 5.14).
     Policy,
-    /// A policy set (XACML 3.0, section 5.1).
+    /// A policy set (XACML 3.0, core, section 5.1).
     PolicySet,
 }
 
@@ -37,7 +37,7 @@ impl DocumentKind {
         }
     }
 
-    /// The kind of that name, if it is one's.
+    /// The kind of that name, if there is one.
     pub fn named(name: &[u8]) -> Option<DocumentKind>
         ensures { result ≡ kind_named name.now }
     {
@@ -51,7 +51,7 @@ impl DocumentKind {
     }
 }
 
-/// A reference to a policy or a policy set (XACML 3.0, sections 5.10 and 5.11).
+/// A reference to a policy or a policy set (XACML 3.0, core, sections 5.10 and 5.11).
 #[derive(Clone, Debug, Drop, PartialEq, Eq)]
 pub struct Reference {
     /// To what kind of document it refers.

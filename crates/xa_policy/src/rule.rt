@@ -17,14 +17,15 @@ use xa_expr::{Context, Evaluator, Fault, Matching, Target, Typed};
 use xa_func::Status;
 use xa_value::{OrMemory, Value, memory_apart};
 
-/// A rule (XACML 3.0, core, section 5.21). `E` is how expressions stand there: as read, or checked.
+/// A rule (XACML 3.0, core, section 5.21). Its expressions are each an `E`: an `Expr` as read, and a `Typed`
+/// once they are checked.
 #[derive(Debug, Drop)]
 pub struct Rule<E> {
-    /// What the rule gives where it applies.
+    /// What the rule gives if it applies.
     pub effect: Effect,
     /// To what the rule applies.
     pub target: Target,
-    /// What must be true beside that.
+    /// The condition (core, section 5.26), which must be true beside that.
     pub condition: Option<E>,
     /// Its obligations and advice.
     pub duties: DutyExpressions<E>,
@@ -51,7 +52,7 @@ fn condition_value<'a, C: Context>(
     }
 }
 
-/// What a rule of the effect decides by its condition, where its target matches.
+/// What a rule of the effect decides by its condition, if its target matches.
 fn by_condition<'a, C: Context>(
     alloc: Global,
     evaluator: &mut Evaluator<'a, C>,
@@ -73,7 +74,7 @@ fn by_condition<'a, C: Context>(
     }
 }
 
-/// What the rule decides (core, section 7.11) under a policy's variables, where its target comes to this.
+/// What the rule decides (core, section 7.11) under a policy's variables, if its target comes to this.
 pub(crate) fn evaluate_rule<'a, C: Context>(
     alloc: Global,
     evaluator: &mut Evaluator<'a, C>,

@@ -14,7 +14,7 @@ use xa_func::Status;
 pub struct Verdict {
     /// The decision.
     pub decision: Decision,
-    /// Why, where the decision is Indeterminate; else `Ok`.
+    /// Why the decision is Indeterminate; `Ok` if it isn't.
     pub status: Status,
     /// What comes with a Permit or a Deny.
     pub duties: Duties,
@@ -39,7 +39,7 @@ impl Verdict {
         Verdict::without_duties(alloc, Decision::NotApplicable, Status::Ok)
     }
 
-    /// Indeterminate, whether Deny or Permit, for the fault's reason.
+    /// Indeterminate{DP}, with the fault's status.
     pub(crate) fn undecided(alloc: Global, fault: Fault) -> Verdict
         ensures { result ≡ undecided fault }
     {
@@ -53,8 +53,8 @@ impl Verdict {
         Verdict::without_duties(alloc, effect.left_open(), fault.status())
     }
 
-    /// What a policy or a policy set decides whose children come to this, by the value of its target
-    /// (core, section 7.14).
+    /// What a policy or a policy set decides by the value of its target, if its children come to this (core,
+    /// section 7.14).
     pub(crate) fn by_target(self, alloc: Global, target: Matching) -> Verdict
         ensures { result ≡ by_target target self }
     {

@@ -28,7 +28,7 @@ const MAX_DIGITS: usize = 9;
 /// The greatest number of this many digits.
 const MAX_NUMBER: usize = 999_999_999;
 
-/// A version (XACML 3.0, section 5.12): the list of its numbers.
+/// A version (XACML 3.0, core, section 5.12): the list of its numbers.
 #[derive(Clone, Copy, Debug)]
 pub struct Version {
     /// The numbers, and zeros behind them.
@@ -55,8 +55,8 @@ impl Model for Version {
 
 impl Version {
     /// The version that the text writes: numbers with dots between (XACML 3.0, core, section 5.12).
-    /// Leading zeros are dropped. BadText of any other shape; TooLong of more than eight numbers, or of
-    /// one of more than nine digits.
+    /// Leading zeros are dropped. The fault is BadText of any other shape, and TooLong of more than eight
+    /// numbers, or of one of more than nine digits.
     pub fn read(text: &str) -> Result<Version, VersionError>
         ensures { result ≡ read_version text.now }
     {
@@ -112,56 +112,6 @@ impl Version {
     }
 }
 
-/// Whether the text is numbers with dots between.
-fn is_version(text: &str) -> bool
-    ensures { result ≡ list_all is_number (parts text.now) }
-{
-    text.split('.').all(|part| is_number(part.as_bytes()))
-}
-
-/// Whether the text keeps within the limits.
-pub(crate) fn is_short(text: &str) -> bool
-    ensures { result ≡ is_short (parts text.now) }
-{
-    text.split('.').count() <= MAX_NUMBERS && text.split('.').all(|part| part.len() <= MAX_DIGITS)
-}
-
-/// The number that the digits write.
-#[tactic(auto, using(crate::proofs::PartLemmas::number_given, crate::proofs::PartLemmas::small_number))]
-pub(crate) fn number_of(part: &str) -> u32
-    requires number { IsTrue (is_number part.now) }
-    requires short { length part.now ≤ 9 }
-    ensures value { result ≡ digits_value 10 part.now }
-    ensures small { result < 1_000_000_000 }
-{
-    match number_up_to(MAX_NUMBER, part.as_bytes()) {
-        Some(number) => number as u32,
-        None => unreachable!(),
-    }
-}
-
-/// Writes the numbers with dots between.
-fn push_numbers(text: &mut String, numbers: &[u32]) -> Result<(), AllocError>
-    ensures { OnOk result (string_bytes text.new ≡ string_bytes text.old ++ version_text numbers.now) }
-{
-    match numbers {
-        [] => Ok(()),
-        [last] => push_number(text, *last),
-        [number, rest @ ..] => {
-            push_number(text, *number)?;
-            text.push('.')?;
-            push_numbers(text, rest)
-        }
-    }
-}
-
-/// Writes a number without leading zeros.
-pub(crate) fn push_number(text: &mut String, number: u32) -> Result<(), AllocError>
-    ensures { OnOk result (string_bytes text.new ≡ string_bytes text.old ++ decimal number) }
-{
-    write!(text, "{number}")
-}
-
 impl PartialEq for Version {
     ghost eq = { pointwise nat_eq };
 
@@ -198,5 +148,55 @@ impl PartialOrd for Version {
 
     fn partial_cmp(&self, other: &Version) -> Option<Ordering> {
         Some(self.cmp(other))
+    }
+}
+
+/// Whether the text is numbers with dots between.
+fn is_version(text: &str) -> bool
+    ensures { result ≡ list_all is_number (parts text.now) }
+{
+    text.split('.').all(|part| is_number(part.as_bytes()))
+}
+
+/// Whether the text keeps within the limits.
+pub(crate) fn is_short(text: &str) -> bool
+    ensures { result ≡ is_short (parts text.now) }
+{
+    text.split('.').count() <= MAX_NUMBERS && text.split('.').all(|part| part.len() <= MAX_DIGITS)
+}
+
+/// The number that the digits write.
+#[tactic(auto, using(crate::proofs::PartLemmas::number_given, crate::proofs::PartLemmas::small_number))]
+pub(crate) fn number_of(part: &str) -> u32
+    requires number { IsTrue (is_number part.now) }
+    requires short { length part.now ≤ 9 }
+    ensures value { result ≡ digits_value 10 part.now }
+    ensures small { result < 1_000_000_000 }
+{
+    match number_up_to(MAX_NUMBER, part.as_bytes()) {
+        Some(number) => number as u32,
+        None => unreachable!(),
+    }
+}
+
+/// Writes a number without leading zeros.
+pub(crate) fn push_number(text: &mut String, number: u32) -> Result<(), AllocError>
+    ensures { OnOk result (string_bytes text.new ≡ string_bytes text.old ++ decimal number) }
+{
+    write!(text, "{number}")
+}
+
+/// Writes the numbers with dots between.
+fn push_numbers(text: &mut String, numbers: &[u32]) -> Result<(), AllocError>
+    ensures { OnOk result (string_bytes text.new ≡ string_bytes text.old ++ version_text numbers.now) }
+{
+    match numbers {
+        [] => Ok(()),
+        [last] => push_number(text, *last),
+        [number, rest @ ..] => {
+            push_number(text, *number)?;
+            text.push('.')?;
+            push_numbers(text, rest)
+        }
     }
 }

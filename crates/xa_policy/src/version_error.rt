@@ -1,7 +1,7 @@
 //! Why a text is no version.
 use thiserror::Error;
 
-/// Why a text is no version, or no pattern of versions (XACML 3.0, sections 5.12 and 5.13). A text of
+/// Why a text is no version, or no pattern of versions (XACML 3.0, core, sections 5.12 and 5.13). A text of
 /// another shape is BadText, however long it is.
 #[derive(Clone, Copy, Debug, PartialEq, Eq, Error)]
 pub enum VersionError {

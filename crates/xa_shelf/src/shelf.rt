@@ -1,4 +1,4 @@
-//! The shelf: at most 128 documents, of which the one that was not asked for for the longest time goes.
+//! The shelf: at most 128 documents, of which the least recently used goes.
 ghost use Rattle.std.specs.Prelude.{◌≡◌, ◌∷◌, [], true, false, take, is_some};
 ghost use Rattle.std.specs.Prelude.{Ok, IfOk, OnOk, OnErr, IfSome, IsOk, IsErr};
 ghost use Rattle.xa_value.specs.Gives.{Gives};
@@ -16,8 +16,8 @@ use xa_value::{OrMemory, Shared};
 /// The most documents that are kept: their texts, of at most 65,536 bytes each, come to 8 MiB at most.
 const MAX_DOCUMENTS: usize = 128;
 
-/// Documents, each under its whole text. Contracts see the texts, the one that was asked for last first,
-/// and the number of texts that weren't held, and so were read.
+/// Documents, each under its whole text. Contracts see the texts, the last asked for first, and how many
+/// texts weren't held, and so were read.
 #[derive(Drop)]
 pub struct Shelf {
     alloc: Global,
@@ -51,8 +51,8 @@ impl Shelf {
     }
 
     /// A share of the text's document, or the text's first fault. A text that is found is neither read
-    /// nor copied, and its document is now the one that was asked for last. A fault isn't kept, nor a
-    /// document for which there is no memory.
+    /// nor copied, and its document is now the last asked for. A fault isn't kept, nor a document for which
+    /// there is no memory.
     pub fn get_or_read(&mut self, text: &[u8]) -> Result<Shared<Parsed>, OrMemory<NotationError>>
         ensures value { Gives result (document_of text.now) }
         ensures found { is_among text.now self.old.texts ≡ true → self.new ≡ found text.now self.old }

@@ -10,9 +10,9 @@ use std::marker::Model;
 use xa_notation::{NotationError, Parsed};
 use xa_value::{OrMemory, Shared};
 
-/// Reads texts for one message, by a shelf: no more bytes of them together than a limit says, whether
-/// they are held or not, so that what others have had read makes no difference. Contracts see how many
-/// bytes are left, and whether more were asked for.
+/// Reads texts for one message, by a shelf, up to a limit of bytes together. A text that is held counts like
+/// any other, so that what others have had read makes no difference. Contracts see how many bytes are left,
+/// and whether more were asked for.
 #[derive(Drop)]
 pub struct TextReader<'a> {
     shelf: &'a mut Shelf,
@@ -31,7 +31,7 @@ impl<'a> Model for TextReader<'a> {
 }
 
 impl<'a> TextReader<'a> {
-    /// A reader by the shelf, of texts of at most so many bytes together.
+    /// A reader by the shelf, of texts of at most this many bytes together.
     pub fn new(shelf: &'a mut Shelf, limit: u64) -> TextReader<'a>
         ensures { result ≡ record { left = limit; is_spent = false } }
     {
@@ -42,9 +42,8 @@ impl<'a> TextReader<'a> {
         }
     }
 
-    /// A share of the text's document, or the text's first fault. Once more bytes were asked for than
-    /// are left, it is answered as if memory were wanting, and so is each text that has any bytes from
-    /// then on.
+    /// A share of the text's document, or the text's first fault. A text longer than what is left is refused
+    /// as want of memory, and so is every later one that isn't empty.
     pub fn read(&mut self, text: &[u8]) -> Result<Shared<Parsed>, OrMemory<NotationError>>
         ensures value { Gives result (document_of text.now) }
         ensures spends { self.new ≡ asked (length text.now) self.old }

@@ -33,8 +33,8 @@ evaluate-returns-in-Apply-clause-value g t c = rw (c.in-Apply.is, outcome_apply)
 pub evaluate-returns-in-HigherOrder-clause-value : goal.evaluate-returns-in-HigherOrder-clause-value
 evaluate-returns-in-HigherOrder-clause-value g t c = rw (c.in-HigherOrder.is, outcome_higher) (rw c.as_slice-in-HigherOrder.ensures at c.apply_higher_order.ensures.value)
 
-pub apply_higher_order-of_function-requires : goal.apply_higher_order-of_function-requires
-apply_higher_order-of_function-requires g t c =
+pub apply_higher_order-call_higher_order-requires : goal.apply_higher_order-call_higher_order-requires
+apply_higher_order-call_higher_order-requires g t c =
     subst (TakesKinds c.args.inner) (sym (ap (map kind_of_each) c.as_slice.ensures ∙ kinds_of_each c.in_ok-given.given ∙ ap (map of_each) c.in_ok-given.ensures.typed)) c.requires.takes
 
 pub apply_to_values-all_values-requires : goal.apply_to_values-all_values-requires
@@ -49,30 +49,30 @@ apply_to_values-returns-in_err-values-clause-value g t c =
 pub apply_to_values-returns-clause-value : goal.apply_to_values-returns-clause-value
 apply_to_values-returns-clause-value g t c =
     let all = applied_collected c.args.function (map (outcome (g.C.Context.values_of c.args.scope.now.context.now) c.args.scope.now.results.now) c.args.arguments.now) ∙ ap (applied_to c.args.function) (c.in_ok-values.ensures.value ∙ ap Ok (sym c.as_slice.ensures)) in
-    rw all c.of_values.ensures.value
+    rw all c.call_function.ensures.value
 
-pub decide-evaluate-requires : goal.decide-evaluate-requires
-decide-evaluate-requires g t c κs within =
+pub are_true-evaluate-requires : goal.are_true-evaluate-requires
+are_true-evaluate-requires g t c κs within =
     let fit = typed_at _ _ _ _ c.requires.typed c.argument-item.is c.loop-argument-test.true in
     search (rules, the_lemmas, fit)
 
-pub decide-returns-in_err-given : goal.decide-returns-in_err-given
-decide-returns-in_err-given g t c =
+pub are_true-returns-in_err-given : goal.are_true-returns-in_err-given
+are_true-returns-in_err-given g t c =
     let so_far = next_place (settling c.args.quantifier) (outcome (g.C.Context.values_of c.args.scope.now.context.now) c.args.scope.now.results.now) _ _ _ _ (walked _ _ _ c.argument-item.is c.loop-argument-test.true) c.loop-argument.invariant in
     place_stops (settling c.args.quantifier) _ _ _ _ c.in_err-given.field-0.0 so_far c.from_residual.ensures.1 c.in_err-given.ensures.value
 
-pub decide-returns-then-truth-sought : goal.decide-returns-then-truth-sought
-decide-returns-then-truth-sought g t c =
+pub are_true-returns-then-truth-sought : goal.are_true-returns-then-truth-sought
+are_true-returns-then-truth-sought g t c =
     let so_far = next_place (settling c.args.quantifier) (outcome (g.C.Context.values_of c.args.scope.now.context.now) c.args.scope.now.results.now) _ _ _ _ (walked _ _ _ c.argument-item.is c.loop-argument-test.true) c.loop-argument.invariant in
     place_decides (settling c.args.quantifier) c.settling-sought.result _ c.in_ok-given.given _ _ _ c.settling-sought.ensures so_far c.in_ok-given.ensures.value c.truth.ensures c.if-truth-sought.true
 
-pub decide-loop-argument-preserved : goal.decide-loop-argument-preserved
-decide-loop-argument-preserved g t c =
+pub are_true-loop-argument-preserved : goal.are_true-loop-argument-preserved
+are_true-loop-argument-preserved g t c =
     let so_far = next_place (settling c.args.quantifier) (outcome (g.C.Context.values_of c.args.scope.now.context.now) c.args.scope.now.results.now) _ _ _ _ (walked _ _ _ c.argument-item.is c.loop-argument-test.true) c.loop-argument.invariant in
     place_passes (settling c.args.quantifier) c.settling-sought.result _ c.in_ok-given.given _ _ _ c.settling-sought.ensures so_far c.in_ok-given.ensures.value c.truth.ensures c.if-truth-sought.false
 
-pub decide-returns : goal.decide-returns
-decide-returns g t c =
+pub are_true-returns : goal.are_true-returns
+are_true-returns g t c =
     no_place_left (settling c.args.quantifier) c.settling-sought.result (outcome (g.C.Context.values_of c.args.scope.now.context.now) c.args.scope.now.results.now) _ _
     c.settling-sought.ensures (drop_all _ _ c.loop-argument-test.false) c.loop-argument.invariant
 

@@ -17,8 +17,8 @@ use Rattle.xa_expr.proofs.evaluation.+evaluation.Given as goal
 abbrev pub decreases-evaluate : goal.decreases-evaluate
 decreases-evaluate g l = 8 * the_size l.expression.now
 
-abbrev pub decreases-decide : goal.decreases-decide
-decreases-decide g l = 8 * most the_size l.arguments.now + 1
+abbrev pub decreases-are_true : goal.decreases-are_true
+decreases-are_true g l = 8 * most the_size l.arguments.now + 1
 
 abbrev pub decreases-all_values : goal.decreases-all_values
 decreases-all_values g l = 8 * most the_size l.arguments.now + 1
@@ -48,8 +48,8 @@ abbrev pub decreases-apply : goal.decreases-apply
 decreases-apply g l = 8 * most the_size l.arguments.now + 4
 
 -- the rest of the places decide for all
-abbrev pub invariant-decide-loop-argument : goal.invariant-decide-loop-argument
-invariant-decide-loop-argument g l =
+abbrev pub invariant-are_true-loop-argument : goal.invariant-are_true-loop-argument
+invariant-are_true-loop-argument g l =
     let v = outcome (g.C.Context.values_of l.scope.context.now) l.scope.results.now in
     verdict (settling l.fn.quantifier) (map place (map v (drop l.argument-index l.arguments))) ≡ verdict (settling l.fn.quantifier) (map place (map v l.arguments))
 

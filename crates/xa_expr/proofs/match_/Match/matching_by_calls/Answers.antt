@@ -16,7 +16,7 @@ use Rattle.xa_expr.specs.declared.match_.Match.{Match}
 use Rattle.xa_expr.specs.declared.matching.Matching.{Matching}
 use Rattle.xa_expr.specs.Evaluation.{Attributes, Outcome, attribute}
 use Rattle.xa_expr.specs.Target.{answer, match_on, match_value, some_match}
-use Rattle.xa_expr.proofs.match_.Match.true_in.Goals as goal
+use Rattle.xa_expr.proofs.match_.Match.matching_by_calls.Goals as goal
 
 -- the values of a bag that was told apart from want of memory are of its type
 of_its_type : (t : DataType) (given : Result ValueOrBag (OrMemory Fault)) (told : Outcome) (bag : ValueOrBag) (vs : List Value)
@@ -33,15 +33,15 @@ by_its_values : {E : Type 0} (attributes : Attributes) (q : Match) (bag : ValueO
 by_its_values attributes q bag vs (Ok m) at are is = is ∙ ap (λ us. some_match (map (answer q) us)) are ∙ sym (ap (match_on q) at)
 by_its_values attributes q bag vs (Err e) at are is = tt
 
-pub found_in-requires : goal.found_in-requires
-found_in-requires g c =
+pub some_match_counted-requires : goal.some_match_counted-requires
+some_match_counted-requires g c =
     of_its_type c.args.self.now.designator.data_type c.attribute.result _ _ c.values.result.now
     c.in_ok-bag.ensures.answer c.in-Ok.is c.attribute.ensures.typed c.values.ensures.of_type
 
 pub returns-in-Ok : goal.returns-in-Ok
 returns-in-Ok g c =
     let at = told_apart _ _ _ c.in_ok-bag.ensures.answer c.attribute.ensures.value ∙ c.in-Ok.is in
-    by_its_values (g.C.Context.values_of c.args.context.now) c.args.self.now _ _ c.found_in.result at c.values.ensures.values c.found_in.ensures
+    by_its_values (g.C.Context.values_of c.args.context.now) c.args.self.now _ _ c.some_match_counted.result at c.values.ensures.values c.some_match_counted.ensures
 
 pub returns-in-Err : goal.returns-in-Err
 returns-in-Err g c =

@@ -1,7 +1,7 @@
 use Rattle.std.proofs.Common.{◌≡◌, [], ◌∷◌, map, drop}
 use Rattle.xa_bag.specs.Bag.{OfType}
 use Rattle.xa_expr.specs.Target.{answer, some_match}
-use Rattle.xa_expr.proofs.match_.Match.found_true.Given as goal
+use Rattle.xa_expr.proofs.match_.Match.some_match.Given as goal
 
 -- the literal alone stands there, the rest of the values are of the type, and what the values so far come to stands for them in front of the rest
 abbrev pub invariant-loop-value : goal.invariant-loop-value
