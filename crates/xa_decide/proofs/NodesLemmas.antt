@@ -1,6 +1,6 @@
 -- Numbers that are counted up to the greatest one: what is counted of parts is what is counted of all.
 use Rattle.std.proofs.Common.{◌≡◌, ℕ, ◌+◌, ◌-◌, ◌^◌, min, arith}
-use Rattle.xa_decide.specs.Places.{counted}
+use Rattle.xa_decide.specs.Nodes.{counted}
 
 -- one more
 pub one_counted : (n : ℕ) → counted (counted n + 1) ≡ counted (1 + n)

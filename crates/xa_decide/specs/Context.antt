@@ -28,7 +28,7 @@ pub record AskContext : Type 0 where
 
 -- ---- the request
 
--- the issuer will do: any, where none is named
+-- the issuer will do: any, if none is named
 abbrev pub is_issuer : Option (List ℕ) → Option (List ℕ) → Bool
 is_issuer None own = true
 is_issuer (Some issuer) None = false
@@ -69,19 +69,19 @@ clock_value moment id t = if is_clock_id t id then moment_as moment t else None
 unfoldable pub category_of : List ℕ → Option Category
 category_of uri = find (λ category. bytes_eq uri (uri_of category)) all_categories
 
--- the id of the attribute that names a category's entity, where one does (core, appendix B.4 to B.6)
+-- the id of the attribute that names a category's entity, if one does (core, appendix B.4 to B.6)
 abbrev pub naming_id : Category → Option (List ℕ)
 naming_id Resource = Some (codes "urn:oasis:names:tc:xacml:1.0:resource:resource-id")
 naming_id Action = Some (codes "urn:oasis:names:tc:xacml:1.0:action:action-id")
 naming_id category =
     if is_subject category then Some (codes "urn:oasis:names:tc:xacml:1.0:subject:subject-id") else None
 
--- the text of a value, and the empty one of a value that is no text
+-- the text of a value; the empty text of a value that is none
 abbrev pub text_of : Value → List ℕ
 text_of (value.String text) = text
 text_of _ = []
 
--- a text, where there is one value, and the empty one otherwise
+-- the text, if there is one value; else the empty text
 abbrev pub only_text : List Value → List ℕ
 only_text [] = []
 only_text (v ∷ []) = text_of v
@@ -92,8 +92,8 @@ abbrev pub strings_of : List ℕ → List ℕ → Designator
 strings_of category id =
     record { category = category; attribute_id = id; data_type = type.String; must_be_present = false; issuer = None }
 
--- the entity of a category: the one string that the request has as the attribute that names it, and the empty text
--- where it has none or several
+-- the entity of a category: the one string that the request has as the attribute that names it; the empty text if it
+-- has none or several
 abbrev pub named_entity : List CategoryObject → List ℕ → Option (List ℕ) → List ℕ
 named_entity objects category None = []
 named_entity objects category (Some id) = only_text (request_values objects (strings_of category id))
@@ -119,17 +119,17 @@ source_values rows entity d = map (λ row. row.value) (filter (is_row entity d) 
 
 -- ---- all of them
 
--- the first values, and where there is none of them, the others
+-- the first values; if there is none of them, the others
 abbrev pub or_else : List Value → List Value → List Value
 or_else [] others = others
 or_else (v ∷ vs) others = v ∷ vs
 
--- the value, where there is one
+-- the value, if there is one
 abbrev pub if_any : Option Value → List Value
 if_any None = []
 if_any (Some v) = v ∷ []
 
--- the clock's attributes are the environment's, and nobody has issued them
+-- the clock's attributes are the environment's, and have no issuer
 abbrev pub clock_value_in : ℤ → Designator → Option Value
 clock_value_in moment d =
     if is_none d.issuer && bytes_eq d.category (uri_of Environment) then clock_value moment d.attribute_id d.data_type

@@ -32,7 +32,7 @@ pub record Viewed : Type 0 where
   pub tree : Option (Result Linked LinkError)
   pub source : List SourceRow
 
--- the tree that a root stands for among the active documents, where there is one: it may be too large
+-- the tree that a root stands for among the active documents, if there is one: it may be too large
 abbrev pub tree_of : List Active → Option Reference → Option (Result Linked LinkError)
 tree_of active None = None
 tree_of active (Some root) = Some (link active root)
@@ -43,7 +43,7 @@ view_by active root source = record { tree = tree_of active root; source = sourc
 
 -- ---- one individual request
 
--- what is decided by the tree: NotApplicable without one, and Indeterminate where it is too large
+-- what is decided by the tree: NotApplicable without one, and Indeterminate if it is too large
 abbrev pub evaluated_by_tree : Attributes → Option (Result Linked LinkError) → Evaluated
 evaluated_by_tree values_of None = without_ids not_applicable
 evaluated_by_tree values_of (Some (Ok tree)) = evaluation values_of tree
@@ -65,13 +65,13 @@ result_without_objects fault = record { evaluated = without_ids (undecided fault
 abbrev pub objects_at : List CategoryObject → List ℕ → List CategoryObject
 objects_at objects places = filter_map (slice_get objects) places
 
--- the result of an individual request; policies and policy sets are named in it where they are asked for
+-- the result of an individual request; policies and policy sets are named in it if they are asked for
 abbrev pub result_of : Viewed → Bool → List CategoryObject → ℤ → Individual → ResultObject
 result_of view asked objects moment (Places places) =
     record { evaluated = as_asked asked (decision view (objects_at objects places) moment); places = places }
 result_of view asked objects moment BadReference = result_without_objects SyntaxError
 
--- the results of all, and the one result where there are too many
+-- the results of all; one result if there are too many
 abbrev pub results_of : Viewed → Bool → List CategoryObject → ℤ → Result (List Individual) TooMany → List ResultObject
 results_of view asked objects moment (Ok individuals) = map (result_of view asked objects moment) individuals
 results_of view asked objects moment (Err e) = result_without_objects ProcessingError ∷ []

@@ -2,7 +2,7 @@ pub mod Asked
 pub mod Context
 pub mod Decision
 pub mod indexing
-pub mod Places
+pub mod Nodes
 pub mod Reading
 pub mod Rows
 pub mod Timeless

@@ -16,8 +16,7 @@ use Rattle.xa_decide.specs.declared.source_row.SourceRow.{SourceRow}
 use Rattle.xa_decide.specs.Context.{values_of}
 use Rattle.xa_decide.specs.Decision.{Viewed, answer, decided}
 
--- no designator of the tree names the clock. Where there is no tree, and where it is too large, no attribute is
--- asked for
+-- no designator of the tree names the clock. If there is no tree, or it is too large, no attribute is asked for
 abbrev pub is_timeless_tree : Option (Result Linked LinkError) → Bool
 is_timeless_tree None = true
 is_timeless_tree (Some (Err e)) = true
@@ -28,12 +27,11 @@ abbrev pub are_timeless : Viewed → Result (List Individual) TooMany → Bool
 are_timeless view (Ok individuals) = is_timeless_tree view.tree
 are_timeless view (Err e) = true
 
--- a request; where one decision for all is wanted (CombinedDecision), one result stands for it
+-- a request; if one decision for all is wanted (CombinedDecision), one result stands for it
 unfoldable pub is_timeless_request : Viewed → Request → Bool
 is_timeless_request view request = if request.combined_decision then true else are_timeless view (individuals request)
 
--- what was read as a request. The one result of JSON that is no request is always the same, and so is it that no JSON
--- has no answer
+-- what was read as a request. JSON that is no request always has the same result. What is no JSON never has an answer
 abbrev pub is_timeless_read : Viewed → Result Request RequestError → Bool
 is_timeless_read view (Ok request) = is_timeless_request view request
 is_timeless_read view (Err e) = true

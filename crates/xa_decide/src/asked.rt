@@ -6,8 +6,8 @@ use crate::request_body::{RequestBody, individuals_of};
 use std::alloc::{AllocError, Global};
 use xa_profile::Request;
 
-/// Whether a request asks the policies: not where one decision for all individual requests is wanted,
-/// nor where there are more than 64 of them.
+/// Whether a request asks the policies: not if one decision for all individual requests is wanted, nor if
+/// there are more than 64 of them.
 fn request_asks(alloc: Global, request: &Request) -> Result<bool, AllocError>
     ensures { IfOk result (λ asks. asks ≡ request_asks request.now) }
 {
@@ -18,7 +18,7 @@ fn request_asks(alloc: Global, request: &Request) -> Result<bool, AllocError>
 }
 
 /// Whether the body of a request asks the policies. One that is no JSON or no request doesn't, nor does
-/// one for all of whose individual requests one result stands: what it is answered is the same whatever
+/// one for all of whose individual requests one result stands. What it is answered is the same whatever
 /// decides (`others_are_answered_alike`), so that nothing of a domain need be read for it.
 #[tactic(auto, unfolding(crate::specs::Asked::asks_policies))]
 pub fn asks_policies(alloc: Global, body: &RequestBody<'_>) -> Result<bool, AllocError>

@@ -10,7 +10,7 @@ use xa_expr::{Budget, Designator, units_of_bag};
 use xa_profile::Attribute;
 use xa_value::{DataType, Text};
 
-/// Whether the issuer will do: any, where none is named.
+/// Whether the issuer will do: any, if none is named.
 pub(crate) fn is_issuer(named: &Option<Text>, own: &Option<Text>) -> bool
     ensures { result ≡ is_issuer named.now own.now }
 {

@@ -27,8 +27,8 @@ fn push_all(bag: &mut Bag, values: &[Value]) -> Result<(), AllocError>
     Ok(())
 }
 
-/// Puts copies of the other bag's values at the end of the bag, which is of their type; at once, where
-/// nothing is in it yet.
+/// Puts copies of the other bag's values at the end of the bag, which is of their type; at once, if nothing
+/// is in it yet.
 pub(crate) fn append(bag: &mut Bag, other: &Bag) -> Result<(), AllocError>
     requires { bag.old.data_type ≡ other.now.data_type }
     ensures { IfOk result (λ _. bag.new ≡ bag_of bag.old.data_type (bag.old.values ++ other.now.values)) }

@@ -31,8 +31,8 @@ fn clock_value(moment: Moment, id: &str, data_type: DataType) -> Option<Value>
     }
 }
 
-/// The value that the clock gives to the designator's attribute (XACML 3.0, core, section 7.3.6):
-/// nobody has issued it.
+/// The value that the clock gives to the designator's attribute (XACML 3.0, core, section 7.3.6), which
+/// has no issuer.
 pub(crate) fn clock_value_in(moment: Moment, designator: &Designator) -> Option<Value>
     ensures value { result ≡ clock_value_in moment designator.now }
     ensures of_type { IfSome result (λ v. type_of v ≡ designator.now.data_type) }

@@ -39,22 +39,6 @@ impl<'a> Model for IndividualContext<'a> {
     ghost view = { λ c. record { objects = c.objects; source = c.source.now; moment = c.moment } };
 }
 
-/// The bytes of a text that may be left out.
-fn bytes_if_any(text: &Option<Text>) -> u64 {
-    match text {
-        Some(text) => text.as_str().len() as u64,
-        None => 0,
-    }
-}
-
-/// The units of looking up an attribute by its category or its entity, by its id, and by its issuer where
-/// one is named: a step, and the bytes of these.
-fn units_of_look_up(owner: &str, designator: &Designator) -> u64 {
-    STEP.saturating_add(owner.len() as u64)
-        .saturating_add(designator.attribute_id.as_str().len() as u64)
-        .saturating_add(bytes_if_any(&designator.issuer))
-}
-
 impl<'a> IndividualContext<'a> {
     /// The context of the individual request that has the objects at these places.
     pub(crate) fn new(
@@ -83,8 +67,8 @@ impl<'a> IndividualContext<'a> {
         units_of_look_up(category, designator).saturating_add(self.objects.units_of_search())
     }
 
-    /// The units of asking the source for an attribute of the entity, which is looked for among the
-    /// objects before.
+    /// The units of asking the source for an attribute of the entity. Before that the entity is looked for
+    /// among the objects.
     fn units_of_asking_source(&self, entity: &str, designator: &Designator) -> u64 {
         units_of_look_up(entity, designator)
             .saturating_add(self.objects.units_of_search())
@@ -192,4 +176,20 @@ impl<'a> Context for IndividualContext<'a> {
     fn spend(&self, units: u64) -> Result<(), AllocError> {
         self.work.spend(units)
     }
+}
+
+/// The bytes of a text that may be left out.
+fn bytes_if_any(text: &Option<Text>) -> u64 {
+    match text {
+        Some(text) => text.as_str().len() as u64,
+        None => 0,
+    }
+}
+
+/// The units of looking up an attribute by its category or its entity, by its id, and by its issuer if
+/// one is named: a step, and the bytes of these.
+fn units_of_look_up(owner: &str, designator: &Designator) -> u64 {
+    STEP.saturating_add(owner.len() as u64)
+        .saturating_add(designator.attribute_id.as_str().len() as u64)
+        .saturating_add(bytes_if_any(&designator.issuer))
 }

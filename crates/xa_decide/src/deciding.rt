@@ -23,62 +23,13 @@ use xa_value::{Items, Moment};
 /// The results of a request, and whether they are the same at every moment.
 #[derive(Drop)]
 pub(crate) struct Outcome {
-    /// A result for each individual request, or one where these aren't decided.
+    /// A result for each individual request, or one if these aren't decided.
     pub(crate) results: Items<ResultObject>,
     /// Whether no attribute of the clock is asked for.
     pub(crate) timeless: bool,
 }
 
-/// What is decided by the tree: NotApplicable without one, and Indeterminate where it is too large.
-/// Policies and policy sets are named where they are asked for.
-#[tactic(auto, using(crate::proofs::NamedLemmas::nothing_asked))]
-fn evaluated_by_tree<C: Context>(
-    alloc: Global,
-    tree: &Option<Result<Linked, LinkError>>,
-    context: &C,
-    names_policies: bool,
-) -> Result<Evaluated, AllocError>
-    ensures { IfOk result (λ e.
-        e ≡ as_asked names_policies (evaluated_by_tree (C.values_of context.now) tree.now)) }
-{
-    match tree {
-        Some(Ok(linked)) => evaluate(alloc, linked, context, names_policies),
-        Some(Err(_)) => Ok(Evaluated::undecided(alloc, Fault::ProcessingError)),
-        None => Ok(Evaluated::not_applicable(alloc)),
-    }
-}
-
-/// The one result of a request whose individual requests aren't decided, and that of a bad reference.
-fn result_without_objects(alloc: Global, fault: Fault) -> ResultObject
-    ensures { result ≡ result_without_objects fault }
-{
-    ResultObject {
-        evaluated: Evaluated::undecided(alloc, fault),
-        places: Items::new(alloc),
-    }
-}
-
-/// The results of a request whose individual requests aren't decided.
-pub(crate) fn one_result(alloc: Global, fault: Fault) -> Result<Items<ResultObject>, AllocError>
-    ensures { IfOk result (λ results. results ≡ result_without_objects fault ∷ []) }
-{
-    let mut results = Items::new(alloc);
-    results.push(result_without_objects(alloc, fault))?;
-    Ok(results)
-}
-
-/// What comes of a request whose individual requests aren't decided.
-fn one_outcome(alloc: Global, fault: Fault) -> Result<Outcome, AllocError>
-    ensures results { IfOk result (λ outcome. outcome.results ≡ result_without_objects fault ∷ []) }
-    ensures timeless { IfOk result (λ outcome. outcome.timeless ≡ true) }
-{
-    Ok(Outcome {
-        results: one_result(alloc, fault)?,
-        timeless: true,
-    })
-}
-
-/// What the individual requests of a request are decided by.
+/// What decides the individual requests of a request.
 #[derive(Drop)]
 struct Deciding<'a> {
     /// The tree, and the source of attributes.
@@ -159,6 +110,55 @@ impl<'a> Deciding<'a> {
     }
 }
 
+/// What is decided by the tree: NotApplicable without one, and Indeterminate if it is too large. Policies
+/// and policy sets are named if they are asked for.
+#[tactic(auto, using(crate::proofs::NamedLemmas::nothing_asked))]
+fn evaluated_by_tree<C: Context>(
+    alloc: Global,
+    tree: &Option<Result<Linked, LinkError>>,
+    context: &C,
+    names_policies: bool,
+) -> Result<Evaluated, AllocError>
+    ensures { IfOk result (λ e.
+        e ≡ as_asked names_policies (evaluated_by_tree (C.values_of context.now) tree.now)) }
+{
+    match tree {
+        Some(Ok(linked)) => evaluate(alloc, linked, context, names_policies),
+        Some(Err(_)) => Ok(Evaluated::undecided(alloc, Fault::ProcessingError)),
+        None => Ok(Evaluated::not_applicable(alloc)),
+    }
+}
+
+/// The one result of a request whose individual requests aren't decided, and that of a bad reference.
+fn result_without_objects(alloc: Global, fault: Fault) -> ResultObject
+    ensures { result ≡ result_without_objects fault }
+{
+    ResultObject {
+        evaluated: Evaluated::undecided(alloc, fault),
+        places: Items::new(alloc),
+    }
+}
+
+/// The results of a request whose individual requests aren't decided.
+pub(crate) fn one_result(alloc: Global, fault: Fault) -> Result<Items<ResultObject>, AllocError>
+    ensures { IfOk result (λ results. results ≡ result_without_objects fault ∷ []) }
+{
+    let mut results = Items::new(alloc);
+    results.push(result_without_objects(alloc, fault))?;
+    Ok(results)
+}
+
+/// What comes of a request whose individual requests aren't decided.
+fn one_outcome(alloc: Global, fault: Fault) -> Result<Outcome, AllocError>
+    ensures results { IfOk result (λ outcome. outcome.results ≡ result_without_objects fault ∷ []) }
+    ensures timeless { IfOk result (λ outcome. outcome.timeless ≡ true) }
+{
+    Ok(Outcome {
+        results: one_result(alloc, fault)?,
+        timeless: true,
+    })
+}
+
 /// The objects, each with its attributes put in order.
 fn indexed_objects<'a>(
     alloc: Global,
@@ -223,7 +223,7 @@ fn outcome_by(
     }
 }
 
-/// What comes of the request. Where its large bags are searched so often that it takes no longer to put
+/// What comes of the request. If its large bags are searched so often that it takes no longer to put
 /// their values in order, that is done, and the request is decided again from the start, with what is
 /// left of the work.
 pub(crate) fn outcome_of_request(
@@ -238,7 +238,7 @@ pub(crate) fn outcome_of_request(
     let work = Work::new(view, request.objects.as_slice());
     match outcome_by(alloc, view, request, moment, &work) {
         Err(_) if work.wants_order() => {
-            outcome_by(alloc, view, request, moment, &work.ordered())
+            outcome_by(alloc, view, request, moment, &work.into_ordered())
         },
         outcome => outcome,
     }

@@ -33,9 +33,10 @@ pub struct Responded {
     pub timeless: bool,
 }
 
-/// The response to the request at the moment: a result for each of its individual requests, by the tree
-/// that the view's root stands for, or one result where these aren't decided. Want of memory is the only
-/// error; it is also what comes where one of the view's limits is reached.
+/// The response to the request at the moment (XACML 3.0, core, sections 7.17 and 7.19; Multiple Decision
+/// Profile): a result for each of its individual requests, by the tree that the view's root stands for,
+/// or one result if these aren't decided. Want of memory is the only error; it is also what comes if one
+/// of the view's limits is reached.
 pub fn decide<'a>(
     alloc: Global,
     view: &View,
@@ -56,8 +57,7 @@ pub fn decide<'a>(
     })
 }
 
-/// The body of a response, if it may have so many bytes, beside what is said of it: whether it is the same
-/// at every moment.
+/// The body of a response, if it may have so many bytes, and whether it is the same at every moment.
 fn respond_with(
     alloc: Global,
     view: &View,
@@ -105,7 +105,7 @@ fn respond_to_request(
 }
 
 /// The body of the response to the body of a request, at the moment, and whether it is the same at every
-/// moment; none, where the body of the request is no JSON. JSON that is no request of the JSON Profile
+/// moment; none, if the body of the request is no JSON. JSON that is no request of the JSON Profile
 /// has a response, of the status syntax-error.
 #[tactic(auto, unfolding(crate::specs::Decision::answer, crate::specs::Timeless::is_timeless_answer))]
 pub fn respond(
@@ -126,7 +126,7 @@ pub fn respond(
     }
 }
 
-/// The body of the response to the body of a request, at the moment; none, where that is no JSON.
+/// The body of the response to the body of a request, at the moment; none, if the latter is no JSON.
 pub fn answer(
     alloc: Global,
     view: &View,

@@ -5,16 +5,21 @@ ghost use Rattle.xa_decide.specs.Context.{category_of, naming_id, naming_id_of};
 
 use xa_value::Category;
 
-/// The first of the categories whose URI it is.
+/// Whether the text is the category's URI.
+fn is_uri(text: &str, category: Category) -> bool
+    ensures { result ≡ bytes_eq text.now (uri_of category) }
+{
+    text == category.uri()
+}
+
+/// The first of the categories that has the URI.
 fn first_with_uri(categories: &[Category], uri: &str) -> Option<Category>
     ensures { result ≡ find (λ category. bytes_eq uri.now (uri_of category)) categories.now }
 {
-    for category in categories {
-        if uri == category.uri() {
-            return Some(*category);
-        }
-    }
-    None
+    categories
+        .iter()
+        .copied()
+        .find(|category| is_uri(uri, *category))
 }
 
 /// The category of a URI.
@@ -25,7 +30,7 @@ fn category_of(uri: &str) -> Option<Category>
     first_with_uri(&Category::ALL, uri)
 }
 
-/// The id of the attribute that names an entity of the category, where one does.
+/// The id of the attribute that names an entity of the category, if one does.
 fn naming_id(category: Category) -> Option<&'static str>
     ensures { option_map (λ id. id.now) result ≡ naming_id category }
 {
@@ -39,7 +44,7 @@ fn naming_id(category: Category) -> Option<&'static str>
     }
 }
 
-/// The id of the attribute that names an entity of the category with that URI, where one does.
+/// The id of the attribute that names an entity of the category with that URI, if one does.
 pub(crate) fn naming_id_of(category: &str) -> Option<&'static str>
     ensures { option_map (λ id. id.now) result ≡ naming_id_of (category_of category.now) }
 {

@@ -20,8 +20,8 @@ use xa_bag::{Bag, Members};
 use xa_expr::{Budget, Designator};
 use xa_profile::{Attribute, CategoryObject};
 
-/// A Category object, with its attributes to be found, and with what is told of it once for all: it is made
-/// once for an object, whatever the number of the individual requests that have it.
+/// A Category object, with its attributes to be found, what names its entity, and what it costs to write. It
+/// is made once for an object, however many individual requests have it.
 #[derive(Drop)]
 pub(crate) struct IndexedObject<'a> {
     /// The object.
@@ -30,7 +30,7 @@ pub(crate) struct IndexedObject<'a> {
     by_name: Vec<usize>,
     /// Their places by their ids, types and issuers.
     by_issuer: Vec<usize>,
-    /// Their values, to be searched where that is asked for often.
+    /// Their values, to be searched if that is asked for often.
     members: Option<Vec<Members<'a>>>,
     /// What names its entity.
     naming: Naming<'a>,
@@ -56,22 +56,6 @@ impl<'a> Model for IndexedObject<'a> {
         × (said_by o.naming ≡ said (naming_values o.object.now)) × IsOfTypes o.object.now };
 }
 
-/// The values of the attribute are of its type: a law.
-fn keeps_type(attribute: &Attribute)
-    ensures { IsOfType attribute.now }
-{
-    attribute.values.values();
-}
-
-/// The values of each attribute are of its type: a law, whose loop does nothing.
-fn keep_types(attributes: &[Attribute])
-    ensures { All IsOfType attributes.now }
-{
-    for attribute in attributes {
-        keeps_type(attribute);
-    }
-}
-
 impl<'a> IndexedObject<'a> {
     /// The object, with its attributes put in order.
     pub(crate) fn new(
@@ -93,14 +77,6 @@ impl<'a> IndexedObject<'a> {
             naming: naming_of(object),
             writing_cost: cost_of_object(object),
         })
-    }
-
-    /// The values of each of the object's attributes are of its type: a law.
-    pub(crate) fn keeps_types(&self)
-        ensures { IsOfTypes self.now }
-    {
-        // Nothing is done: the clause is for the prover, a part of the type's invariant.
-        let _ = &self.object;
     }
 
     /// What it costs to write what stands of the object in a result.
@@ -127,8 +103,8 @@ impl<'a> IndexedObject<'a> {
         self.object.attributes.as_slice()
     }
 
-    /// The object's attributes, where they are few and their values are looked at one by one, to be gone
-    /// through one after another.
+    /// The object's attributes, to be gone through one after another, if they are few and their values are
+    /// looked at one by one.
     pub(crate) fn few(&self) -> Option<&'a [Attribute]>
         ensures { IfSome result (λ few. few.now ≡ self.now.attributes) }
     {
@@ -138,8 +114,8 @@ impl<'a> IndexedObject<'a> {
         }
     }
 
-    /// The attribute that has the place, beside its values, to be searched; none of these, where they are
-    /// looked at one by one.
+    /// The attribute that has the place, and its values, to be searched; none of these, if they are looked
+    /// at one by one.
     pub(crate) fn attribute_at(&self, place: usize) -> Option<(&'a Attribute, Option<&Members<'a>>)>
         ensures found { option_map (λ found. found.0.now) result ≡ slice_get self.now.attributes place }
         ensures values { IfSome result (λ found.
@@ -179,6 +155,14 @@ impl<'a> IndexedObject<'a> {
             Some(_) => places_among::<ByIssuer>(attributes, self.by_issuer.as_slice(), &key),
         }
     }
+
+    /// The values of each of the object's attributes are of its type: a law.
+    pub(crate) fn keeps_types(&self)
+        ensures { IsOfTypes self.now }
+    {
+        // Nothing is done: the clause is for the prover, a part of the type's invariant.
+        let _ = &self.object;
+    }
 }
 
 /// Puts the values of the object's attributes that the designator names at the end of the bag.
@@ -200,4 +184,20 @@ pub(crate) fn push_object(
         }
     }
     Ok(())
+}
+
+/// The values of the attribute are of its type: a law.
+fn keeps_type(attribute: &Attribute)
+    ensures { IsOfType attribute.now }
+{
+    attribute.values.values();
+}
+
+/// The values of each attribute are of its type: a law, whose loop does nothing.
+fn keep_types(attributes: &[Attribute])
+    ensures { All IsOfType attributes.now }
+{
+    for attribute in attributes {
+        keeps_type(attribute);
+    }
 }

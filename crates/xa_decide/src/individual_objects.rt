@@ -63,41 +63,6 @@ impl<'a> Model for IndividualObjects<'a> {
         IsOrder object_key_of o.objects.items o.order.items × All (λ x. IsOfTypes x.now) o.objects.items };
 }
 
-/// The objects that have these places.
-fn objects_at<'a>(
-    alloc: Global,
-    objects: &'a [IndexedObject<'a>],
-    places: &[usize],
-) -> Result<Vec<&'a IndexedObject<'a>>, AllocError>
-    ensures { IfOk result (λ chosen. map (λ o. o.now) chosen.items ≡ objects_at objects.now places.now) }
-{
-    let mut chosen = Vec::new(alloc);
-    for place in places {
-        if let Some(object) = item_at(objects, *place) {
-            chosen.push(object)?;
-        }
-    }
-    Ok(chosen)
-}
-
-/// The values of each attribute of the objects are of its type: a law, whose loop does nothing.
-fn keep_types(objects: &[&IndexedObject<'_>])
-    ensures { All (λ o. IsOfTypes o.now) objects.now }
-{
-    for object in objects {
-        object.keeps_types();
-    }
-}
-
-/// The units of a search among the objects, and then among the attributes of that which has most.
-fn units_of_longest_search(objects: &[&IndexedObject<'_>]) -> u64 {
-    let mut longest = 0u64;
-    for object in objects {
-        longest = longest.max(object.units_of_search());
-    }
-    units_of_search(objects.len()).saturating_add(longest)
-}
-
 impl<'a> IndividualObjects<'a> {
     /// The objects that have these places, put in order.
     pub(crate) fn new(
@@ -121,14 +86,6 @@ impl<'a> IndividualObjects<'a> {
     /// The units of finding an attribute: of the longest search that there may be.
     pub(crate) fn units_of_search(&self) -> u64 {
         self.search
-    }
-
-    /// The values of each attribute of the objects are of its type: a law.
-    pub(crate) fn keeps_types(&self)
-        ensures { All IsOfTypes self.now }
-    {
-        // Nothing is done: the clause is for the prover, a part of the type's invariant.
-        let _ = &self.order;
     }
 
     /// All objects, in request order.
@@ -186,7 +143,7 @@ impl<'a> IndividualObjects<'a> {
         let places = self.places(category);
         for place in places {
             if let Some(object) = self.object(*place) {
-                naming = naming.joined(object.naming_in(category));
+                naming = naming.and(object.naming_in(category));
             }
         }
         naming
@@ -198,6 +155,40 @@ impl<'a> IndividualObjects<'a> {
     {
         self.naming(category).text()
     }
+
+    /// The values of each attribute of the objects are of its type: a law.
+    pub(crate) fn keeps_types(&self)
+        ensures { All IsOfTypes self.now }
+    {
+        // Nothing is done: the clause is for the prover, a part of the type's invariant.
+        let _ = &self.order;
+    }
+}
+
+/// The objects that have these places.
+fn objects_at<'a>(
+    alloc: Global,
+    objects: &'a [IndexedObject<'a>],
+    places: &[usize],
+) -> Result<Vec<&'a IndexedObject<'a>>, AllocError>
+    ensures { IfOk result (λ chosen. map (λ o. o.now) chosen.items ≡ objects_at objects.now places.now) }
+{
+    let mut chosen = Vec::new(alloc);
+    for place in places {
+        if let Some(object) = item_at(objects, *place) {
+            chosen.push(object)?;
+        }
+    }
+    Ok(chosen)
+}
+
+/// The units of a search among the objects, and then among the attributes of the one that has most.
+fn units_of_longest_search(objects: &[&IndexedObject<'_>]) -> u64 {
+    let longest = objects.iter().fold(
+        0u64,
+        |longest, object| longest.max(object.units_of_search()),
+    );
+    units_of_search(objects.len()).saturating_add(longest)
 }
 
 /// Puts the values of the object's attributes that the designator names at the end of the bag, if it is
@@ -217,4 +208,13 @@ fn push_of_category(
         push_object(budget, bag, designator, object)?;
     }
     Ok(())
+}
+
+/// The values of each attribute of the objects are of its type: a law, whose loop does nothing.
+fn keep_types(objects: &[&IndexedObject<'_>])
+    ensures { All (λ o. IsOfTypes o.now) objects.now }
+{
+    for object in objects {
+        object.keeps_types();
+    }
 }

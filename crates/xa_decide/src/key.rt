@@ -7,19 +7,19 @@ ghost use Rattle.std.proofs.Common.{rules};
 use std::cmp::Ordering;
 use std::marker::Model;
 
-/// What is looked up in an index: a number, and the texts of an attribute or a row, each empty where the
+/// What is looked up in an index: a number, and the texts of an attribute or a row, each empty if the
 /// index doesn't go by it.
 #[derive(Debug, Drop)]
 pub(crate) struct Key<'a> {
-    /// A data type's number, moved past those of all types where an issuer is a part of the key.
+    /// A data type's number, moved past those of all types if an issuer is a part of the key.
     pub(crate) number: usize,
     /// The category's URI.
     pub(crate) category: &'a str,
-    /// The entity, of a row.
+    /// The row's entity.
     pub(crate) entity: &'a str,
     /// The attribute's id.
     pub(crate) id: &'a str,
-    /// Who says so.
+    /// The issuer.
     pub(crate) issuer: &'a str,
 }
 

@@ -14,87 +14,6 @@ use xa_value::{DataType, Text};
 /// to 10, and one with an issuer has that number and this, from 11 to 21.
 const TYPES: usize = 11;
 
-/// A key that nobody asks for, past those of all types. Attributes without values have it: they give
-/// nothing to a bag, and would be in the way.
-fn unsought_key<'a>() -> Key<'a>
-    ensures { result ≡ unsought }
-{
-    Key {
-        number: 2 * TYPES,
-        category: "",
-        entity: "",
-        id: "",
-        issuer: "",
-    }
-}
-
-/// The key of a category.
-pub(crate) fn category_key(category: &str) -> Key<'_>
-    ensures { result ≡ category_key category.now }
-{
-    Key {
-        number: 0,
-        category,
-        entity: "",
-        id: "",
-        issuer: "",
-    }
-}
-
-/// The key of a row's category, entity, id and type.
-pub(crate) fn row_key<'a>(
-    category: &'a str,
-    entity: &'a str,
-    id: &'a str,
-    data_type: DataType,
-) -> Key<'a>
-    ensures { result ≡ row_key category.now entity.now id.now data_type }
-{
-    Key {
-        number: usize::from(data_type.number()),
-        category,
-        entity,
-        id,
-        issuer: "",
-    }
-}
-
-/// The key of a row's category, entity, id, type and issuer, where it has one.
-pub(crate) fn issued_row_key<'a>(
-    category: &'a str,
-    entity: &'a str,
-    id: &'a str,
-    data_type: DataType,
-    issuer: &'a Option<Text>,
-) -> Key<'a>
-    ensures { result ≡ issued_row_key category.now entity.now id.now data_type issuer.now }
-{
-    match issuer {
-        None => row_key(category, entity, id, data_type),
-        Some(issuer) => Key {
-            number: TYPES + usize::from(data_type.number()),
-            category,
-            entity,
-            id,
-            issuer: issuer.as_str(),
-        },
-    }
-}
-
-/// The key of an attribute's id and type.
-pub(crate) fn name_key(id: &str, data_type: DataType) -> Key<'_>
-    ensures { result ≡ name_key id.now data_type }
-{
-    row_key("", "", id, data_type)
-}
-
-/// The key of an attribute's id, type and issuer, where it has one.
-pub(crate) fn issuer_key<'a>(id: &'a str, data_type: DataType, issuer: &'a Option<Text>) -> Key<'a>
-    ensures { result ≡ issuer_key id.now data_type issuer.now }
-{
-    issued_row_key("", "", id, data_type, issuer)
-}
-
 /// Attributes by their ids and types.
 pub(crate) struct ByName;
 
@@ -157,4 +76,85 @@ impl Keying for ByIssuedRow {
         let data_type = row.value.data_type();
         issued_row_key(category, row.entity.as_str(), id, data_type, &row.issuer)
     }
+}
+
+/// A key that nobody asks for, past those of all types. Attributes without values have it: they give
+/// nothing to a bag, and would be in the way.
+fn unsought_key<'a>() -> Key<'a>
+    ensures { result ≡ unsought }
+{
+    Key {
+        number: 2 * TYPES,
+        category: "",
+        entity: "",
+        id: "",
+        issuer: "",
+    }
+}
+
+/// The key of a category.
+pub(crate) fn category_key(category: &str) -> Key<'_>
+    ensures { result ≡ category_key category.now }
+{
+    Key {
+        number: 0,
+        category,
+        entity: "",
+        id: "",
+        issuer: "",
+    }
+}
+
+/// The key of a row's category, entity, id and type.
+pub(crate) fn row_key<'a>(
+    category: &'a str,
+    entity: &'a str,
+    id: &'a str,
+    data_type: DataType,
+) -> Key<'a>
+    ensures { result ≡ row_key category.now entity.now id.now data_type }
+{
+    Key {
+        number: usize::from(data_type.number()),
+        category,
+        entity,
+        id,
+        issuer: "",
+    }
+}
+
+/// The key of a row's category, entity, id, type and issuer, if it has one.
+pub(crate) fn issued_row_key<'a>(
+    category: &'a str,
+    entity: &'a str,
+    id: &'a str,
+    data_type: DataType,
+    issuer: &'a Option<Text>,
+) -> Key<'a>
+    ensures { result ≡ issued_row_key category.now entity.now id.now data_type issuer.now }
+{
+    match issuer {
+        None => row_key(category, entity, id, data_type),
+        Some(issuer) => Key {
+            number: TYPES + usize::from(data_type.number()),
+            category,
+            entity,
+            id,
+            issuer: issuer.as_str(),
+        },
+    }
+}
+
+/// The key of an attribute's id and type.
+pub(crate) fn name_key(id: &str, data_type: DataType) -> Key<'_>
+    ensures { result ≡ name_key id.now data_type }
+{
+    row_key("", "", id, data_type)
+}
+
+/// The key of an attribute's id, type and issuer, if it has one.
+pub(crate) fn issuer_key<'a>(id: &'a str, data_type: DataType, issuer: &'a Option<Text>) -> Key<'a>
+    ensures { result ≡ issuer_key id.now data_type issuer.now }
+{
+    issued_row_key("", "", id, data_type, issuer)
 }

@@ -24,8 +24,8 @@ use xa_profile::Attribute;
 use xa_value::Value;
 
 /// A look for a value among those of a designator. It takes the units of the values that it comes to
-/// twice, as the designator's bag does, once where it is made and once where it is given, and those of a
-/// look at each; where the values are in order, those of a search.
+/// twice, as the designator's bag does, once when it is made and once when it is given, and those of a
+/// look at each. If the values are in order, it takes those of a search.
 #[derive(Drop)]
 pub(crate) struct Look<'a> {
     /// What it is paid from.
@@ -34,13 +34,6 @@ pub(crate) struct Look<'a> {
     pub(crate) designator: &'a Designator,
     /// The value that is looked for.
     pub(crate) sought: &'a Value,
-}
-
-/// The units of so many values that have these units together.
-fn units_of_looks(units: u64, count: usize) -> u64 {
-    units
-        .saturating_mul(2)
-        .saturating_add(LOOK.saturating_mul(count as u64))
 }
 
 impl<'a> Look<'a> {
@@ -62,8 +55,8 @@ impl<'a> Look<'a> {
         Ok(Looked::among(self.sought, members))
     }
 
-    /// A look at the values of the attribute: by their order, where they are many and are put in order,
-    /// and else at one after another.
+    /// A look at the values of the attribute: by their order, if they are many and are put in order, and
+    /// else at one after another.
     fn at_values(
         &self,
         attribute: &Attribute,
@@ -229,4 +222,11 @@ impl<'a> Look<'a> {
         }
         Ok(so_far)
     }
+}
+
+/// The units of so many values that have these units together.
+fn units_of_looks(units: u64, count: usize) -> u64 {
+    units
+        .saturating_mul(2)
+        .saturating_add(LOOK.saturating_mul(count as u64))
 }

@@ -34,7 +34,7 @@ impl<'a> Naming<'a> {
     }
 
     /// What both say together.
-    pub(crate) fn joined(self, other: Naming<'a>) -> Naming<'a>
+    pub(crate) fn and(self, other: Naming<'a>) -> Naming<'a>
         ensures { said_by result ≡ both (said_by self.entry) (said_by other.entry) }
     {
         match (self, other) {
@@ -44,7 +44,7 @@ impl<'a> Naming<'a> {
         }
     }
 
-    /// The text, where there is one value, and the empty one otherwise.
+    /// The text, if there is one value; else the empty text.
     pub(crate) fn text(self) -> &'a str
         ensures { result.now ≡ text_said (said_by self.entry) }
     {
@@ -55,7 +55,7 @@ impl<'a> Naming<'a> {
     }
 }
 
-/// The text of a value, and the empty one of a value that is no text.
+/// The text of a value; the empty text of a value that is none.
 fn text_of(value: &Value) -> &str
     ensures { result.now ≡ text_of value.now }
 {
@@ -85,7 +85,7 @@ fn naming_of_attributes<'a>(id: &str, attributes: &'a [Attribute]) -> Naming<'a>
 {
     let mut naming = Naming::Nobody;
     for attribute in attributes {
-        naming = naming.joined(naming_of_attribute(id, attribute));
+        naming = naming.and(naming_of_attribute(id, attribute));
     }
     naming
 }

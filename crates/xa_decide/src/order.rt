@@ -18,6 +18,19 @@ const PLACES: &[usize] = &[0, 1, 2, 3, 4, 5, 6, 7];
 /// several texts.
 const HALVING: u64 = STEP + STEP / 2;
 
+/// How items are found: by their keys.
+pub(crate) trait Keying {
+    /// What is found.
+    type Item;
+
+    /// An item's key.
+    ghost key_of: { Self.Item → Sought };
+
+    /// An item's key.
+    fn key(item: &Self::Item) -> Key<'_>
+        ensures { result ≡ key_of item.now };
+}
+
 /// Whether so many items are looked at one after another.
 pub(crate) fn are_few(count: usize) -> bool
     ensures { result ≡ nat_le count 8 }
@@ -42,19 +55,6 @@ pub(crate) fn units_of_search(count: usize) -> u64 {
 /// The units of putting so many items in order: for each as much as half a search.
 pub(crate) fn units_of_order(count: usize) -> u64 {
     (count as u64).saturating_mul(units_of_search(count) / 2)
-}
-
-/// By what items are found.
-pub(crate) trait Keying {
-    /// What is found.
-    type Item;
-
-    /// An item's key.
-    ghost key_of: { Self.Item → Sought };
-
-    /// An item's key.
-    fn key(item: &Self::Item) -> Key<'_>
-        ensures { result ≡ key_of item.now };
 }
 
 /// The item that has the place: `get`, with a clause in the words of what an order finds.
@@ -90,7 +90,7 @@ fn places_in_order<K: Keying>(alloc: Global, items: &[K::Item]) -> Result<Vec<us
     Ok(order)
 }
 
-/// The places of the items, in the order of their keys, where there are more than a few items.
+/// The places of the items, in the order of their keys; none, if there are few items.
 pub(crate) fn order_of<K: Keying>(
     alloc: Global,
     items: &[K::Item],
@@ -123,7 +123,7 @@ fn few_places(count: usize) -> &'static [usize]
     PLACES.split_at(count).0
 }
 
-/// Places among which are those of all items of that key, in their own order: all places where there are
+/// Places among which are those of all items of that key, in their own order: all places if there are
 /// few, and else those of the key.
 #[tactic(auto, using(crate::proofs::IndexLemmas::found_twice))]
 pub(crate) fn places_among<'o, K: Keying>(

@@ -31,7 +31,7 @@ impl<'a> Model for RequestBody<'a> {
 
 impl<'a> RequestBody<'a> {
     /// Reads the body. Want of memory is the only error: what is no request is kept as such. What
-    /// this costs grows with the body.
+    /// reading costs grows with the body.
     pub fn read(alloc: Global, bytes: &'a [u8]) -> Result<RequestBody<'a>, AllocError>
         ensures { IfOk result (λ body. body ≡ bytes.now) }
     {

@@ -32,7 +32,7 @@ const RESULT: WritingCost = WritingCost {
 };
 
 /// A policy or a policy set that is named, beside its id and its version.
-const NAME: WritingCost = WritingCost {
+const IDENTIFIER: WritingCost = WritingCost {
     units: 32,
     bytes: 16,
 };
@@ -43,7 +43,7 @@ const NUMBER: WritingCost = WritingCost {
     bytes: 1,
 };
 
-/// What it costs to write an attribute of the request: nothing, where it isn't to stand in a result.
+/// What it costs to write an attribute of the request: nothing, if it isn't to stand in a result.
 fn cost_of_attribute(attribute: &Attribute) -> WritingCost {
     if !attribute.include_in_result {
         return WritingCost::NOTHING;
@@ -62,7 +62,7 @@ fn cost_of_attributes(object: &CategoryObject) -> WritingCost {
     )
 }
 
-/// What it costs to write what stands of the object in each result that has it: nothing, where none of its
+/// What it costs to write what stands of the object in each result that has it: nothing, if none of its
 /// attributes is to stand there.
 pub(crate) fn cost_of_object(object: &CategoryObject) -> WritingCost {
     let attributes = cost_of_attributes(object);
@@ -74,15 +74,20 @@ pub(crate) fn cost_of_object(object: &CategoryObject) -> WritingCost {
         .and(WritingCost::of_text(&object.category))
 }
 
-/// What it costs to write what stands of the objects at the places in a result.
-fn cost_at(objects: &[IndexedObject<'_>], places: &[usize]) -> WritingCost {
-    let mut all = WritingCost::NOTHING;
-    for place in places {
-        if let Some(object) = objects.get(*place) {
-            all = all.and(object.writing_cost());
-        }
+/// What it costs to write what stands of the object at the place in a result; nothing, if there is none.
+fn cost_at(objects: &[IndexedObject<'_>], place: usize) -> WritingCost {
+    match objects.get(place) {
+        Some(object) => object.writing_cost(),
+        None => WritingCost::NOTHING,
     }
-    all
+}
+
+/// What it costs to write what stands of the objects at the places in a result.
+fn cost_of_places(objects: &[IndexedObject<'_>], places: &[usize]) -> WritingCost {
+    places.iter().fold(
+        WritingCost::NOTHING,
+        |all, place| all.and(cost_at(objects, *place)),
+    )
 }
 
 /// What it costs to write an attribute that an obligation or a piece of advice carries.
@@ -117,7 +122,8 @@ fn cost_of_duties(duties: &Duties) -> WritingCost {
 
 /// What it costs to name a policy or a policy set.
 fn cost_of_key(key: &DocumentKey) -> WritingCost {
-    NAME.and(WritingCost::of_text(&key.id))
+    IDENTIFIER
+        .and(WritingCost::of_text(&key.id))
         .and(NUMBER.times(key.version.numbers().len()))
 }
 
@@ -136,7 +142,7 @@ pub(crate) fn cost_of_result(
     evaluated: &Evaluated,
 ) -> WritingCost {
     RESULT
-        .and(cost_at(objects, places))
+        .and(cost_of_places(objects, places))
         .and(cost_of_duties(&evaluated.duties))
         .and(cost_of_keys(evaluated.ids.as_slice()))
 }

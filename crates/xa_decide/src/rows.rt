@@ -49,6 +49,23 @@ impl Reader for RowReader {
     }
 }
 
+impl ToJson for SourceRow {
+    ghost written = { λ r. row_data r };
+
+    #[tactic(auto, unfolding(crate::specs::Rows::row_data), using(crate::proofs::RowLemmas::text_if_any_first))]
+    fn write(&self, alloc: Global, out: &mut Writer) -> Result<(), AllocError> {
+        out.begin_object()?;
+        write_text(out, Member::AttributeId, self.attribute_id.as_str())?;
+        write_text(out, Member::Category, self.category.as_str())?;
+        write_data_type(out, self.value.data_type())?;
+        write_text(out, Member::Entity, self.entity.as_str())?;
+        write_text_if_any(out, Member::Issuer, &self.issuer)?;
+        out.key(Member::Value.name())?;
+        self.value.write(alloc, out)?;
+        out.end_object()
+    }
+}
+
 /// The rows, of an object with this member.
 #[tactic(auto, unfolding(crate::specs::Rows::rows))]
 fn rows(alloc: Global, value: &Json) -> Result<Items<SourceRow>, OrMemory<NotationError>>
@@ -63,11 +80,11 @@ fn rows(alloc: Global, value: &Json) -> Result<Items<SourceRow>, OrMemory<Notati
 }
 
 /// The rows that a body sets, `{"Row":[..]}`, each
-/// `{"Category","Entity","AttributeId","DataType","Value","Issuer"}`, where the issuer may be left out:
-/// the category by its shorthand or any text, the data type by its URI or its name alone, the value as
-/// in a literal (XACML 3.0, core, section 5.31). Or the body's first fault: NotJson; then of the whole,
-/// and then of each row in order, UnknownMember, MissingMember in table order, and BadValue in table
-/// order. A body that is no object is a BadValue. Any number of rows is read.
+/// `{"Category","Entity","AttributeId","DataType","Value","Issuer"}`: the category by its shorthand or any
+/// text, the data type by its URI or its name alone, the value as in a literal (XACML 3.0, core, section
+/// 5.31). The issuer may be left out. Or the body's first fault: NotJson; then of the whole, and then of
+/// each row in order, UnknownMember, MissingMember in table order, and BadValue in table order. A body
+/// that is no object is a BadValue. Any number of rows is read.
 #[tactic(auto, unfolding(crate::specs::Rows::rows_of))]
 pub fn read_rows(alloc: Global, body: &[u8]) -> Result<Items<SourceRow>, OrMemory<NotationError>>
     ensures { Gives result (rows_of body.now) }
@@ -76,8 +93,8 @@ pub fn read_rows(alloc: Global, body: &[u8]) -> Result<Items<SourceRow>, OrMemor
     rows(alloc, &value)
 }
 
-/// Writes a text as a member. This and the two below are those of `xa_profile` again: its members, and so
-/// their names, are others.
+/// Writes a text as a member. This and the two below are those of `xa_profile` again, whose members have
+/// other names.
 fn write_text(out: &mut Writer, name: Member, text: &str) -> Result<(), AllocError>
     ensures { Appends result out.old out.new (key (name_of name) ∷ string text.now ∷ []) }
 {
@@ -93,30 +110,13 @@ fn write_data_type(out: &mut Writer, data_type: DataType) -> Result<(), AllocErr
     write_text(out, Member::DataType, data_type.uri())
 }
 
-/// Writes a text as a member, and nothing where there is none.
+/// Writes a text as a member; nothing if there is none.
 fn write_text_if_any(out: &mut Writer, name: Member, text: &Option<Text>) -> Result<(), AllocError>
     ensures { Appends result out.old out.new (text_if_any_tokens name text.now) }
 {
     match text {
         Some(text) => write_text(out, name, text.as_str()),
         None => Ok(()),
-    }
-}
-
-impl ToJson for SourceRow {
-    ghost written = { λ r. row_data r };
-
-    #[tactic(auto, unfolding(crate::specs::Rows::row_data), using(crate::proofs::RowLemmas::text_if_any_first))]
-    fn write(&self, alloc: Global, out: &mut Writer) -> Result<(), AllocError> {
-        out.begin_object()?;
-        write_text(out, Member::AttributeId, self.attribute_id.as_str())?;
-        write_text(out, Member::Category, self.category.as_str())?;
-        write_data_type(out, self.value.data_type())?;
-        write_text(out, Member::Entity, self.entity.as_str())?;
-        write_text_if_any(out, Member::Issuer, &self.issuer)?;
-        out.key(Member::Value.name())?;
-        self.value.write(alloc, out)?;
-        out.end_object()
     }
 }
 

@@ -3,7 +3,7 @@ ghost use Rattle.std.specs.Prelude.{◌≡◌, ◌+◌, ◌<◌, [], false, true
 ghost use Rattle.xa_link.specs.Linking.{link};
 ghost use Rattle.xa_link.specs.Reading.{reading};
 ghost use Rattle.xa_decide.specs.Decision.{tree_of, view_by};
-ghost use Rattle.xa_decide.specs.Places.{counted, nodes, nodes_of_all, places_of_tree};
+ghost use Rattle.xa_decide.specs.Nodes.{counted, nodes, nodes_of_all, nodes_of_tree};
 ghost use Rattle.xa_decide.specs.Reading.{IsNotTooLarge, reading_for};
 ghost use Rattle.xa_decide.specs.Timeless.{is_timeless_tree};
 
@@ -18,7 +18,7 @@ use xa_policy::{Linked, Reference};
 use xa_shelf::TextReader;
 use xa_value::{Items, memory_apart};
 
-/// So many units or bytes as nobody reaches.
+/// So many units or bytes that no message reaches them.
 const NO_LIMIT: u64 = u64::MAX;
 
 /// What a domain's decisions depend on: the tree that its root stands for among its active documents, if
@@ -29,7 +29,7 @@ const NO_LIMIT: u64 = u64::MAX;
 /// answered as if memory were wanting.
 #[derive(Debug, Drop)]
 pub struct View {
-    /// The tree that decides, where there is one; it may be too large.
+    /// The tree that decides, if there is one; it may be too large.
     tree: Option<Result<Linked, LinkError>>,
     /// The source of attributes.
     source: Source,
@@ -57,6 +57,119 @@ impl Model for View {
     ghost invariant = { λ v. v.timeless ≡ is_timeless_tree v.tree };
 }
 
+impl View {
+    /// A view of these documents, this root and these rows. The documents to which the root leads are
+    /// read, the tree is linked and the rows are put in order here, once for all requests. If the
+    /// reader's limit is reached, it is answered as if memory were wanting. The work of a message has no
+    /// limit, nor has its response.
+    pub fn new(
+        alloc: Global,
+        reader: &mut TextReader<'_>,
+        active: &[Active],
+        root: &Option<Reference>,
+        source: Items<SourceRow>,
+    ) -> Result<View, AllocError>
+        ensures value { IfOk result (λ view. view ≡ view_by active.now root.now source) }
+        ensures read { IfOk result (λ view.
+            IsNotTooLarge view.tree → reader.old.left ≡ reader.new.left + reading_for active.now root.now) }
+        ensures refused { reader.old.is_spent ≡ false → reader.new.is_spent ≡ true
+            → reader.old.left < reading_for active.now root.now }
+    {
+        let source = Source::new(alloc, source)?;
+        let tree = tree_of(alloc, reader, active, root)?;
+        let timeless = is_timeless_tree(&tree);
+        Ok(View {
+            tree,
+            source,
+            timeless,
+            work_limit: NO_LIMIT,
+            reply_limit: NO_LIMIT,
+        })
+    }
+
+    /// A view of no documents, no root and no rows.
+    pub fn of_nothing(alloc: Global) -> Result<View, AllocError>
+        ensures { IfOk result (λ view. view ≡ view_by [] None []) }
+    {
+        Ok(View {
+            tree: None,
+            source: Source::new(alloc, Items::new(alloc))?,
+            timeless: true,
+            work_limit: NO_LIMIT,
+            reply_limit: NO_LIMIT,
+        })
+    }
+
+    /// The same view, under which a message may ask for this many units of work, as `Budget` counts them.
+    pub fn with_work_limit(mut self, units: u64) -> View
+        ensures { result ≡ self }
+    {
+        self.work_limit = units;
+        self
+    }
+
+    /// The same view, under which the body of a response may have this many bytes.
+    pub fn with_reply_limit(mut self, bytes: u64) -> View
+        ensures { result ≡ self }
+    {
+        self.reply_limit = bytes;
+        self
+    }
+
+    /// The work that one message may ask for.
+    pub(crate) fn budget(&self) -> Budget {
+        Budget::new(self.work_limit)
+    }
+
+    /// How many bytes the body of a response may have.
+    pub(crate) fn reply_limit(&self) -> u64 {
+        self.reply_limit
+    }
+
+    /// The body of a response; want of memory, if it has more bytes than the limit.
+    pub(crate) fn within_reply_limit(&self, body: Vec<u8>) -> Result<Vec<u8>, AllocError>
+        ensures { IfOk result (λ kept. kept.items ≡ body.items) }
+    {
+        if body.len() as u64 > self.reply_limit {
+            return Err(AllocError);
+        }
+        Ok(body)
+    }
+
+    /// The tree that decides, if there is one.
+    pub(crate) fn tree(&self) -> &Option<Result<Linked, LinkError>>
+        ensures { result.now ≡ self.now.tree }
+    {
+        &self.tree
+    }
+
+    /// Whether no designator of the tree names the clock.
+    pub(crate) fn is_timeless(&self) -> bool
+        ensures { result ≡ is_timeless_tree self.now.tree }
+    {
+        self.timeless
+    }
+
+    /// How many nodes the linked tree has: its policies and policy sets, and the references that lead
+    /// nowhere, of which a set may have many; 0 if there is no tree. The memory of a view grows with
+    /// them, as it does with its documents and rows.
+    pub fn nodes(&self) -> usize
+        ensures { result ≡ nodes_of_tree self.now.tree }
+    {
+        match &self.tree {
+            Some(Ok(linked)) => nodes_of(linked),
+            Some(Err(_)) | None => 0,
+        }
+    }
+
+    /// The rows of the source of attributes.
+    pub(crate) fn source(&self) -> &Source
+        ensures { result.now ≡ self.now.source }
+    {
+        &self.source
+    }
+}
+
 /// Links the tree that a root stands for; it may be too large.
 fn linked_tree(
     alloc: Global,
@@ -73,7 +186,7 @@ fn linked_tree(
     memory_apart(link(alloc, reader, active, root))
 }
 
-/// The tree that decides, where there is one.
+/// The tree that decides, if there is one.
 fn tree_of(
     alloc: Global,
     reader: &mut TextReader<'_>,
@@ -118,117 +231,4 @@ fn nodes_of_all(trees: &[Linked]) -> usize
         nodes = nodes.saturating_add(nodes_of(tree));
     }
     nodes
-}
-
-impl View {
-    /// A view of these documents, this root and these rows. The documents to which the root leads are
-    /// read, the tree is linked and the rows are put in order here, once for all requests. Where the
-    /// reader's limit is reached, it is answered as if memory were wanting. The work of a message has no
-    /// limit, nor has its response.
-    pub fn new(
-        alloc: Global,
-        reader: &mut TextReader<'_>,
-        active: &[Active],
-        root: &Option<Reference>,
-        source: Items<SourceRow>,
-    ) -> Result<View, AllocError>
-        ensures value { IfOk result (λ view. view ≡ view_by active.now root.now source) }
-        ensures read { IfOk result (λ view.
-            IsNotTooLarge view.tree → reader.old.left ≡ reader.new.left + reading_for active.now root.now) }
-        ensures refused { reader.old.is_spent ≡ false → reader.new.is_spent ≡ true
-            → reader.old.left < reading_for active.now root.now }
-    {
-        let source = Source::new(alloc, source)?;
-        let tree = tree_of(alloc, reader, active, root)?;
-        let timeless = is_timeless_tree(&tree);
-        Ok(View {
-            tree,
-            source,
-            timeless,
-            work_limit: NO_LIMIT,
-            reply_limit: NO_LIMIT,
-        })
-    }
-
-    /// A view of nothing.
-    pub fn of_nothing(alloc: Global) -> Result<View, AllocError>
-        ensures { IfOk result (λ view. view ≡ view_by [] None []) }
-    {
-        Ok(View {
-            tree: None,
-            source: Source::new(alloc, Items::new(alloc))?,
-            timeless: true,
-            work_limit: NO_LIMIT,
-            reply_limit: NO_LIMIT,
-        })
-    }
-
-    /// The same view, under which a message may ask for this many units of work, as `Budget` counts them.
-    pub fn with_limit(mut self, units: u64) -> View
-        ensures { result ≡ self }
-    {
-        self.work_limit = units;
-        self
-    }
-
-    /// The same view, under which the body of a response may have this many bytes.
-    pub fn with_reply_limit(mut self, bytes: u64) -> View
-        ensures { result ≡ self }
-    {
-        self.reply_limit = bytes;
-        self
-    }
-
-    /// The work that one message may ask for.
-    pub(crate) fn budget(&self) -> Budget {
-        Budget::new(self.work_limit)
-    }
-
-    /// How many bytes the body of a response may have.
-    pub(crate) fn reply_limit(&self) -> u64 {
-        self.reply_limit
-    }
-
-    /// The body of a response; want of memory, if it has more bytes than the limit.
-    pub(crate) fn within_reply_limit(&self, body: Vec<u8>) -> Result<Vec<u8>, AllocError>
-        ensures { IfOk result (λ kept. kept.items ≡ body.items) }
-    {
-        if body.len() as u64 > self.reply_limit {
-            return Err(AllocError);
-        }
-        Ok(body)
-    }
-
-    /// The tree that decides, where there is one.
-    pub(crate) fn tree(&self) -> &Option<Result<Linked, LinkError>>
-        ensures { result.now ≡ self.now.tree }
-    {
-        &self.tree
-    }
-
-    /// Whether no designator of the tree names the clock.
-    pub(crate) fn is_timeless(&self) -> bool
-        ensures { result ≡ is_timeless_tree self.now.tree }
-    {
-        self.timeless
-    }
-
-    /// How many nodes the linked tree has: its policies and policy sets, and the references that lead
-    /// nowhere, of which a set may have many; 0 where there is no tree. The memory of a view grows with
-    /// them beside its documents and rows.
-    pub fn places(&self) -> usize
-        ensures { result ≡ places_of_tree self.now.tree }
-    {
-        match &self.tree {
-            Some(Ok(linked)) => nodes_of(linked),
-            Some(Err(_)) | None => 0,
-        }
-    }
-
-    /// The rows of the source of attributes.
-    pub(crate) fn source(&self) -> &Source
-        ensures { result.now ≡ self.now.source }
-    {
-        &self.source
-    }
 }

@@ -29,18 +29,18 @@ const COMPARISONS_IN_ORDER: u64 = 18;
 /// the request is decided again with the values in order.
 #[derive(Drop)]
 struct Scans {
-    /// How many more values.
+    /// How many more values may be looked at.
     values: Budget,
     /// Whether more were asked for.
-    are_exceeded: Cell<bool>,
+    is_exceeded: Cell<bool>,
 }
 
 impl Scans {
-    /// So many values, of which none has been looked at.
+    /// So many values, none of which has been looked at.
     fn of(values: u64) -> Scans {
         Scans {
             values: Budget::new(values),
-            are_exceeded: Cell::new(false),
+            is_exceeded: Cell::new(false),
         }
     }
 
@@ -48,7 +48,7 @@ impl Scans {
     fn take(&self, values: u64) -> Result<(), AllocError> {
         let taken = self.values.spend(values);
         if taken.is_err() {
-            self.are_exceeded.set(true);
+            self.is_exceeded.set(true);
         }
         taken
     }
@@ -89,17 +89,17 @@ impl Work {
         }
     }
 
-    /// What is left of it, with the values of large bags in order. The response is begun anew.
-    pub(crate) fn ordered(mut self) -> Work {
+    /// The work that is left, with the values of large bags in order. The response is begun anew.
+    pub(crate) fn into_ordered(mut self) -> Work {
         self.reply = Budget::new(self.reply_limit);
         self.search = Search::Ordered;
         self
     }
 
-    /// Whether it was left because large bags were searched too often.
+    /// Whether a decision ended because large bags were searched too often.
     pub(crate) fn wants_order(&self) -> bool {
         match &self.search {
-            Search::Scanning(scans) => scans.are_exceeded.get(),
+            Search::Scanning(scans) => scans.is_exceeded.get(),
             Search::Ordered => false,
         }
     }
@@ -121,7 +121,7 @@ impl Work {
         self.reply.spend(cost.bytes)
     }
 
-    /// Takes a look at each value of the bag from what may be looked at one after another.
+    /// Charges one look for each value of the bag, if it is large.
     pub(crate) fn scan(&self, bag: &Bag) -> Result<(), AllocError> {
         match &self.search {
             Search::Scanning(scans) if is_large(bag) => scans.take(bag.len() as u64),
@@ -135,22 +135,18 @@ impl Work {
         self.spend(units.saturating_mul(COMPARISONS_IN_ORDER))
     }
 
-    /// The values of each attribute, to be searched by their order; none, where they are searched one by one.
-    pub(crate) fn members<'a>(
-        &self,
-        alloc: Global,
-        attributes: &'a [Attribute],
-    ) -> Result<Option<Vec<Members<'a>>>, AllocError>
-        ensures { IfOk result (λ made.
-            IfSome made (λ members. members.items ≡ map (λ a. a.values) attributes.now)) }
+    /// The values of the bag, in order if they are many, which is paid for before.
+    fn members_of<'a>(&self, bag: &'a Bag) -> Result<Members<'a>, AllocError>
+        ensures { IfOk result (λ members. members ≡ bag.now) }
     {
-        match &self.search {
-            Search::Scanning(_) => Ok(None),
-            Search::Ordered => Ok(Some(self.ordered_members(alloc, attributes)?)),
+        if !is_large(bag) {
+            return Ok(Members::new(bag, 0));
         }
+        self.spend(units_of_bag(bag).saturating_mul(COMPARISONS_IN_ORDER))?;
+        Ok(Members::new(bag, bag.len()))
     }
 
-    /// The values of each attribute, in order where they are many.
+    /// The values of each attribute, in order if they are many.
     fn ordered_members<'a>(
         &self,
         alloc: Global,
@@ -165,15 +161,19 @@ impl Work {
         Ok(members)
     }
 
-    /// The values of the bag, in order where they are many, which is paid for before.
-    fn members_of<'a>(&self, bag: &'a Bag) -> Result<Members<'a>, AllocError>
-        ensures { IfOk result (λ members. members ≡ bag.now) }
+    /// The values of each attribute, to be searched by their order; none, if they are searched one by one.
+    pub(crate) fn members<'a>(
+        &self,
+        alloc: Global,
+        attributes: &'a [Attribute],
+    ) -> Result<Option<Vec<Members<'a>>>, AllocError>
+        ensures { IfOk result (λ made.
+            IfSome made (λ members. members.items ≡ map (λ a. a.values) attributes.now)) }
     {
-        if !is_large(bag) {
-            return Ok(Members::new(bag, 0));
+        match &self.search {
+            Search::Scanning(_) => Ok(None),
+            Search::Ordered => Ok(Some(self.ordered_members(alloc, attributes)?)),
         }
-        self.spend(units_of_bag(bag).saturating_mul(COMPARISONS_IN_ORDER))?;
-        Ok(Members::new(bag, bag.len()))
     }
 }
 
@@ -182,22 +182,23 @@ pub(crate) fn is_large(bag: &Bag) -> bool {
     bag.len() >= LARGE
 }
 
+/// How many values the bag has, if it is large; else none.
+fn values_if_large(bag: &Bag) -> u64 {
+    if is_large(bag) { bag.len() as u64 } else { 0 }
+}
+
 /// How many values there are in large bags of the attributes.
 fn large_values_of(attributes: &[Attribute]) -> u64 {
-    let mut count = 0u64;
-    for attribute in attributes {
-        if is_large(&attribute.values) {
-            count = count.saturating_add(attribute.values.len() as u64);
-        }
-    }
-    count
+    attributes.iter().fold(
+        0u64,
+        |count, attribute| count.saturating_add(values_if_large(&attribute.values)),
+    )
 }
 
 /// How many values there are in large bags of the objects.
 fn large_values(objects: &[CategoryObject]) -> u64 {
-    let mut count = 0u64;
-    for object in objects {
-        count = count.saturating_add(large_values_of(object.attributes.as_slice()));
-    }
-    count
+    objects.iter().fold(
+        0u64,
+        |count, object| count.saturating_add(large_values_of(object.attributes.as_slice())),
+    )
 }

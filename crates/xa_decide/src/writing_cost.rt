@@ -1,7 +1,7 @@
 //! What it costs to write a part of a response: how much work, and how many bytes. It is asked before
-//! anything is written, so that neither is done nor given room where there is too little left. A text
-//! counts by the bytes that JSON has for it: a quotation mark, a backslash and a control character take
-//! two or six (RFC 8259, section 7).
+//! anything is written, so that nothing is written if too little is left. A text counts by the bytes that
+//! JSON has for it: a quotation mark, a backslash and a control character take two or six (RFC 8259,
+//! section 7).
 use xa_bag::Bag;
 use xa_expr::{is_of_one_size, units_of, units_of_printing};
 use xa_value::{Text, Value};
@@ -60,22 +60,12 @@ impl WritingCost {
 
     /// What it costs to write a value. What has no text of its own is printed first.
     pub(crate) fn of_value(value: &Value) -> WritingCost {
-        let widening = widening(value);
+        let growth = growth_of(value);
         WritingCost {
             units: units_of(value)
                 .saturating_add(units_of_printing(value.data_type()))
-                .saturating_add(units_of_widening(value, widening)),
-            bytes: length_of(value).saturating_add(widening),
-        }
-    }
-
-    /// What it costs to write the values of a bag. Where these are of one size, nobody looks at them.
-    pub(crate) fn of_bag(bag: &Bag) -> WritingCost {
-        match bag.values() {
-            [first, ..] if is_of_one_size(bag.data_type()) => {
-                WritingCost::of_value(first).times(bag.len())
-            },
-            values => WritingCost::of_values(values),
+                .saturating_add(units_of_growth(value, growth)),
+            bytes: length_of(value).saturating_add(growth),
         }
     }
 
@@ -86,6 +76,16 @@ impl WritingCost {
             |all, value| all.and(WritingCost::of_value(value)),
         )
     }
+
+    /// What it costs to write the values of a bag. If these are of one size, none but the first is looked at.
+    pub(crate) fn of_bag(bag: &Bag) -> WritingCost {
+        match bag.values() {
+            [first, ..] if is_of_one_size(bag.data_type()) => {
+                WritingCost::of_value(first).times(bag.len())
+            },
+            values => WritingCost::of_values(values),
+        }
+    }
 }
 
 /// Whether JSON has an escape for the byte.
@@ -93,9 +93,9 @@ fn is_escaped(byte: u8) -> bool {
     byte < 0x20 || byte == b'"' || byte == b'\\'
 }
 
-/// How many bytes an escape takes more than the byte that it stands for: one where it is a backslash and a
-/// character, five where it is `\u` and four digits.
-fn escaping(byte: u8) -> u64 {
+/// How many more bytes an escape takes than the byte that it stands for: one if it is a backslash and a
+/// character, five if it is `\u` and four digits.
+fn escape_growth(byte: u8) -> u64 {
     match byte {
         b'"' | b'\\' | 8 | 9 | 10 | 12 | 13 => 1,
         0..=31 => 5,
@@ -115,13 +115,15 @@ fn escapes_in(text: &[u8]) -> u64 {
     if !has_escapes(text) {
         return 0;
     }
-    text.iter()
-        .fold(0u64, |count, byte| count.saturating_add(escaping(*byte)))
+    text.iter().fold(
+        0u64,
+        |count, byte| count.saturating_add(escape_growth(*byte)),
+    )
 }
 
-/// How many bytes a value takes more than it has: its escapes, a second digit for each byte, or a third
-/// more in base64.
-fn widening(value: &Value) -> u64 {
+/// How many more bytes a value takes than it has: its escapes, a second digit for each byte, or a third in
+/// base64.
+fn growth_of(value: &Value) -> u64 {
     match value {
         Value::String(text) | Value::AnyUri(text) => escapes_in(text.as_bytes()),
         Value::HexBinary(bytes) => bytes.as_slice().len() as u64,
@@ -130,15 +132,15 @@ fn widening(value: &Value) -> u64 {
     }
 }
 
-/// The units of so many bytes that a value takes more than it has.
-fn units_of_widening(value: &Value, widening: u64) -> u64 {
+/// The units of so many more bytes than the value has.
+fn units_of_growth(value: &Value, growth: u64) -> u64 {
     match value {
-        Value::HexBinary(_) | Value::Base64Binary(_) => widening,
-        _ => ESCAPED.saturating_mul(widening),
+        Value::HexBinary(_) | Value::Base64Binary(_) => growth,
+        _ => ESCAPED.saturating_mul(growth),
     }
 }
 
-/// How many bytes of text or of its binary the value has; one, where it is of another type.
+/// How many bytes the value has, of text or binary; one, if it is of another type.
 fn length_of(value: &Value) -> u64 {
     match value {
         Value::String(text) | Value::AnyUri(text) => text.as_bytes().len() as u64,

@@ -41,15 +41,14 @@ abbrev pub replaced_in : (Reference → Linked) → Option Parsed → Linked
 replaced_in replacement None = Unresolved
 replaced_in replacement (Some parsed) = replaced replacement parsed.document
 
--- a document to which a path leads back makes a circle. Documents are told apart by their places in the list. Such
--- circles are those of the definition by documents, which tells them apart by kind, id and version: two references
--- that stand for documents of one kind, id and version stand for the document at one place. That is the clause of
--- `one_place_for_each_version` (`OnePlaceForEachVersion` of `specs/Resolution`)
+-- a document to which a path leads back makes a circle. Documents are told apart by their places in the list. Places
+-- and documents give the same circles, since two references to one kind, id and version stand for one place
+-- (`one_place_for_each_version`)
 abbrev pub unless_circular : List ℕ → Option ℕ → Option ℕ
 unless_circular path None = None
 unless_circular path (Some place) = if list_any (λ p. p == place) path then None else Some place
 
--- the place of the document for which the reference stands, where it is not on the path already
+-- the place of the document for which the reference stands, if it is not on the path already
 abbrev pub next_place : List Active → List ℕ → Reference → Option ℕ
 next_place active path reference = unless_circular path (resolve active reference)
 

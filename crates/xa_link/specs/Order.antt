@@ -86,7 +86,7 @@ standing_of reference document =
     ordering_then (compare_names (name reference.kind reference.id) (name_of document))
     (by_version reference document.version)
 
--- where there is no document, behind all of them
+-- a place without a document stands behind all of them
 abbrev pub standing : Reference → Option Active → Ordering
 standing reference None = Greater
 standing reference (Some document) = standing_of reference document

@@ -48,12 +48,12 @@ pub record Reads (wanted : ℕ → Bool) (old new : Progress) (before after : Al
   pub bytes : allowed new after ≡ allowed old before
   pub spent : after.is_spent ≡ before.is_spent
 
--- where more bytes were asked for than were left, the documents at these places have more
+-- if more bytes were asked for than were left, the documents at these places have more
 pub record Refuses (wanted : ℕ → Bool) (old : Progress) (before after : Allowance) : Type 0 where
   pub short : before.is_spent ≡ false → after.is_spent ≡ true
       → allowed old before < bytes_at (λ place. is_read old.read place || wanted place) old.active
 
--- the one where there is an answer, the other where there is none
+-- the one if there is an answer, the other if there is none
 abbrev pub Counted : {X E : Type 0} → Result X E → (ℕ → Bool) → Progress → Progress → Allowance → Allowance → Type 0
 Counted (Ok x) wanted old new before after = Reads wanted old new before after
 Counted (Err e) wanted old new before after = Refuses wanted old before after

@@ -18,17 +18,17 @@ matches (Number m ∷ parts) (n ∷ ns) = (m == n) && matches parts ns
 matches (AnyNumber ∷ parts) (n ∷ ns) = matches parts ns
 matches (AnyNumbers ∷ parts) (n ∷ ns) = true
 
--- the version matches the pattern, where there is one
+-- the version matches the pattern, if there is one
 abbrev pub fits_pattern : Option (List PatternPart) → List ℕ → Bool
 fits_pattern None v = true
 fits_pattern (Some pattern) v = matches pattern v
 
--- it isn't before the earliest version, where there is one
+-- it isn't before the earliest version, if there is one
 abbrev pub not_before : Option (List ℕ) → List ℕ → Bool
 not_before None v = true
 not_before (Some earliest) v = not (is_before v earliest)
 
--- it isn't after the latest, where there is one
+-- it isn't after the latest, if there is one
 abbrev pub not_after : Option (List ℕ) → List ℕ → Bool
 not_after None v = true
 not_after (Some latest) v = not (is_before latest v)

@@ -3,7 +3,7 @@ use xa_policy::{DocumentKind, Version};
 use xa_value::{Items, Text};
 
 /// An active document, to which a reference may resolve, by its kind, its id and its version alone. A
-/// policy or a set inside a document isn't one.
+/// policy or a policy set inside a document isn't one.
 #[derive(Debug, Drop)]
 pub struct Active {
     /// Whether it is a policy or a policy set.
@@ -12,6 +12,6 @@ pub struct Active {
     pub id: Text,
     /// Its version.
     pub version: Version,
-    /// Its text, which is read where a reference leads to it.
+    /// Its text, which is read when a reference first leads to it.
     pub text: Items<u8>,
 }

@@ -1,4 +1,4 @@
-//! Active documents, among which those that references stand for are found.
+//! The active documents, among which is found the one that a reference stands for.
 ghost use Rattle.std.specs.Prelude.{◌≡◌, find, IfOk, slice_get};
 ghost use Rattle.xa_link.specs.Order.{IsOrder, IsOrderIfAny, IsFalling, fits_at};
 ghost use Rattle.xa_link.specs.Resolution.{resolve};
@@ -12,21 +12,21 @@ use xa_policy::Reference;
 
 /// For at most this many children of policy sets the documents are looked at one after another, since to
 /// put them in order would take longer.
-const FEW: usize = 24;
+const MAX_UNSORTED_CHILDREN: usize = 24;
 
 /// How many documents may be looked at in vain for one tree, once they are in order: they take some 0.2
 /// seconds. A reference whose pattern begins with `*` may look at each version of its id. A tree of 1,000
 /// policies, each of which is found behind 1,023 others, takes a quarter of it.
-const MOST_LOOKS: u32 = 4_096_000;
+const MAX_LOOKS: u32 = 4_096_000;
 
 /// Active documents, which are put in order when so many references are to be resolved that this pays.
 /// Clauses see the documents.
 #[derive(Debug, Drop)]
 pub(crate) struct Index<'a> {
     active: &'a [Active],
-    /// Their places in order, or none as long as they weren't put in order.
+    /// Their places in order; none as long as they aren't put in order.
     order: Vec<usize>,
-    /// How many children, each of them perhaps a reference, have been met.
+    /// How many children of policy sets have been met: each may be a reference.
     children: usize,
     /// How many more documents may be looked at in vain.
     looks: u32,
@@ -53,7 +53,7 @@ impl<'a> Index<'a> {
             active,
             order: Vec::new(alloc),
             children: 0,
-            looks: MOST_LOOKS,
+            looks: MAX_LOOKS,
         }
     }
 
@@ -64,20 +64,20 @@ impl<'a> Index<'a> {
         self.active
     }
 
-    /// Makes ready for so many children more: once more than [`FEW`] have been met, the documents are put
-    /// in order.
+    /// Makes ready for so many children more. The documents are put in order, once more than
+    /// [`MAX_UNSORTED_CHILDREN`] have been met.
     pub(crate) fn expect(&mut self, alloc: Global, children: usize) -> Result<(), AllocError>
         ensures kept { self.new ≡ self.old }
     {
         self.children = self.children.saturating_add(children);
-        if self.children > FEW && self.order.is_empty() {
+        if self.children > MAX_UNSORTED_CHILDREN && self.order.is_empty() {
             self.order = places_in_order(alloc, self.active)?;
         }
         Ok(())
     }
 
-    /// The place of the document for which the reference stands; want of memory, once more than
-    /// [`MOST_LOOKS`] documents were looked at in vain.
+    /// The place of the document for which the reference stands. If more than [`MAX_LOOKS`] documents were
+    /// looked at in vain, it is answered as if memory were wanting.
     pub(crate) fn resolve(&mut self, reference: &Reference) -> Result<Option<usize>, AllocError>
         ensures value { IfOk result (λ place. place ≡ resolve self.old reference.now) }
         ensures kept { self.new ≡ self.old }
@@ -100,8 +100,9 @@ fn fits_at(active: &[Active], place: usize, reference: &Reference) -> bool
     }
 }
 
-/// The first of the places whose document fits. None behind those that may fit is looked at. Each look in
-/// vain takes one of those that are left, and without one it is answered as if memory were wanting.
+/// The first of the places whose document fits. The search ends at the first place behind those that may
+/// fit. Each look in vain before that takes one of those that are left; without one it is answered as if
+/// memory were wanting.
 fn first_that_fits(
     active: &[Active],
     places: &[usize],

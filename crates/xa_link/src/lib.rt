@@ -2,7 +2,7 @@
 //! sections 5.10 to 5.13).
 //!
 //! `resolution` says which of the active documents (`active`) a reference stands for, and `index` finds it
-//! by `order` where many are asked for. `resolved` reads a document once and has its references resolved
+//! by `order` if many are asked for. `resolved` reads a document once and has its references resolved
 //! (`placed`); `linking` makes the tree of it, which has no more parts than `room` leaves.
 #![tactic(auto)]
 

@@ -24,41 +24,11 @@ use xa_value::{Boxed, Items, OrMemory, Shared};
 
 /// How many documents may stand on a path, the first one too. The standard sets no bound; linking
 /// recurses once for each, and for each policy set inside one.
-const MAX_DOCUMENTS: usize = 17;
+const MAX_PATH_LEN: usize = 17;
 
 /// How many policies and policy sets a tree may have. The standard sets no bound; 17 sets that each name
 /// the next one twice make 2^17.
 const MAX_SIZE: usize = 1_000;
-
-/// The tree that the reference leads to among the active documents (XACML 3.0, core, sections 5.10, 5.11
-/// and 7.15). A reference that leads to no document, back to one on its path, or past 17 documents is
-/// left unresolved. Rules are shared with the documents. A document is read, and its references are
-/// resolved, once, however often the tree holds it, and not at all where the root doesn't lead to it.
-/// Once a document is resolved, a reference in it that leads nowhere costs its leaf alone. Where the
-/// reader's limit is reached, or references look at too many documents that they don't stand for, it is
-/// answered as if memory were wanting.
-#[tactic(auto, using(crate::proofs::LinkingLemmas::link_is_led))]
-pub fn link(
-    alloc: Global,
-    reader: &mut TextReader<'_>,
-    active: &[Active],
-    root: &Reference,
-) -> Result<Linked, OrMemory<LinkError>>
-    ensures value { Gives result (link active.now root.now) }
-    ensures exact { resolve active.now root.now ≡ None → result ≡ answered (link active.now root.now) }
-    ensures read { IfOk result (λ _. reader.old.left ≡ reader.new.left + reading active.now root.now) }
-    ensures refused { reader.old.is_spent ≡ false → reader.new.is_spent ≡ true
-        → reader.old.left < reading active.now root.now }
-{
-    let mut resolved = Resolved::new(alloc, active);
-    let place = resolve(active, root);
-    let path = Path {
-        places: &[],
-        more: MAX_DOCUMENTS,
-    };
-    let fitted = linked_reference(&mut resolved, reader, &path, place, MAX_SIZE)?;
-    Ok(fitted.part)
-}
 
 /// A path from the root.
 #[derive(Drop)]
@@ -69,7 +39,7 @@ struct Path<'p> {
     more: usize,
 }
 
-/// The place, where it isn't on the path already.
+/// The place, if it isn't on the path already.
 fn unless_circular(path: &[usize], place: Option<usize>) -> Option<usize>
     ensures { result ≡ unless_circular path.now place }
 {
@@ -137,7 +107,7 @@ fn linked_policy(
     })
 }
 
-/// What a reference leads to that stands for the document at the place, at the end of the path.
+/// The tree of the document at the place, at the end of the path; a leaf if there is none.
 #[cycle(linking)]
 #[tactic(auto, using(crate::proofs::RoomLemmas::unresolved_fits))]
 fn linked_reference(
@@ -165,7 +135,7 @@ fn linked_reference(
     }
 }
 
-/// The tree of the active document at the place, which is one more on the path.
+/// The tree of the document at the place, which is one more on the path.
 #[cycle(linking)]
 fn linked_active(
     resolved: &mut Resolved<'_>,
@@ -273,4 +243,34 @@ fn linked_children(
         }
     }
     Ok(Fitted { part: parts, room })
+}
+
+/// The tree that the reference leads to among the active documents (XACML 3.0, core, sections 5.10, 5.11
+/// and 7.15). A reference that leads to no document, back to one on its path, or past 17 documents is
+/// left unresolved. Rules are shared with the documents. A document is read, and its references are
+/// resolved, once, however often the tree holds it, and not at all if the root doesn't lead to it.
+/// Once a document is resolved, a reference in it that leads nowhere costs its leaf alone. If the
+/// reader's limit is reached, or references look at too many documents that they don't stand for, it is
+/// answered as if memory were wanting.
+#[tactic(auto, using(crate::proofs::LinkingLemmas::link_is_led))]
+pub fn link(
+    alloc: Global,
+    reader: &mut TextReader<'_>,
+    active: &[Active],
+    root: &Reference,
+) -> Result<Linked, OrMemory<LinkError>>
+    ensures value { Gives result (link active.now root.now) }
+    ensures exact { resolve active.now root.now ≡ None → result ≡ answered (link active.now root.now) }
+    ensures read { IfOk result (λ _. reader.old.left ≡ reader.new.left + reading active.now root.now) }
+    ensures refused { reader.old.is_spent ≡ false → reader.new.is_spent ≡ true
+        → reader.old.left < reading active.now root.now }
+{
+    let mut resolved = Resolved::new(alloc, active);
+    let place = resolve(active, root);
+    let path = Path {
+        places: &[],
+        more: MAX_PATH_LEN,
+    };
+    let fitted = linked_reference(&mut resolved, reader, &path, place, MAX_SIZE)?;
+    Ok(fitted.part)
 }

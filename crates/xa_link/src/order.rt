@@ -35,7 +35,7 @@ fn compare_documents(first: &Active, second: &Active) -> Ordering
         .cmp(&second.version))
 }
 
-/// How the documents at two places compare, where there are any.
+/// How the documents at two places compare. A place without a document is less than one that has one.
 fn compare_found(active: &[Active], first: usize, second: usize) -> Ordering
     ensures { result
         ≡ option_cmp compare_documents (slice_get active.now first) (slice_get active.now second) }
@@ -66,7 +66,7 @@ pub(crate) fn places_in_order(alloc: Global, active: &[Active]) -> Result<Vec<us
     Ok(order)
 }
 
-/// How the version compares with the numbers that the pattern begins with; with the whole pattern, where
+/// How the version compares with the numbers that the pattern begins with; with the whole pattern, if
 /// that is numbers alone.
 fn by_pattern(parts: &[PatternPart], numbers: &[u32]) -> Ordering
     ensures { result ≡ by_pattern parts.now numbers.now }
@@ -149,8 +149,7 @@ fn standing_of(reference: &Reference, document: &Active) -> Ordering
     )
 }
 
-/// Where the document at the place stands to those that may fit the reference; Greater, where there is
-/// none.
+/// Where the document at the place stands to those that may fit the reference; Greater if there is none.
 pub(crate) fn standing_at(active: &[Active], place: usize, reference: &Reference) -> Ordering
     ensures { result ≡ standing reference.now (slice_get active.now place) }
 {

@@ -17,7 +17,7 @@ pub(crate) enum Placed {
     Policy(Shared<Policy>),
     /// A policy set, with its children in order.
     PolicySet(Shared<PolicySet>, Items<Placed>),
-    /// A reference, with the place of the document for which it stands, where there is one.
+    /// A reference, with the place of the document for which it stands, if there is one.
     Reference(Option<usize>),
 }
 

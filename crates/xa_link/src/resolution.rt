@@ -7,13 +7,6 @@ ghost use Rattle.xa_link.specs.Resolution.{not_before, not_after, fits, resolve}
 use crate::active::Active;
 use xa_policy::{Pattern, PatternPart, Reference, Version};
 
-/// Whether the version matches the pattern (XACML 3.0, core, section 5.13).
-pub fn matches(pattern: &Pattern, version: &Version) -> bool
-    ensures { result ≡ matches pattern.now version.now }
-{
-    parts_match(pattern.parts(), version.numbers())
-}
-
 /// Whether the numbers of a version match the parts of a pattern.
 fn parts_match(parts: &[PatternPart], numbers: &[u32]) -> bool
     ensures { result ≡ matches parts.now numbers.now }
@@ -29,6 +22,13 @@ fn parts_match(parts: &[PatternPart], numbers: &[u32]) -> bool
         PatternPart::AnyNumber => parts_match(more_parts, more_numbers),
         PatternPart::AnyNumbers => true,
     }
+}
+
+/// Whether the version matches the pattern (XACML 3.0, core, section 5.13).
+pub fn matches(pattern: &Pattern, version: &Version) -> bool
+    ensures { result ≡ matches pattern.now version.now }
+{
+    parts_match(pattern.parts(), version.numbers())
 }
 
 /// Whether the version matches the pattern, if there is one.

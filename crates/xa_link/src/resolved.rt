@@ -23,7 +23,7 @@ use xa_value::{Shared, memory_apart};
 pub(crate) enum Finding {
     /// It wasn't looked at yet.
     NotLooked,
-    /// What was found there: the document, its references resolved, or none where the text isn't one.
+    /// What was found there: the document, its references resolved, or none if the text isn't one.
     Looked(Option<Shared<Placed>>),
 }
 
@@ -62,7 +62,7 @@ impl<'a> Resolved<'a> {
     }
 
     /// The document at the place, with places for its references. It is read when it is first wanted,
-    /// and once, also where its text isn't a document.
+    /// and once, even if its text isn't a document.
     pub(crate) fn document_at(
         &mut self,
         reader: &mut TextReader<'_>,
@@ -86,7 +86,7 @@ impl<'a> Resolved<'a> {
     }
 }
 
-/// Makes the place one of those that documents may be at.
+/// Puts places that weren't looked at yet to the end, until the place is among them.
 fn make_room(documents: &mut Vec<Finding>, place: usize) -> Result<(), AllocError>
     ensures same { SamePlaced documents.old.items documents.new.items }
     ensures room { IfOk result (λ _. place < length documents.new.items) }
@@ -112,7 +112,7 @@ fn keep(
 }
 
 /// A share of the document, if there is one. What a clone of the option gives is stated here once, for
-/// both who take one.
+/// both callers.
 fn share_of(found: &Option<Shared<Placed>>) -> Result<Option<Shared<Placed>>, AllocError>
     ensures { IfOk result (λ share. share ≡ found.now) }
 {

@@ -1,4 +1,4 @@
-//! How many policies and policy sets a tree may have yet.
+//! How many more policies and policy sets a tree may have.
 ghost use Rattle.std.specs.Prelude.{◌≡◌};
 ghost use Rattle.xa_link.specs.Room.{less_one};
 

@@ -51,7 +51,7 @@ pub grouped_none : (objects : List CategoryObject) (look : List ℕ → Option �
 grouped_none objects look none = record { numbers = none; places = refl; some = refl; absent = λ q e. refl; single = tt }
 
 -- one more object
-pub range_last : (a n : ℕ) → range_with_len a (suc n) ≡ range_with_len a n ++ (a + n) ∷ []
+range_last : (a n : ℕ) → range_with_len a (suc n) ≡ range_with_len a n ++ (a + n) ∷ []
 range_last a zero = ap (λ m. m ∷ []) (sym (add-zero a))
 range_last a (suc n) = let e : a + 1 + n ≡ a + suc n = omega arith in ap (λ ms. a ∷ ms) (range_last (a + 1) n ∙ ap (λ m. range_with_len (a + 1) n ++ m ∷ []) e)
 

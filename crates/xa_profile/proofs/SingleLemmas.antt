@@ -8,7 +8,7 @@ use Rattle.xa_profile.specs.declared.category_object.CategoryObject.{CategoryObj
 use Rattle.xa_profile.specs.declared.individuals.Individual.TheVariants.{Places}
 use Rattle.xa_profile.specs.Individuals.{is_chosen, in_request_order, category_at, places_of, categories, with_new, with_each, combinations, all_combinations, at_most_64}
 use Rattle.xa_profile.specs.Request.{has_twice}
-use Rattle.xa_profile.proofs.GroupLemmas.{IsGrouped, grouped_none, grouped_new, places_before, range_last}
+use Rattle.xa_profile.proofs.GroupLemmas.{IsGrouped, grouped_none, grouped_new, places_before}
 use Rattle.xa_profile.proofs.RepetitionLemmas.{is_repeated, repeated_first, repeated_later, repeated_now}
 
 -- the categories of objects
@@ -104,7 +104,3 @@ only_individual objects few =
     let single = neither (nat_lt (length objects) 9) (has_twice (categories_of objects)) few in
     ap (λ cs. at_most_64 (map (λ combination. Places (in_request_order objects combination)) cs)) (only_combination objects single)
     ∙ ap (λ ps. Ok (Places ps ∷ [])) (chosen_all [] (range_with_len 0 (length objects)))
-
--- one more place
-pub one_more_place : (n : ℕ) → range_with_len 0 (n + 1) ≡ range_with_len 0 n ++ n ∷ []
-one_more_place n = ap (range_with_len 0) (add-one n) ∙ range_last 0 n ∙ ap (λ m. range_with_len 0 n ++ m ∷ []) (zero-add n)

@@ -30,7 +30,7 @@ plain_of (string s) = Some (plain.Text s)
 plain_of (array ds) = None
 plain_of (object ms) = None
 
--- the data type of its JSON type, which it has where none is named
+-- the data type of its JSON type, which it has if none is named
 unfoldable pub kind : Data → Result DataType RequestError
 kind d = ok_or (option_map type_of_plain (plain_of d)) NotProfile
 
@@ -39,8 +39,8 @@ abbrev pub is_one_kind : List DataType → Bool
 is_one_kind [] = true
 is_one_kind (first ∷ others) = list_all (λ other. same_type other first) others
 
--- the type of an attribute's values: the one that is named, else that of their JSON type, and string where there is
--- no value either
+-- the type of an attribute's values: the one that is named, else that of their JSON type, and string if there is no
+-- value either
 abbrev pub type_of_values : Option DataType → List DataType → DataType
 type_of_values (Some named) kinds = named
 type_of_values None [] = type.String
@@ -70,7 +70,7 @@ abbrev pub named_type : Option Data → Result (Option DataType) RequestError
 named_type None = Ok None
 named_type (Some d) = ok_or (option_and_then type_named (as_str d)) NotProfile >>= λ t. Ok (Some t)
 
--- an attribute. It may be left out of the result, where nothing else is said
+-- an attribute; IncludeInResult is false if it is left out
 unfoldable pub attribute : Data → Result Attribute RequestError
 attribute d = do
   id ← needed_text (at member.AttributeId d)

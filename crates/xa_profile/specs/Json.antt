@@ -13,7 +13,7 @@ use Rattle.xa_profile.specs.declared.request_error.RequestError.{RequestError}
 use Rattle.xa_profile.specs.declared.request_error.RequestError.TheVariants.{NotJson, NotProfile}
 use Rattle.xa_profile.specs.Member.{name_of}
 
--- nothing more, where it holds
+-- nothing, if it holds; else the fault NotProfile
 abbrev pub holds_or_not_profile : Bool → Result (Unit {0}) RequestError
 holds_or_not_profile b = if b then Ok tt else Err NotProfile
 
@@ -43,7 +43,7 @@ abbrev pub optional_text : Option Data → Result (Option (List ℕ)) RequestErr
 optional_text None = Ok None
 optional_text (Some d) = text d >>= λ t. Ok (Some t)
 
--- true or false, and false where it is left out
+-- true or false, and false if it is left out
 abbrev pub flag : Option Data → Result Bool RequestError
 flag None = Ok false
 flag (Some d) = ok_or (as_bool d) NotProfile
@@ -57,7 +57,7 @@ items_or_itself (string s) = item (string s) no_items
 items_or_itself (array ds) = ds
 items_or_itself (object ms) = item (object ms) no_items
 
--- no items, where the member is left out
+-- the items of a member; none if it is left out
 abbrev pub items_if_any : Option Data → Items
 items_if_any None = no_items
 items_if_any (Some d) = items_or_itself d

@@ -71,7 +71,7 @@ references_in d = do
   references ← ok_or (at member.RequestReference d) NotProfile
   each reference (items_or_itself references)
 
--- none, where MultiRequests is left out
+-- none, if MultiRequests is left out
 abbrev pub all_references : Option Data → Result (List (List (List ℕ))) RequestError
 all_references None = Ok []
 all_references (Some d) = references_in d

@@ -38,7 +38,7 @@ use Rattle.xa_profile.specs.Member.{name_of}
 abbrev pub with : Member → Data → Members → Members
 with name d others = member (name_of name) d others
 
--- a text that is left out where there is none
+-- a text that is left out if there is none
 abbrev pub with_text_if_any : Member → Option (List ℕ) → Members → Members
 with_text_if_any name None others = others
 with_text_if_any name (Some text) others = with name (string text) others
@@ -47,7 +47,7 @@ with_text_if_any name (Some text) others = with name (string text) others
 abbrev pub listing : List Data → Data
 listing ds = array (items_of ds)
 
--- an array that is left out where it is empty
+-- an array that is left out if it is empty
 abbrev pub with_items_if_any : Member → List Data → Members → Members
 with_items_if_any name [] others = others
 with_items_if_any name (d ∷ ds) others = with name (listing (d ∷ ds)) others
@@ -138,14 +138,14 @@ identifier_data k =
 abbrev pub of_kind : DocumentKind → List DocumentKey → List Data
 of_kind kind keys = map identifier_data (filter (λ k. same_kind kind k.kind) keys)
 
--- the policies and then the policy sets, each left out where there are none
+-- the policies and then the policy sets, each left out if there are none
 unfoldable pub identifiers_data : List DocumentKey → Data
 identifiers_data keys =
     object
     (with_items_if_any member.PolicyIdReference (of_kind Policy keys)
     (with_items_if_any member.PolicySetIdReference (of_kind PolicySet keys) no_members))
 
--- both, left out where nothing is named
+-- both, left out if nothing is named
 abbrev pub with_identifiers_if_any : List DocumentKey → Members → Members
 with_identifiers_if_any [] others = others
 with_identifiers_if_any (k ∷ ks) others = with member.PolicyIdentifierList (identifiers_data (k ∷ ks)) others

@@ -27,24 +27,12 @@ use xa_value::{DataType, Items, OrMemory, Plain, Text, TextRef, Value, map_error
 pub struct Attribute {
     /// Its id.
     pub id: Text,
-    /// Who issued it, if that is said.
+    /// Its issuer, if it has one.
     pub issuer: Option<Text>,
-    /// Whether it is to stand in the result.
+    /// Whether it is to stand in the result (IncludeInResult).
     pub include_in_result: bool,
-    /// Its values and their type, which is string where none is named and there is no value.
+    /// Its values and their type, which is string if none is named and there is no value.
     pub values: Bag,
-}
-
-/// A text, a boolean or a whole number.
-fn plain_of<'a>(value: &Json<'a>) -> Option<Plain<TextRef<'a>>>
-    ensures { result ≡ plain_of (view value.now) }
-{
-    match value {
-        Json::String(text) => Some(Plain::Text(TextRef::new(*text))),
-        Json::Bool(value) => Some(Plain::Boolean(*value)),
-        Json::Number(text) => Some(Plain::Integer(number(text)?.as_i128()?)),
-        _ => None,
-    }
 }
 
 /// Reads the kind of a value: the data type that its JSON type stands for.
@@ -60,6 +48,44 @@ impl Reader for KindReader {
     fn read(&self, _alloc: Global, value: &Json<'_>) -> Result<DataType, OrMemory<RequestError>> {
         let plain = plain_of(value).ok_or(RequestError::NotProfile)?;
         Ok(plain.data_type())
+    }
+}
+
+/// Reads an attribute.
+#[derive(Drop)]
+struct AttributeReader;
+
+impl Reader for AttributeReader {
+    type Output = Attribute;
+
+    ghost reads = { λ _ d. attribute d };
+
+    #[tactic(auto, unfolding(crate::specs::Attribute::attribute))]
+    fn read(&self, alloc: Global, value: &Json<'_>) -> Result<Attribute, OrMemory<RequestError>> {
+        let id = needed_text(alloc, member_at(value, Member::AttributeId))?;
+        let issuer = optional_text(alloc, member_at(value, Member::Issuer))?;
+        let include_in_result = flag(member_at(value, Member::IncludeInResult))?;
+        let named = named_type(member_at(value, Member::DataType))?;
+        let items = items_if_any(member_at(value, Member::Value));
+        let values = values_of(alloc, named, items)?;
+        Ok(Attribute {
+            id,
+            issuer,
+            include_in_result,
+            values,
+        })
+    }
+}
+
+/// A text, a boolean or a whole number.
+fn plain_of<'a>(value: &Json<'a>) -> Option<Plain<TextRef<'a>>>
+    ensures { result ≡ plain_of (view value.now) }
+{
+    match value {
+        Json::String(text) => Some(Plain::Text(TextRef::new(*text))),
+        Json::Bool(value) => Some(Plain::Boolean(*value)),
+        Json::Number(text) => Some(Plain::Integer(number(text)?.as_i128()?)),
+        _ => None,
     }
 }
 
@@ -80,8 +106,8 @@ fn is_one_kind(kinds: &[DataType]) -> bool
     }
 }
 
-/// The type of an attribute's values: the one that is named, else that of their kind, and string where
-/// there is no value either.
+/// The type of an attribute's values: the one that is named, else that of their kind, and string if there
+/// is no value either.
 fn type_of_values(named: Option<DataType>, kinds: &[DataType]) -> DataType
     ensures { result ≡ type_of_values named kinds.now }
 {
@@ -156,33 +182,7 @@ fn values_of(
     bag_of(alloc, type_of_values(named, kinds.as_slice()), items)
 }
 
-/// Reads an attribute.
-#[derive(Drop)]
-struct AttributeReader;
-
-impl Reader for AttributeReader {
-    type Output = Attribute;
-
-    ghost reads = { λ _ d. attribute d };
-
-    #[tactic(auto, unfolding(crate::specs::Attribute::attribute))]
-    fn read(&self, alloc: Global, value: &Json<'_>) -> Result<Attribute, OrMemory<RequestError>> {
-        let id = needed_text(alloc, member_at(value, Member::AttributeId))?;
-        let issuer = optional_text(alloc, member_at(value, Member::Issuer))?;
-        let include_in_result = flag(member_at(value, Member::IncludeInResult))?;
-        let named = named_type(member_at(value, Member::DataType))?;
-        let items = items_if_any(member_at(value, Member::Value));
-        let values = values_of(alloc, named, items)?;
-        Ok(Attribute {
-            id,
-            issuer,
-            include_in_result,
-            values,
-        })
-    }
-}
-
-/// The attributes of a member, and none where it is left out.
+/// The attributes of a member; none if it is left out.
 pub(crate) fn attributes_of(
     alloc: Global,
     member: Option<&Json<'_>>,

@@ -28,30 +28,6 @@ pub struct CategoryObject {
     pub attributes: Items<Attribute>,
 }
 
-/// The category that an object names; the fault is NotProfile.
-fn category_named(alloc: Global, value: Option<&Json<'_>>) -> Result<Text, OrMemory<RequestError>>
-    ensures { Gives result (named_category (option_map (λ v. view v.now) value.entry)) }
-{
-    let name = value
-        .and_then(Json::as_str)
-        .ok_or(RequestError::NotProfile)?;
-    Ok(Text::new(alloc, category_uri(name))?)
-}
-
-/// The category of an object, under a shorthand or not.
-fn category_of(
-    alloc: Global,
-    shorthand: Option<Category>,
-    value: &Json<'_>,
-) -> Result<Text, OrMemory<RequestError>>
-    ensures { Gives result (category_of shorthand (view value.now)) }
-{
-    match shorthand {
-        Some(category) => Ok(Text::new(alloc, category.uri())?),
-        None => category_named(alloc, member_at(value, Member::CategoryId)),
-    }
-}
-
 /// Reads a Category object.
 #[derive(Drop)]
 struct ObjectReader {
@@ -79,6 +55,30 @@ impl Reader for ObjectReader {
             id,
             attributes,
         })
+    }
+}
+
+/// The category that an object names; the fault is NotProfile.
+fn named_category(alloc: Global, value: Option<&Json<'_>>) -> Result<Text, OrMemory<RequestError>>
+    ensures { Gives result (named_category (option_map (λ v. view v.now) value.entry)) }
+{
+    let name = value
+        .and_then(Json::as_str)
+        .ok_or(RequestError::NotProfile)?;
+    Ok(Text::new(alloc, category_uri(name))?)
+}
+
+/// The category of an object, under a shorthand or not.
+fn category_of(
+    alloc: Global,
+    shorthand: Option<Category>,
+    value: &Json<'_>,
+) -> Result<Text, OrMemory<RequestError>>
+    ensures { Gives result (category_of shorthand (view value.now)) }
+{
+    match shorthand {
+        Some(category) => Ok(Text::new(alloc, category.uri())?),
+        None => named_category(alloc, member_at(value, Member::CategoryId)),
     }
 }
 

@@ -32,7 +32,7 @@ fn put_new<'a>(
     Ok(())
 }
 
-/// Puts a place to those of its category, whose number is looked up.
+/// Puts a place into the group of its category, whose number is looked up.
 fn put<'a>(
     alloc: Global,
     numbers: &mut BTreeMap<&'a str, usize>,

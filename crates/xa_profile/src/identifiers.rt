@@ -57,7 +57,7 @@ fn write_identifiers(
     out.end_object()
 }
 
-/// Writes the member PolicyIdentifierList, and nothing where nothing is named.
+/// Writes the member PolicyIdentifierList; nothing if nothing is named.
 #[tactic(auto, using(crate::proofs::TokenLemmas::no_identifiers, crate::proofs::TokenLemmas::some_identifiers))]
 pub(crate) fn write_identifiers_if_any(
     alloc: Global,

@@ -13,6 +13,35 @@ use crate::writing::{
 use json::Writer;
 use std::alloc::{AllocError, Global};
 
+impl ToJson for &Attribute {
+    ghost written = { λ a. attribute_data a.now };
+
+    #[tactic(auto, unfolding(crate::specs::Response::attribute_data), using(crate::proofs::TokenLemmas::text_if_any_first))]
+    fn write(&self, alloc: Global, out: &mut Writer) -> Result<(), AllocError> {
+        out.begin_object()?;
+        write_text(out, Member::AttributeId, self.id.as_str())?;
+        write_data_type(out, self.values.data_type())?;
+        write_text_if_any(out, Member::Issuer, &self.issuer)?;
+        out.key(Member::Value.name())?;
+        write_values(alloc, out, self.values.values())?;
+        out.end_object()
+    }
+}
+
+impl ToJson for &CategoryObject {
+    ghost written = { λ o. category_data o.now };
+
+    #[tactic(auto, unfolding(crate::specs::Response::category_data))]
+    fn write(&self, alloc: Global, out: &mut Writer) -> Result<(), AllocError> {
+        let attributes = included_attributes(alloc, self.attributes.as_slice())?;
+        out.begin_object()?;
+        out.key(Member::Attribute.name())?;
+        write_items(alloc, out, attributes.as_slice())?;
+        write_text(out, Member::CategoryId, self.category.as_str())?;
+        out.end_object()
+    }
+}
+
 /// Whether one of the attributes is to stand in the result.
 fn has_included(object: &CategoryObject) -> bool
     ensures { result ≡ has_included object.now }
@@ -69,33 +98,4 @@ fn included_attributes(
         }
     }
     Ok(found)
-}
-
-impl ToJson for &Attribute {
-    ghost written = { λ a. attribute_data a.now };
-
-    #[tactic(auto, unfolding(crate::specs::Response::attribute_data), using(crate::proofs::TokenLemmas::text_if_any_first))]
-    fn write(&self, alloc: Global, out: &mut Writer) -> Result<(), AllocError> {
-        out.begin_object()?;
-        write_text(out, Member::AttributeId, self.id.as_str())?;
-        write_data_type(out, self.values.data_type())?;
-        write_text_if_any(out, Member::Issuer, &self.issuer)?;
-        out.key(Member::Value.name())?;
-        write_values(alloc, out, self.values.values())?;
-        out.end_object()
-    }
-}
-
-impl ToJson for &CategoryObject {
-    ghost written = { λ o. category_data o.now };
-
-    #[tactic(auto, unfolding(crate::specs::Response::category_data))]
-    fn write(&self, alloc: Global, out: &mut Writer) -> Result<(), AllocError> {
-        let attributes = included_attributes(alloc, self.attributes.as_slice())?;
-        out.begin_object()?;
-        out.key(Member::Attribute.name())?;
-        write_items(alloc, out, attributes.as_slice())?;
-        write_text(out, Member::CategoryId, self.category.as_str())?;
-        out.end_object()
-    }
 }

@@ -23,7 +23,7 @@ use xa_value::{Items, OrMemory, Text};
 /// How many individual requests a request may have. Each of them is decided for itself.
 pub(crate) const MAX_INDIVIDUALS: usize = 64;
 
-/// More individual requests than a request may have, which is 64.
+/// A request stands for more individual requests (Multiple Decision Profile, section 2) than it may: 64.
 #[derive(Clone, Copy, Debug, PartialEq, Eq, Error)]
 #[error("more than 64 individual requests")]
 pub struct TooMany;
@@ -36,13 +36,32 @@ impl From<TooMany> for OrMemory<TooMany> {
     }
 }
 
-/// One of the individual requests of a request.
+/// One of the individual requests of a request (Multiple Decision Profile, section 2).
 #[derive(Debug, Drop, PartialEq, Eq)]
 pub enum Individual {
     /// The places of its objects among those of the request, from the least.
     Places(Items<usize>),
     /// A reference one of whose ids names no object, or that names two objects of one category.
     BadReference,
+}
+
+impl Request {
+    /// The individual requests that the request stands for (Multiple Decision Profile, section 2): those
+    /// that references name, or without any one for each combination of one object a category; or
+    /// TooMany, of more than 64. They hold the places of their objects, and copy none.
+    #[tactic(auto, unfolding(crate::specs::Individuals::individuals))]
+    pub fn individuals(&self, alloc: Global) -> Result<Items<Individual>, OrMemory<TooMany>>
+        ensures value { Gives result (individuals self.now) }
+        ensures exact { IsTrue (nat_lt 64 (length self.now.references))
+            → result ≡ answered (individuals self.now) }
+    {
+        let objects = self.objects.as_slice();
+        if self.references.is_empty() {
+            individuals_combined(alloc, objects)
+        } else {
+            individuals_named(alloc, objects, self.references.as_slice())
+        }
+    }
 }
 
 /// Makes the choice of that place true, if there is one.
@@ -85,7 +104,7 @@ fn in_request_order(
     Ok(places)
 }
 
-/// The places that ids name; none, where one of them names no object.
+/// The places that ids name; none, if one of them names no object.
 fn places_named(
     alloc: Global,
     by_id: &ObjectsById<'_>,
@@ -185,14 +204,10 @@ fn individuals_named(
 }
 
 /// The places of that many objects, in order.
-#[tactic(auto, using(crate::proofs::SingleLemmas::one_more_place))]
 fn all_places(alloc: Global, count: usize) -> Result<Items<usize>, AllocError>
     ensures { IfOk result (λ places. places ≡ range_with_len 0 count) }
 {
-    let mut places = Vec::with_capacity(alloc, count)?;
-    for place in 0..count {
-        places.push(place)?;
-    }
+    let places: Vec<usize> = (0..count).collect(alloc)?;
     Ok(Items::from_vec(places))
 }
 
@@ -227,23 +242,4 @@ fn individuals_combined(
         individuals.push(Individual::Places(places))?;
     }
     Ok(individuals)
-}
-
-impl Request {
-    /// The individual requests that the request stands for: those that references name, or without any
-    /// one for each combination of one object a category; or TooMany, of more than 64. They hold the
-    /// places of their objects, and copy none.
-    #[tactic(auto, unfolding(crate::specs::Individuals::individuals))]
-    pub fn individuals(&self, alloc: Global) -> Result<Items<Individual>, OrMemory<TooMany>>
-        ensures value { Gives result (individuals self.now) }
-        ensures exact { IsTrue (nat_lt 64 (length self.now.references))
-            → result ≡ answered (individuals self.now) }
-    {
-        let objects = self.objects.as_slice();
-        if self.references.is_empty() {
-            individuals_combined(alloc, objects)
-        } else {
-            individuals_named(alloc, objects, self.references.as_slice())
-        }
-    }
 }

@@ -6,8 +6,8 @@ ghost use Rattle.serde_json.specs.View.{number_view};
 use fast_float::Numeral;
 use serde_json::Number;
 
-/// The number without a minus: whole where it fits 64 bits, else the nearest float if that is finite.
-fn unsigned(numeral: &Numeral<'_>) -> Option<Number>
+/// The number without a minus: whole if it fits 64 bits, else the nearest float if that is finite.
+fn unsigned_number(numeral: &Numeral<'_>) -> Option<Number>
     ensures { option_map number_view result ≡ number_from false numeral.now }
 {
     match numeral.to_u64() {
@@ -16,9 +16,9 @@ fn unsigned(numeral: &Numeral<'_>) -> Option<Number>
     }
 }
 
-/// The number behind a minus: whole where it fits 64 bits and isn't zero, else the nearest float if that
-/// is finite.
-fn negative(numeral: &Numeral<'_>) -> Option<Number>
+/// The number behind a minus: whole if it fits 64 bits and isn't zero, else the nearest float if that is
+/// finite.
+fn negative_number(numeral: &Numeral<'_>) -> Option<Number>
     ensures { option_map number_view result ≡ number_from true numeral.now }
 {
     match numeral.to_i64(true) {
@@ -33,7 +33,7 @@ pub(crate) fn number(text: &str) -> Option<Number>
     ensures { option_map number_view result ≡ number_of text.now }
 {
     match text.as_bytes() {
-        [b'-', digits @ ..] => negative(&Numeral::scan(digits)),
-        digits => unsigned(&Numeral::scan(digits)),
+        [b'-', digits @ ..] => negative_number(&Numeral::scan(digits)),
+        digits => unsigned_number(&Numeral::scan(digits)),
     }
 }

@@ -40,7 +40,7 @@ impl<'a> Model for ObjectsById<'a> {
 }
 
 impl<'a> ObjectsById<'a> {
-    /// The objects. Where two have the same id, the first is found.
+    /// The objects. If two have the same id, the first is found.
     pub(crate) fn new(
         alloc: Global,
         objects: &'a [CategoryObject],
@@ -66,7 +66,7 @@ impl<'a> ObjectsById<'a> {
     }
 }
 
-/// Puts the place under the text, unless there is one.
+/// Puts the place under the text, unless a place stands there already.
 fn put_first<'a>(
     places: &mut BTreeMap<&'a str, usize>,
     text: &'a str,
@@ -82,7 +82,7 @@ fn put_first<'a>(
     Ok(())
 }
 
-/// Puts the place of the object under its id, if it has one under which there is none.
+/// Puts the place of the object under its id, if it has one, unless a place stands there already.
 fn put_object<'a>(
     places: &mut BTreeMap<&'a str, usize>,
     object: &'a CategoryObject,
@@ -98,7 +98,7 @@ fn put_object<'a>(
     }
 }
 
-/// The first place of the objects of each id.
+/// The place of the first object of each id.
 fn first_places<'a>(
     alloc: Global,
     objects: &'a [CategoryObject],

@@ -18,6 +18,19 @@ use std::alloc::Global;
 use std::slice;
 use xa_value::{Category, Items, OrMemory, Text};
 
+/// A reader of one value.
+pub(crate) trait Reader {
+    /// What it reads.
+    type Output;
+
+    /// What a value stands for, or its first fault.
+    ghost reads: { Self → Data → Result Self.Output ReadFault };
+
+    /// What the value stands for, or its first fault.
+    fn read(&self, alloc: Global, value: &Json<'_>) -> Result<Self::Output, OrMemory<RequestError>>
+        ensures { Gives result (reads self.now (view value.now)) };
+}
+
 /// The member of that name.
 pub(crate) fn member_at<'v, 'a>(value: &'v Json<'a>, name: Member) -> Option<&'v Json<'a>>
     ensures { option_map (λ v. view v.now) result ≡ at name (view value.now) }
@@ -82,7 +95,7 @@ pub(crate) fn optional_text(
     }
 }
 
-/// True or false, and false where it is left out; the fault is NotProfile.
+/// True or false, and false if it is left out; the fault is NotProfile.
 pub(crate) fn flag(value: Option<&Json<'_>>) -> Result<bool, RequestError>
     ensures { result ≡ flag (option_map (λ v. view v.now) value.entry) }
 {
@@ -102,7 +115,7 @@ pub(crate) fn items_or_itself<'v, 'a>(value: &'v Json<'a>) -> &'v [Json<'a>]
     }
 }
 
-/// The items of a member, and none where it is left out.
+/// The items of a member; none if it is left out.
 pub(crate) fn items_if_any<'v, 'a>(value: Option<&'v Json<'a>>) -> &'v [Json<'a>]
     ensures { items_view result.now ≡ items_if_any (option_map (λ v. view v.now) value.entry) }
 {
@@ -110,19 +123,6 @@ pub(crate) fn items_if_any<'v, 'a>(value: Option<&'v Json<'a>>) -> &'v [Json<'a>
         Some(value) => items_or_itself(value),
         None => Default::default(),
     }
-}
-
-/// What is read from one value.
-pub(crate) trait Reader {
-    /// What it is.
-    type Output;
-
-    /// What the value stands for.
-    ghost reads: { Self → Data → Result Self.Output ReadFault };
-
-    /// What the value stands for, or its first fault.
-    fn read(&self, alloc: Global, value: &Json<'_>) -> Result<Self::Output, OrMemory<RequestError>>
-        ensures { Gives result (reads self.now (view value.now)) };
 }
 
 /// Each of the values, read in order, behind the items.

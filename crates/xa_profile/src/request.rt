@@ -19,15 +19,15 @@ use xa_value::{Items, OrMemory, Text};
 /// A request (JSON Profile, section 4).
 #[derive(Debug, Drop)]
 pub struct Request {
-    /// Whether the policies that applied are asked for.
+    /// Whether the policies and policy sets that applied are to be named (ReturnPolicyIdList).
     pub return_policy_id_list: bool,
-    /// Whether one decision is asked for that stands for all individual ones.
+    /// Whether one decision is asked for that stands for all individual ones (CombinedDecision).
     pub combined_decision: bool,
     /// The Category objects: those of the member Category, and then those under shorthands, in the order
     /// of these.
     pub objects: Items<CategoryObject>,
-    /// The requests of MultiRequests, each by the ids of its objects; none where there is no such
-    /// member, or no item in it.
+    /// The requests of MultiRequests, each by the ids of its objects; none if there is no such member,
+    /// or no item in it.
     pub references: Items<Items<Text>>,
 }
 
@@ -88,7 +88,7 @@ fn references_in(
     each(alloc, &ReferenceReader, items_or_itself(references))
 }
 
-/// The requests of MultiRequests, and none where it is left out.
+/// The requests of MultiRequests; none if it is left out.
 fn all_references(
     alloc: Global,
     value: Option<&Json<'_>>,

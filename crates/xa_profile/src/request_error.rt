@@ -8,10 +8,10 @@ use xa_value::OrMemory;
 /// Why bytes are no request.
 #[derive(Clone, Copy, Debug, PartialEq, Eq, Error)]
 pub enum RequestError {
-    /// They are not JSON in UTF-8.
+    /// They are not JSON in UTF-8 (RFC 8259, section 8.1).
     #[error("the body is not JSON")]
     NotJson,
-    /// They are JSON, and no request of the JSON Profile.
+    /// They are JSON, but no request (JSON Profile, section 4).
     #[error("the body is not a request of the JSON Profile")]
     NotProfile,
 }

@@ -22,9 +22,9 @@ const BODY_ROOM: usize = 256;
 /// One of the results of a response (JSON Profile, section 5.2).
 #[derive(Debug, Drop)]
 pub struct ResultObject {
-    /// The decision, why, what comes with it, and the policies and policy sets that are named.
+    /// The decision, its status, obligations and advice, and the policies and policy sets that are named.
     pub evaluated: Evaluated,
-    /// The places of its Category objects among those of the request; none where it stands for a request
+    /// The places of its Category objects among those of the request; none if it stands for a request
     /// whose individual requests aren't decided, or for a bad reference.
     pub places: Items<usize>,
 }
@@ -34,7 +34,7 @@ pub struct ResultObject {
 pub struct Response<'a> {
     /// The Category objects of the request.
     pub objects: &'a [CategoryObject],
-    /// The results, in order: one for each individual request, or one alone where these aren't decided.
+    /// The results, in order: one for each individual request, or one alone if these aren't decided.
     pub results: Items<ResultObject>,
 }
 
@@ -61,34 +61,6 @@ impl<'a> Response<'a> {
         self.write(alloc, &mut out)?;
         Ok(out.into_inner())
     }
-}
-
-/// The decision as it is shown (core, section 5.53): the three kinds of Indeterminate are one.
-#[tactic(auto, unfolding(crate::specs::Response::decision_text))]
-fn decision_text(decision: Decision) -> &'static str
-    ensures { result.now ≡ decision_text decision }
-{
-    match decision {
-        Decision::Permit => "Permit",
-        Decision::Deny => "Deny",
-        Decision::NotApplicable => "NotApplicable",
-        Decision::IndeterminatePermit
-        | Decision::IndeterminateDeny
-        | Decision::IndeterminateDenyPermit => "Indeterminate",
-    }
-}
-
-/// Writes a status, which is its code.
-#[tactic(auto, unfolding(crate::specs::Response::status_data))]
-fn write_status(out: &mut Writer, status: Status) -> Result<(), AllocError>
-    ensures { Appends result out.old out.new (tokens (status_data status)) }
-{
-    out.begin_object()?;
-    out.key(Member::StatusCode.name())?;
-    out.begin_object()?;
-    write_text(out, Member::Value, status.uri())?;
-    out.end_object()?;
-    out.end_object()
 }
 
 impl ToJson for AttributeAssignment {
@@ -118,6 +90,34 @@ impl ToJson for Duty {
         write_text(out, Member::Id, self.id.as_str())?;
         out.end_object()
     }
+}
+
+/// The decision as it is shown (core, section 5.53): the three kinds of Indeterminate are one.
+#[tactic(auto, unfolding(crate::specs::Response::decision_text))]
+fn decision_text(decision: Decision) -> &'static str
+    ensures { result.now ≡ decision_text decision }
+{
+    match decision {
+        Decision::Permit => "Permit",
+        Decision::Deny => "Deny",
+        Decision::NotApplicable => "NotApplicable",
+        Decision::IndeterminatePermit
+        | Decision::IndeterminateDeny
+        | Decision::IndeterminateDenyPermit => "Indeterminate",
+    }
+}
+
+/// Writes a status, which is its code.
+#[tactic(auto, unfolding(crate::specs::Response::status_data))]
+fn write_status(out: &mut Writer, status: Status) -> Result<(), AllocError>
+    ensures { Appends result out.old out.new (tokens (status_data status)) }
+{
+    out.begin_object()?;
+    out.key(Member::StatusCode.name())?;
+    out.begin_object()?;
+    write_text(out, Member::Value, status.uri())?;
+    out.end_object()?;
+    out.end_object()
 }
 
 /// Writes the member Category of a result: the objects at the places that have an attribute that is to

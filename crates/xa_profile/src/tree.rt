@@ -71,7 +71,8 @@ fn value_of<'a>(alloc: Global, text: &'a str, scratch: &'a mut Scratch) -> Resul
     Ok(value)
 }
 
-/// The JSON of a body. A text with escapes stands in the scratch room, and every other in the body itself.
+/// The JSON of a body. A text that has escapes stands in the scratch room without them; every other text
+/// is that of the body.
 #[tactic(auto, unfolding(crate::specs::Json::json))]
 pub(crate) fn json<'a>(
     alloc: Global,

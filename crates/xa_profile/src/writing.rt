@@ -22,6 +22,20 @@ pub trait ToJson {
         ensures { Appends result out.old out.new (tokens (written self.now)) };
 }
 
+impl ToJson for Value {
+    ghost written = { λ v. value_data v };
+
+    #[tactic(auto, using(crate::proofs::TokenLemmas::integer_text))]
+    fn write(&self, alloc: Global, out: &mut Writer) -> Result<(), AllocError> {
+        match self {
+            Value::Boolean(value) => out.boolean(*value),
+            Value::Integer(value) => out.i64(*value),
+            Value::String(text) | Value::AnyUri(text) => out.string(text.as_str()),
+            _ => out.string(self.to_text(alloc)?.as_str()),
+        }
+    }
+}
+
 /// Writes an array of the items, as the next value. Without memory the writer may hold a part of it.
 pub fn write_items<T: ToJson>(
     alloc: Global,
@@ -37,7 +51,7 @@ pub fn write_items<T: ToJson>(
     out.end_array()
 }
 
-/// Writes an array as a member, and nothing where it is empty.
+/// Writes an array as a member; nothing if it is empty.
 #[tactic(auto, using(crate::proofs::TokenLemmas::no_items, crate::proofs::TokenLemmas::some_items))]
 pub(crate) fn write_items_if_any<T: ToJson>(
     alloc: Global,
@@ -62,7 +76,7 @@ pub(crate) fn write_text(out: &mut Writer, name: Member, text: &str) -> Result<(
     out.string(text)
 }
 
-/// Writes a text as a member, and nothing where there is none.
+/// Writes a text as a member; nothing if there is none.
 pub(crate) fn write_text_if_any(
     out: &mut Writer,
     name: Member,
@@ -82,20 +96,6 @@ pub(crate) fn write_data_type(out: &mut Writer, data_type: DataType) -> Result<(
     ensures { Appends result out.old out.new (member_tokens Member.DataType (type_data data_type)) }
 {
     write_text(out, Member::DataType, data_type.uri())
-}
-
-impl ToJson for Value {
-    ghost written = { λ v. value_data v };
-
-    #[tactic(auto, using(crate::proofs::TokenLemmas::integer_text))]
-    fn write(&self, alloc: Global, out: &mut Writer) -> Result<(), AllocError> {
-        match self {
-            Value::Boolean(value) => out.boolean(*value),
-            Value::Integer(value) => out.i64(*value),
-            Value::String(text) | Value::AnyUri(text) => out.string(text.as_str()),
-            _ => out.string(self.to_text(alloc)?.as_str()),
-        }
-    }
 }
 
 /// Writes the values of an attribute: one by itself, several or none as an array.

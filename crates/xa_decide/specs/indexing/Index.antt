@@ -8,7 +8,7 @@ use Rattle.std.specs.Option.{option_cmp}
 use Rattle.std.specs.Ordering.{nat_cmp, on, then_cmp, is_eq}
 use Rattle.std.specs.declared.cmp.Ordering.{Ordering}
 
--- what is looked up: a number, and texts, each empty where it isn't a part of the key
+-- what is looked up: a number, and texts, each empty if it isn't a part of the key
 pub record Sought : Type 0 where
   pub number : ℕ
   pub category : List ℕ
@@ -51,7 +51,7 @@ IsInOrder key_of items order =
     IsSortedByKey (key_at key_of items) (option_cmp compare_keys) order
     × IsStableByKey (key_at key_of items) (option_cmp compare_keys) (range_with_len 0 (length items)) order
 
--- so they are where there are more than eight items; fewer are looked at one after another
+-- so they are if there are more than eight items; fewer are looked at one after another
 abbrev pub IsOrder : {X : Type 0} → (X → Sought) → List X → List ℕ → Type 0
 IsOrder key_of items order = nat_le (length items) 8 ≡ false → IsInOrder key_of items order
 

@@ -14,7 +14,7 @@ use Rattle.xa_decide.specs.indexing.Index.{Sought, sought}
 abbrev pub row_key : List ℕ → List ℕ → List ℕ → DataType → Sought
 row_key category entity id t = sought (place_of t) category entity id []
 
--- and its issuer, where it has one; one without an issuer has another number than any that has one
+-- and its issuer, if it has one; one without an issuer has another number than any that has one
 abbrev pub issued_row_key : List ℕ → List ℕ → List ℕ → DataType → Option (List ℕ) → Sought
 issued_row_key category entity id t None = row_key category entity id t
 issued_row_key category entity id t (Some issuer) = sought (11 + place_of t) category entity id issuer
@@ -23,7 +23,7 @@ issued_row_key category entity id t (Some issuer) = sought (11 + place_of t) cat
 abbrev pub name_key : List ℕ → DataType → Sought
 name_key id t = row_key [] [] id t
 
--- and its issuer, where it has one
+-- and its issuer, if it has one
 abbrev pub issuer_key : List ℕ → DataType → Option (List ℕ) → Sought
 issuer_key id t issuer = issued_row_key [] [] id t issuer
 

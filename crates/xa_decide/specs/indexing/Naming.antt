@@ -25,7 +25,7 @@ both (one text) (one other) = several
 both (one text) several = several
 both several b = several
 
--- the one text, where there is one
+-- the one text, if there is one
 abbrev pub text_said : Said → List ℕ
 text_said none = []
 text_said (one text) = text

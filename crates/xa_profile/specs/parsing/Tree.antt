@@ -26,7 +26,7 @@ abbrev mutual
   members_are_readable json.no_members = true
   members_are_readable (json.member k j ms) = is_readable j && members_are_readable ms
 
--- null, where the number is too large
+-- the number; null, if it is too large
 abbrev pub number_or_null : Option Num → Data
 number_or_null None = null
 number_or_null (Some n) = number n

@@ -29,7 +29,7 @@ abbrev pub text_if_any_tokens : Member → Option (List ℕ) → List Token
 text_if_any_tokens name None = []
 text_if_any_tokens name (Some text) = key (name_of name) ∷ string text ∷ []
 
--- those of an array that is left out where it is empty
+-- those of an array that is left out if it is empty
 abbrev pub items_if_any_tokens : Member → List Data → List Token
 items_if_any_tokens name [] = []
 items_if_any_tokens name (d ∷ ds) = member_tokens name (listing (d ∷ ds))
@@ -39,6 +39,6 @@ abbrev pub identifiers_if_any_tokens : List DocumentKey → List Token
 identifiers_if_any_tokens [] = []
 identifiers_if_any_tokens (k ∷ ks) = member_tokens member.PolicyIdentifierList (identifiers_data (k ∷ ks))
 
--- where it was written, these tokens were, behind those that there were
+-- if it was written, these tokens stand behind those that there were
 abbrev pub Appends : {E : Type 0} → Result (Unit {0}) E → Written → Written → List Token → Type 0
 Appends r old new ts = OnOk r ((new.before ≡ old.before) × (new.tokens ≡ old.tokens ++ ts))

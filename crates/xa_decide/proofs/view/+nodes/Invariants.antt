@@ -1,5 +1,5 @@
 use Rattle.std.proofs.Common.{◌≡◌, ◌+◌, drop}
-use Rattle.xa_decide.specs.Places.{counted, nodes_of_all}
+use Rattle.xa_decide.specs.Nodes.{counted, nodes_of_all}
 use Rattle.xa_decide.proofs.view.+nodes.Given as goal
 
 -- those so far can be counted, and with those of the rest they are those of all, as far as these can be counted

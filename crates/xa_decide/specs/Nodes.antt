@@ -1,4 +1,4 @@
--- How many nodes a tree has, which `View::places` gives: its policies and policy sets, and the references that lead
+-- How many nodes a tree has, which `View::nodes` gives: its policies and policy sets, and the references that lead
 -- nowhere. Nothing that is decided rests on it.
 use Rattle.std.specs.Prelude.{ℕ, ◌+◌, ◌-◌, ◌^◌, min, List, map, sum, Option, Some, None, Result, Ok, Err}
 use Rattle.xa_policy.specs.declared.linked.Linked.{Linked, fold-Linked}
@@ -22,8 +22,8 @@ nodes_of_all trees = sum (map nodes trees)
 abbrev pub counted : ℕ → ℕ
 counted n = min n (2 ^ 64 - 1)
 
--- those of the tree that decides; none where there is no tree, and where it is too large
-abbrev pub places_of_tree : Option (Result Linked LinkError) → ℕ
-places_of_tree None = 0
-places_of_tree (Some (Err e)) = 0
-places_of_tree (Some (Ok tree)) = counted (nodes tree)
+-- those of the tree that decides; none if there is no tree, or it is too large
+abbrev pub nodes_of_tree : Option (Result Linked LinkError) → ℕ
+nodes_of_tree None = 0
+nodes_of_tree (Some (Err e)) = 0
+nodes_of_tree (Some (Ok tree)) = counted (nodes tree)
