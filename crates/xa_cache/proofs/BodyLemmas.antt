@@ -28,7 +28,7 @@ module _ (key : Key) where
     | false ↦ λ t. let on = among es e (rw t at h) in (on.0, rw t on.1, rw t (omega (arith, on.2)))
   ]) refl
 
-  -- and where it comes upon nothing, none is taken away
+  -- and if it comes upon nothing, none is taken away
   none : (es : List (Key × List ℕ)) → lookup_entry (same_key key) es ≡ None → (found key es ≡ None) × (remove_entry (same_key key) es ≡ es)
   none [] h = (refl, refl)
   none (f ∷ es) h = (elim (same_key key f.0) as (λ y. same_key key f.0 ≡ y → (found key (f ∷ es) ≡ None) × (remove_entry (same_key key) (f ∷ es) ≡ f ∷ es)) [
@@ -89,6 +89,6 @@ module _ (P : Key × List ℕ → Type 0) (key : Key) where
   pub all_kept : (body : List ℕ) (es : List (Key × List ℕ)) → P (key, body) → AllByRecursion P es → AllByRecursion P (kept key body es)
   all_kept body es this all = all_taken 512 (first key es body) (this, all_removed es all)
 
--- where nothing is found, nothing moves
+-- if nothing is found, nothing moves
 pub unlooked : (key : Key) (es : List (Key × List ℕ)) → found key es ≡ None → looked key es ≡ es
 unlooked key es h = rw h refl

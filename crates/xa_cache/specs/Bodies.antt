@@ -1,4 +1,4 @@
--- What a cache holds: bodies of decisions under keys, the one that was used last first.
+-- What a cache holds: bodies of decisions under keys, the most recently used first.
 use Rattle.std.specs.Prelude.{ℕ, Bool, ◌&&◌, nat_eq, nat_le, List, ◌∷◌, length, take, Option}
 use Rattle.std.specs.Cmp.Lexicographic.{pointwise}
 use Rattle.std.specs.Map.{lookup, remove_entry}
@@ -25,7 +25,7 @@ found key bodies = lookup (same_key key) bodies
 abbrev pub first : Key → List (Key × List ℕ) → List ℕ → List (Key × List ℕ)
 first key bodies body = (key, body) ∷ remove_entry (same_key key) bodies
 
--- after that key was looked up: its body stands first, and where there is none all is as it was
+-- after that key was looked up: its body stands first, and if there is none all is as it was
 abbrev pub looked : Key → List (Key × List ℕ) → List (Key × List ℕ)
 looked key bodies = option_map_or (first key bodies) (found key bodies) bodies
 

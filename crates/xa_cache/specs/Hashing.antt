@@ -7,11 +7,11 @@ use Rattle.std.specs.Hash.DefaultHasher as siphash
 use Rattle.xa_cache.specs.declared.seeded.Polynomial.{Polynomial}
 use Rattle.xa_cache.specs.declared.seeded.Seeded.{Seeded}
 
--- the same number modulo 2^61 - 1, and a shorter one
+-- a shorter number that is the same modulo 2^61 - 1
 abbrev pub folded : ℕ → ℕ
 folded n = n % 2 ^ 61 + n / 2 ^ 61
 
--- the value once a part of that number was written
+-- the value after a part of that number
 abbrev pub with_part : ℕ → ℕ → ℕ → ℕ
 with_part point value number = folded (folded (value * point + number))
 
@@ -23,7 +23,7 @@ next_byte number byte = (number * 256 % 2 ^ 64 + byte) % 2 ^ 64
 abbrev pub number_of_part : List ℕ → ℕ
 number_of_part bytes = fold next_byte 1 bytes
 
--- the value once parts were written
+-- the value after these parts
 abbrev pub with_parts : ℕ → ℕ → List (List ℕ) → ℕ
 with_parts point value parts = fold (λ v bytes. with_part point v (number_of_part bytes)) value parts
 
@@ -31,16 +31,16 @@ with_parts point value parts = fold (λ v bytes. with_part point v (number_of_pa
 abbrev pub powers : Polynomial → List ℕ
 powers hasher = hasher.fourth ∷ hasher.cube ∷ hasher.square ∷ hasher.point ∷ 1 ∷ []
 
--- the value once four parts were written at once
+-- the value after that one and four parts
 abbrev pub with_four : Polynomial → ℕ → List (List ℕ) → ℕ
 with_four hasher value parts =
     folded (folded (sum (map (λ p. folded (p.1 * p.0)) (zip (powers hasher) (value ∷ map number_of_part parts)))))
 
--- the value once so many times four parts were written
+-- the value after these fours of parts
 abbrev pub with_fours : Polynomial → List (List (List ℕ)) → ℕ
 with_fours hasher fours = fold (with_four hasher) hasher.value fours
 
--- the hasher once bytes were written: in parts of seven, four at once as long as there are four, and then the rest
+-- the hasher after these bytes: in parts of seven, four at once as long as there are four, and then the rest
 abbrev pub hashed : Polynomial → List ℕ → Polynomial
 hashed hasher bytes =
     let whole = length bytes / 7 in

@@ -1,4 +1,4 @@
-//! The cache: at most 512 bodies, of which the one that was not used for the longest time goes.
+//! The cache: at most 512 bodies; the least recently used goes.
 ghost use Rattle.std.specs.Prelude.{◌≡◌, [], true, false, option_map, IsSome, IsTrue, IfOk};
 ghost use Rattle.std.specs.Borrow.{sem};
 ghost use Rattle.xa_cache.specs.Bodies.{fits, found, kept, looked};
@@ -11,15 +11,15 @@ use std::marker::Model;
 use std::num::NonZeroUsize;
 use xa_value::Items;
 
-/// The most bodies that are kept: with those of their requests they come to 16 MiB at most.
+/// The most bodies that are cached. With the bodies of their requests they have 16 MiB at most.
 const MAX_BODIES: usize = 512;
 
-/// The most bytes of a body of a request, and of a decision, that is kept: two that long are
-/// compared in about a microsecond.
-const MAX_BODY_BYTES: usize = 16_384;
+/// The most bytes that the body of a cached decision has, and the body of its request. Two bodies of
+/// that length are compared in about a microsecond.
+const MAX_KEPT_BYTES: usize = 16_384;
 
-/// Bodies of decisions, each under its key. Contracts see the keys and bodies, the one that was
-/// used last first.
+/// Bodies of decisions, each under its key. Contracts see the keys and bodies, the most recently used
+/// first.
 #[derive(Drop)]
 pub struct Cache {
     bodies: LruCache<Key, Items<u8>, Seeded>,
@@ -43,8 +43,8 @@ impl Model for Cache {
 impl Cache {
     ghost use Rattle.xa_cache.specs.Ends.{ends_as};
 
-    /// No bodies. Keys are hashed with the secret, so that nobody who doesn't know it can choose
-    /// requests whose hashes collide.
+    /// An empty cache. Keys are hashed with the secret: who doesn't know it can't choose requests whose
+    /// hashes collide.
     pub fn new(alloc: Global, secret: &[u8]) -> Result<Cache, AllocError>
         ensures { IfOk result (λ cache. cache ≡ []) }
     {
@@ -54,7 +54,7 @@ impl Cache {
         })
     }
 
-    /// The body under an equal key, which is now the one that was used last.
+    /// The body under an equal key, which is now the most recently used.
     pub fn look(&mut self, key: &Key) -> Option<&[u8]>
         ensures* moves { sem 𝓛 (ends_as self.entry (looked key.now self.old)) }
         ensures value { option_map (λ body. body.now) result ≡ found key.now self.old }
@@ -65,9 +65,9 @@ impl Cache {
         }
     }
 
-    /// Keeps the body under the key, in the place of the one that was under an equal key, as the
-    /// one that was used last, and answers whether it was kept. The 513th goes. A body that doesn't
-    /// fit isn't kept, nor one for which there is no memory.
+    /// Caches the body under the key, as the most recently used, and returns whether it did. A body under
+    /// an equal key is replaced; of 513 bodies the least recently used goes. A body that doesn't fit isn't
+    /// cached, nor one for which there is no memory.
     pub fn keep(&mut self, key: Key, body: Items<u8>) -> bool
         ensures kept { result ≡ true → self.new ≡ kept key body self.old }
         ensures left { result ≡ false → self.new ≡ self.old }
@@ -85,10 +85,10 @@ impl Cache {
 pub fn fits(key: &Key, body: &Items<u8>) -> bool
     ensures { result ≡ fits key.now body.now }
 {
-    key.body().len() <= MAX_BODY_BYTES && body.len() <= MAX_BODY_BYTES
+    key.body().len() <= MAX_KEPT_BYTES && body.len() <= MAX_KEPT_BYTES
 }
 
-/// Puts the body first, where there is memory, and answers whether there was.
+/// Puts the body first if there is memory, and returns whether there was.
 fn put(bodies: &mut LruCache<Key, Items<u8>, Seeded>, key: Key, body: Items<u8>) -> bool
     requires { bodies.old.cap ≡ 512 }
     ensures cap { bodies.new.cap ≡ 512 }
@@ -96,11 +96,8 @@ fn put(bodies: &mut LruCache<Key, Items<u8>, Seeded>, key: Key, body: Items<u8>)
     ensures left { result ≡ false → bodies.new ≡ bodies.old }
     ensures again { IsSome (found key bodies.old.entries) → result ≡ true }
 {
-    // Nothing is done with the length: by the clause `valid` of this look the prover knows that no
-    // more bodies stand in the map than it has places.
+    // Nothing is done with the length. By the clause `valid` of this call the prover knows that the map
+    // has no more bodies than its capacity.
     let _length = bodies.len();
-    match bodies.put(key, body) {
-        Ok(_) => true,
-        Err(_) => false,
-    }
+    bodies.put(key, body).is_ok()
 }

@@ -1,4 +1,4 @@
-//! What a kept body is found by.
+//! The key of a cached body.
 ghost use Rattle.std.specs.Prelude.{◌≡◌, ◌++◌, ◌∷◌, [], IfOk};
 ghost use Rattle.std.specs.Cmp.Rules.{hashing};
 ghost use Rattle.std.specs.Hash as fed;
@@ -9,7 +9,7 @@ use std::alloc::{AllocError, Global};
 use std::hash::{Hash, Hasher};
 use xa_value::Items;
 
-/// A domain's number and epoch, and the bytes of a request's body. Two keys are equal where all three are.
+/// A domain's number and epoch, and the bytes of a request's body. Two keys are equal if all three are.
 #[derive(Debug, Drop, PartialEq, Eq)]
 pub struct Key {
     number: u64,
@@ -18,7 +18,7 @@ pub struct Key {
 }
 
 impl Key {
-    /// The key of the domain with that number, at that epoch, and of that body, which is copied.
+    /// The key of the domain with that number, at that epoch, and of that body. The body is copied.
     pub fn new(alloc: Global, number: u64, epoch: u64, body: &[u8]) -> Result<Key, AllocError>
         ensures { IfOk result (λ key. key ≡ key_of number epoch body.now) }
     {
@@ -42,7 +42,7 @@ impl Hash for Key {
 
     ghost respects_eq = { Prim.search (hashing, rules) };
 
-    // The body goes in one call, by which the hasher takes seven bytes at a time.
+    // The body is written in one call, so that the hasher takes seven bytes at a time.
     fn hash<H: Hasher>(&self, state: &mut H) {
         state.write_u64(self.number);
         state.write_u64(self.epoch);

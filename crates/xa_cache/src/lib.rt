@@ -1,5 +1,4 @@
-//! The bodies of decisions that were worked out and may be sent again, each under its domain's
-//! number and epoch and its request's body.
+//! Cached decisions: the body of each, under its domain's number and epoch and the body of its request.
 #![tactic(auto)]
 
 mod cache;

@@ -16,7 +16,7 @@ pub(crate) struct Seeded {
 }
 
 /// A hasher: the point and its powers, by which four parts are taken at once, and the polynomial's
-/// value there as far as it was written.
+/// value so far.
 #[derive(Clone, Copy)]
 pub(crate) struct Polynomial {
     point: u64,
@@ -52,7 +52,7 @@ impl BuildHasher for Seeded {
 }
 
 impl Polynomial {
-    /// The hasher at the point that begins with the value.
+    /// The hasher at that point, which begins with that value.
     fn at(point: u64, value: u64) -> Polynomial
         ensures { result ≡ hasher_at point value }
     {
@@ -67,8 +67,8 @@ impl Polynomial {
         }
     }
 
-    /// The value once four parts and a value before them were written: each is multiplied by its
-    /// power of the point, none of which waits for another.
+    /// The value after this one and four parts. Each is multiplied by its power of the point, so that no
+    /// product waits for another.
     fn with_four(&self, value: u64, parts: &[[u8; 7]; 4]) -> u64
         ensures { result ≡ with_four self.now value parts.now }
     {
@@ -82,15 +82,13 @@ impl Polynomial {
         folded(folded(sum)) as u64
     }
 
-    /// The value once so many times four parts were written.
+    /// The value after these fours of parts.
     fn with_fours(&self, fours: &[[[u8; 7]; 4]]) -> u64
         ensures { result ≡ with_fours self.now fours.now }
     {
-        let mut value = self.value;
-        for parts in fours {
-            value = self.with_four(value, parts);
-        }
-        value
+        fours
+            .iter()
+            .fold(self.value, |value, parts| self.with_four(value, parts))
     }
 }
 
@@ -112,19 +110,18 @@ impl Hasher for Polynomial {
     }
 }
 
-/// The number of a part of at most seven bytes, below 2^57. That it begins with a one tells parts of
+/// The number of a part of at most seven bytes, below 2^57. It begins with a one, which tells parts of
 /// different lengths apart.
 fn number_of_part(bytes: &[u8]) -> u64
     ensures { result ≡ number_of_part bytes.now }
 {
-    let mut number = 1u64;
-    for byte in bytes {
-        number = number.wrapping_mul(256).wrapping_add(u64::from(*byte));
-    }
-    number
+    bytes.iter().fold(
+        1u64,
+        |number, byte| number.wrapping_mul(256).wrapping_add(u64::from(*byte)),
+    )
 }
 
-/// The number of a part of seven bytes: what [`number_of_part`] gives, at once.
+/// The number of a part of seven bytes, as [`number_of_part`] gives it, in one step.
 fn number_of_seven(bytes: &[u8; 7]) -> u64
     ensures { result ≡ number_of_part bytes.now }
 {
@@ -132,8 +129,8 @@ fn number_of_seven(bytes: &[u8; 7]) -> u64
     u64::from_be_bytes([1, a, b, c, d, e, f, g])
 }
 
-/// The same number modulo the prime, and a shorter one. It may still be the prime or more: a value is never
-/// reduced all the way, since nothing rests on it but time.
+/// A shorter number that is the same modulo the prime. It may still be the prime or more: a value is never
+/// fully reduced, since nothing rests on it but time.
 fn folded(number: u128) -> u128
     ensures { result ≡ folded number }
 {
@@ -147,7 +144,7 @@ fn product(number: u64, power: u64) -> u128
     folded(number as u128 * power as u128)
 }
 
-/// The value once a part of that number was written: multiplied by the point, and the number added.
+/// The value after a part of that number: it is multiplied by the point, and the number added.
 fn with_part(point: u64, value: u64, number: u64) -> u64
     ensures { result ≡ with_part point value number }
 {
@@ -155,12 +152,12 @@ fn with_part(point: u64, value: u64, number: u64) -> u64
     folded(folded(value as u128 * point as u128 + number as u128)) as u64
 }
 
-/// The value once the parts were written.
-fn with_parts(point: u64, mut value: u64, parts: &[[u8; 7]]) -> u64
+/// The value after these parts.
+fn with_parts(point: u64, value: u64, parts: &[[u8; 7]]) -> u64
     ensures { result ≡ with_parts point value parts.now }
 {
-    for bytes in parts {
-        value = with_part(point, value, number_of_seven(bytes));
-    }
-    value
+    parts.iter().fold(
+        value,
+        |value, bytes| with_part(point, value, number_of_seven(bytes)),
+    )
 }

@@ -4,5 +4,4 @@ pub mod SizeLemmas
 pub mod LawLemmas
 pub mod TrimLemmas
 pub mod OpenHeadLemmas
-pub mod PartLemmas
 pub mod TableLemmas

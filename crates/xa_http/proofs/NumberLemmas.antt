@@ -118,7 +118,7 @@ longer k xs cs dx dy l e = by_zeros k l
     by_zeros zero l = padded zero l
     by_zeros (suc k) l = absurd (starts_plain cs (pad k xs) (sym (padded (suc k) l)))
 
--- two texts of digits write the same number just where they are the same without leading zeros
+-- two texts of digits write the same number exactly if they are the same without leading zeros
 same_skipped : (ds es : List ℕ) → list_all is_ascii_digit ds ≡ true → list_all is_ascii_digit es ≡ true
     → digits_value 10 ds ≡ digits_value 10 es → skip_zeros ds ≡ skip_zeros es
 same_skipped ds es da db e =

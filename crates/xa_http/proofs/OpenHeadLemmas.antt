@@ -1,4 +1,4 @@
--- A head that is followed byte for byte: where it may go on, and that it isn't whole.
+-- A head that is followed byte by byte: where it may go on, and that it isn't whole.
 use Rattle.std.proofs.Common.{◌≡◌, ℕ, ◌+◌, ◌<◌, ◌≤◌, ◌-◌, Bool, true, false, List, [], ◌∷◌, ◌++◌, length, get_or, take, drop, refl, sym, ap, ◌∙◌, subst, arith, append_assoc, append-nil, length-append, length-drop, inl, inr}
 use Rattle.std.specs.Prelude.{IsUtf8, Ok, IsTrue, nat_lt}
 use Rattle.std.proofs.lemmas.Bool.Decides.{nat_tests}
@@ -152,7 +152,7 @@ opened part.ValueReturn bytes is =
     let line = open_text v.0 (v.1 ++ 13 ∷ []) is.3 v.2 v.4 text.0 text.1 in
     open_section bytes is.2 is.3 is.0 is.1 is.4 is.5 line.0 line.1
 
--- where all that is held was followed, and it is less than a head may have, more bytes may make a message of it
+-- if all that is held was followed, and it is less than a head may have, more bytes may make a message of it
 pub unfinished : (held : List ℕ) (head : OpenHead) → IsOpenHead held head → length held ≤ head.len → IsTrue (nat_lt (length held) 16_384) → IsUnfinished held
 unfolding IsUnfinished window
 unfinished held head is all less =

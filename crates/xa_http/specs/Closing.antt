@@ -11,7 +11,7 @@ use Rattle.xa_http.specs.Parts.{parts_of}
 abbrev pub members_of : List ℕ → List (List ℕ)
 members_of value = map trim_ows (parts_of 44 value)
 
--- the member is the token `close`; tokens of Connection compare without letter case
+-- the member is the token `close`; tokens of Connection compare case-insensitively
 abbrev pub is_close : List ℕ → Bool
 is_close token = str_eq_ignore_ascii_case token (codes "close")
 

@@ -1,4 +1,4 @@
--- Which media types a body may have that is read (RFC 9110, sections 8.3 and 8.3.1; JSON Profile of XACML 3.0,
+-- Which media types a body that is read may have (RFC 9110, sections 8.3 and 8.3.1; JSON Profile of XACML 3.0,
 -- section 7).
 use Rattle.std.specs.Prelude.{ℕ, Bool, true, false, ◌||◌, List, [], ◌∷◌, codes}
 use Rattle.std.specs.Str.{str_eq_ignore_ascii_case}
@@ -11,7 +11,7 @@ use Rattle.xa_http.specs.Parts.{before}
 abbrev pub media_type : List ℕ → List ℕ
 media_type value = trim_ows (before 59 value)
 
--- media types compare without letter case
+-- media types compare case-insensitively
 abbrev pub is_media : List ℕ → List ℕ → Bool
 is_media name value = str_eq_ignore_ascii_case (media_type value) name
 

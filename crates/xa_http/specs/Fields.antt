@@ -4,7 +4,7 @@ use Rattle.std.specs.List.{filter}
 use Rattle.std.specs.Str.{str_eq_ignore_ascii_case}
 use Rattle.xa_http.specs.declared.message.Field.{Field}
 
--- the field has that name; names compare without letter case
+-- the field has that name; names compare case-insensitively
 abbrev pub is_named : List ℕ → Field → Bool
 is_named name f = str_eq_ignore_ascii_case f.name name
 

@@ -23,7 +23,7 @@ FaultsAreFinal =
     (held more : List ℕ) (fault : SessionFault) (message : Message) (rest : List ℕ)
     → IsFaulty held fault → ¬ (BeginsWithMessage (held ++ more) message rest)
 
--- where a stream has a first message, it is the only answer, and the stream goes on after it
+-- if a stream has a first message, it is the only answer, and the stream goes on after it
 abbrev pub AnswersMessages : Type 0
 AnswersMessages =
     (old : Stream) (message : Message) (rest : Stream) (answer : Next) (new : Stream)

@@ -1,7 +1,7 @@
 -- What is served: the pattern of each path, as the router `matchit` reads it, the place there, and what each method
 -- asks for there.
 use Rattle.std.specs.Prelude.{ℕ, Bool, true, false, is_none, List, [], ◌∷◌, ◌++◌, Option}
-use Rattle.std.specs.Prelude.{Some, None, Result, Ok, Err, codes, bytes_eq, if◌then◌else◌}
+use Rattle.std.specs.Prelude.{Some, None, option_map, find, Result, Ok, Err, codes, bytes_eq}
 use Rattle.matchit.specs.Rows.{RowsOf}
 use Rattle.matchit.specs.Order.{placed}
 use Rattle.matchit.specs.Route.{Scan, parse_route}
@@ -39,11 +39,11 @@ commands place.Tokens = (Delete, asks.Operator operator.DropToken) ∷ (Post, as
 commands place.Decisions = (Post, asks.Decide) ∷ []
 commands place.Documents = (Get, asks.Domain domain.List) ∷ (Post, asks.Domain domain.Upload) ∷ []
 commands place.Root = (Put, asks.Domain domain.SetRoot) ∷ []
-commands place.Source = (Get, asks.Domain domain.Source) ∷ (Put, asks.Domain domain.SetSource) ∷ []
+commands place.Source = (Get, asks.Domain domain.ShowSource) ∷ (Put, asks.Domain domain.SetSource) ∷ []
 commands place.OneDocument = (Delete, asks.Document document.Delete) ∷ (Get, asks.Document document.Show) ∷ []
 commands place.Activity = (Delete, asks.Document document.Deactivate) ∷ (Put, asks.Document document.Activate) ∷ []
 
--- the body is read where that is asked for
+-- what is asked for reads the body
 abbrev pub reads_body : Command → Bool
 reads_body (asks.Operator operator.PutToken) = true
 reads_body (asks.Operator operator.DropToken) = true
@@ -74,12 +74,9 @@ name_of Put = codes "PUT"
 
 -- what the method of that name asks for, by these rows
 abbrev pub command_in : List ℕ → List (Method × Command) → Option Command
-command_in name [] = None
-command_in name ((method, command) ∷ rows) =
-    if bytes_eq name (name_of method) then Some command else command_in name rows
+command_in name rows = option_map (λ row. row.1) (find (λ row. bytes_eq name (name_of row.0)) rows)
 
--- what the method of that name asks for at a place; names of methods compare with their letter case (RFC 9110,
--- section 9.1)
+-- what the method of that name asks for at a place; names of methods are case-sensitive (RFC 9110, section 9.1)
 abbrev pub command_at : List ℕ → Place → Option Command
 command_at name place = command_in name (commands place)
 

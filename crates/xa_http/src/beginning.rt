@@ -36,7 +36,7 @@ pub(crate) enum Beginning {
     Head(Head),
     /// Not yet a whole head.
     More,
-    /// No message that is taken.
+    /// No message that is taken, and why.
     Fault(SessionFault),
 }
 
@@ -112,7 +112,7 @@ fn large_room(alloc: Global) -> Result<Vec<HeaderSpan>, AllocError>
 }
 
 /// What stands at the front of the bytes. Only bytes with more field lines than a head may have
-/// want the large room: they may still begin no head at all.
+/// need the large room: they may still begin no head at all.
 #[tactic(auto, using(crate::proofs::FrontLemmas::too_many))]
 pub(crate) fn read_front(alloc: Global, held: &[u8]) -> Result<Beginning, AllocError>
     ensures { IfOk result (IsFront held.now) }

@@ -6,7 +6,6 @@ ghost use Rattle.xa_http.specs.Fields.{values_of};
 
 use crate::fields::is_named;
 use crate::message::Field;
-use crate::parts::split_once;
 use crate::white_space::trim_ows;
 
 /// Whether the token is `close`.
@@ -20,26 +19,20 @@ fn is_close(token: &[u8]) -> bool
 fn names_close(list: &[u8]) -> bool
     ensures { result ≡ names_close list.now }
 {
-    let mut rest = list;
-    while let Some((member, others)) = split_once(rest, b',') {
-        if is_close(trim_ows(member)) {
-            return true;
-        }
-        rest = others;
-    }
-    is_close(trim_ows(rest))
+    list.split(|byte| *byte == b',')
+        .map(|member| trim_ows(member))
+        .any(|member| is_close(member))
 }
 
 /// Whether a Connection field has the token `close`.
 fn connection_names_close(fields: &[Field]) -> bool
     ensures { result ≡ list_any names_close (values_of (codes "Connection") fields.now) }
 {
-    for field in fields {
-        if is_named(field, "Connection") && names_close(field.value.as_slice()) {
-            return true;
-        }
-    }
-    false
+    fields
+        .iter()
+        .filter(|field| is_named(field, "Connection"))
+        .map(|field| field.value.as_slice())
+        .any(|value| names_close(value))
 }
 
 /// Whether no message follows one of that minor version of HTTP/1 with these fields. After one of HTTP/1.0

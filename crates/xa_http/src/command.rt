@@ -9,37 +9,37 @@ pub enum OperatorCommand {
     Create,
     /// To remove it with all that is in it.
     Remove,
-    /// To give it a token, or a token of its own another role.
+    /// To add a token, or to replace the role of one.
     PutToken,
-    /// To take a token from it.
+    /// To drop a token.
     DropToken,
 }
 
 /// What is asked for in a domain, but for decisions.
 #[derive(Clone, Copy, Debug, PartialEq, Eq)]
 pub enum DomainCommand {
-    /// To keep a policy or a policy set, not active yet.
+    /// To upload a policy or a policy set, which isn't active yet.
     Upload,
-    /// The keys of all documents, and whether they are active.
+    /// To list the keys of all documents, and whether each is active.
     List,
-    /// To set the root, or to take it away.
+    /// To set or to remove the root.
     SetRoot,
-    /// To put other rows into the source of attributes.
+    /// To replace the rows of the attribute source.
     SetSource,
-    /// The rows of the source of attributes.
-    Source,
+    /// To show the rows of the attribute source.
+    ShowSource,
 }
 
 /// What is asked for of one document.
 #[derive(Clone, Copy, Debug, PartialEq, Eq)]
 pub enum DocumentCommand {
-    /// Its text.
+    /// To show its text.
     Show,
     /// To delete it.
     Delete,
-    /// That references may resolve to it.
+    /// To make it active.
     Activate,
-    /// That they may no longer.
+    /// To make it inactive.
     Deactivate,
 }
 
@@ -59,7 +59,7 @@ pub(crate) enum Command {
 }
 
 impl Command {
-    /// Whether the body is read where that is asked for.
+    /// Whether what is asked for reads the body.
     pub(crate) fn reads_body(self) -> bool
         ensures { result ≡ reads_body self }
     {

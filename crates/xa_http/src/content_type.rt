@@ -1,4 +1,4 @@
-//! Which media types a body may have that is read (RFC 9110, section 8.3).
+//! Which media types a body that is read may have (RFC 9110, section 8.3).
 ghost use Rattle.std.specs.Prelude.{◌≡◌};
 ghost use Rattle.xa_http.specs.ContentType.{allows_json, is_json, is_media, media_type};
 

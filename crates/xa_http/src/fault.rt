@@ -23,7 +23,7 @@ pub enum SessionFault {
 }
 
 impl SessionFault {
-    /// The status of the reply to it.
+    /// The status of the reply to it (RFC 9110, sections 15.5 and 15.6; RFC 6585, section 5).
     pub fn status(self) -> StatusCode
         ensures { result ≡ status_of self }
     {

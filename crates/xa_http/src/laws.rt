@@ -2,16 +2,16 @@
 ghost use Rattle.xa_http.specs.Laws.{KeepsMessages, KeepsFaults, FaultsAreFinal, AnswersMessages};
 ghost use Rattle.xa_http.specs.Laws.{FeedsOn, TakesOn, HasOneCut, AnswersFirstMessages};
 
-/// Law: however a stream is cut into pieces, its messages are the same.
+/// Law: however a stream is cut into pieces, its messages are the same. The call does nothing.
 pub fn pieces_make_no_difference()
     // Bytes that follow leave a message at the front, and a fault there, as they were.
     ensures messages { KeepsMessages }
     ensures faults { KeepsFaults }
 
-    // So a fault is answered only where no continuation is a message.
+    // So a fault is answered only if no continuation is a message.
     ensures for_good { FaultsAreFinal }
 
-    // Where a message stands at the front, a session answers that message and nothing else.
+    // If a message stands at the front, a session answers that message and nothing else.
     ensures answers { AnswersMessages }
 
     // The messages taken so far and what is held are a cut of the stream so far, and a stream has one cut.

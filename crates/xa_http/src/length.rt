@@ -1,5 +1,5 @@
 //! The length of a body, which the fields of its head announce (RFC 9112, section 6).
-ghost use Rattle.std.specs.Prelude.{◌≡◌, ◌==◌, drop, IsTrue};
+ghost use Rattle.std.specs.Prelude.{◌≡◌, ◌==◌, ◌≤◌, drop, length, IsTrue};
 ghost use Rattle.std.specs.List.{list_all, prefix_len};
 ghost use Rattle.std.specs.Str.Parse.{digits_value};
 ghost use Rattle.xa_value.specs.Digits.{is_number};
@@ -12,16 +12,19 @@ use crate::limits::{MAX_BODY_BYTES, MAX_FIELDS};
 use crate::message::Field;
 use xa_value::{is_number, number_up_to};
 
+/// How many zeros the digits begin with.
+fn zeros_len(digits: &[u8]) -> usize
+    ensures len { result ≡ prefix_len (λ c. c == 48) digits.now }
+    ensures within { result ≤ length digits.now }
+{
+    digits.iter().take_while(|digit| **digit == b'0').count()
+}
+
 /// The digits from the first that is no zero.
 fn without_zeros(digits: &[u8]) -> &[u8]
     ensures { result.now ≡ drop (prefix_len (λ c. c == 48) digits.now) digits.now }
 {
-    for (i, digit) in digits.iter().enumerate() {
-        if *digit != b'0' {
-            return &digits[i..];
-        }
-    }
-    &[]
+    &digits[zeros_len(digits)..]
 }
 
 /// Whether the text is digits alone, and writes the number that the digits do.
@@ -38,12 +41,11 @@ fn all_write_same(fields: &[Field], name: &str, digits: &[u8]) -> bool
     requires { IsTrue (is_number digits.now) }
     ensures { result ≡ list_all (writes_same digits.now) (values_of name.now fields.now) }
 {
-    for field in fields {
-        if is_named(field, name) && !writes_same(field.value.as_slice(), digits) {
-            return false;
-        }
-    }
-    true
+    fields
+        .iter()
+        .filter(|field| is_named(field, name))
+        .map(|field| field.value.as_slice())
+        .all(|value| writes_same(value, digits))
 }
 
 /// The number that the digits write, if a body may be so long.

@@ -5,7 +5,7 @@
 //! `length` and `closing` look into its `fields`. `open_head` follows one that isn't whole yet. A stream
 //! that can't go on has a `fault`. `laws` says that pieces make no difference.
 //!
-//! `routes` gives the `route` of a message: `parts` parts its path, `table` finds the place there and what
+//! `routes` gives the `route` of a message: `parts` splits its path, `table` finds the place there and what
 //! the `method` asks for, which is a `command`, and `content_type` judges the body's media type. `replies`
 //! writes the bytes of a reply. `white_space` around values is left out by `closing` and `content_type`.
 #![tactic(auto)]

@@ -4,10 +4,10 @@
 /// server hold more of one.
 pub const MAX_HEAD_BYTES: usize = 16_384;
 
-/// A head has at most this many field lines: the offsets of so many are read without memory.
+/// A head has at most this many field lines: the offsets of that many are read without an allocation.
 pub const MAX_FIELDS: usize = 64;
 
-/// A body has at most this many bytes: it bounds what a message costs, and there is room for the 4,096
-/// rows of a domain's source, at 128 bytes each. A message that announces more is refused by its head,
-/// and isn't waited for.
+/// A body has at most this many bytes. That bounds what a message costs, and there is room for the 4,096
+/// rows of a domain's source, at up to 126 bytes each. A message that announces more is refused by its
+/// head, and isn't waited for.
 pub const MAX_BODY_BYTES: usize = 524_288;

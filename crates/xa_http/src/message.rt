@@ -4,7 +4,7 @@ use xa_value::Items;
 /// One field line of a head (RFC 9112, section 5): its name, and its value without the white space around it.
 #[derive(Debug, Drop)]
 pub struct Field {
-    /// The name as it was sent; names compare without letter case.
+    /// The name as it was sent. Names compare case-insensitively.
     pub name: Items<u8>,
     /// The value without the white space around it.
     pub value: Items<u8>,

@@ -1,17 +1,17 @@
 //! The methods that are served.
-ghost use Rattle.std.specs.Prelude.{◌≡◌};
+ghost use Rattle.std.specs.Prelude.{◌≡◌, bytes_eq};
 ghost use Rattle.xa_http.specs.Table.{name_of};
 
 /// A method that is served at some path (RFC 9110, section 9.3).
 #[derive(Clone, Copy, Debug, PartialEq, Eq)]
 pub(crate) enum Method {
-    /// Takes away what is there.
+    /// Deletes the resource.
     Delete,
-    /// Reads what is there.
+    /// Reads it.
     Get,
-    /// Has what is there work on the body.
+    /// Has it process the body.
     Post,
-    /// Puts the body, or what the path says, there.
+    /// Creates or replaces it.
     Put,
 }
 
@@ -26,5 +26,12 @@ impl Method {
             Method::Post => "POST",
             Method::Put => "PUT",
         }
+    }
+
+    /// Whether that is its name. Names of methods are case-sensitive (RFC 9110, section 9.1).
+    pub(crate) fn is_named(self, name: &[u8]) -> bool
+        ensures { result ≡ bytes_eq name.now (name_of self) }
+    {
+        name == self.name().as_bytes()
     }
 }

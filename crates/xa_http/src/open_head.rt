@@ -1,4 +1,4 @@
-//! A head that isn't whole yet, followed byte for byte: what was read of it isn't read again.
+//! A head that isn't whole yet, followed byte by byte: what was read of it isn't read again.
 ghost use Rattle.std.specs.Prelude.{◌≡◌, ◌+◌, ◌<◌, ◌≤◌, length, take, IfSome, IsTrue, IsUtf8};
 ghost use Rattle.xa_http.specs.Messages.{IsUnfinished};
 ghost use Rattle.xa_http.specs.parsing.OpenHead.{EndsIn, IsOpenHead, IsVersionEnd};
@@ -50,7 +50,7 @@ impl OpenHead {
 
     /// Follows the bytes held as far as it is certain that a head may go on so. Each byte is looked
     /// at once, but for the end of the request line and the empty line at the end.
-    pub(crate) fn advanced(self, held: &[u8]) -> OpenHead
+    pub(crate) fn follow(self, held: &[u8]) -> OpenHead
         requires { IsOpenHead held.now self }
         ensures { IsOpenHead held.now result }
     {
@@ -96,9 +96,8 @@ impl OpenHead {
     }
 }
 
-/// The part in which a head goes on with the next byte. There is none where the byte is no
-/// longer in a head, or where it isn't the byte alone that tells: at the end of the target and
-/// of the head.
+/// The part in which a head goes on with the next byte. There is none if the byte is no longer in
+/// a head, nor if the byte alone doesn't tell: at the end of the target and of the head.
 fn part_after(part: HeadPart, held: &[u8], at: usize) -> Option<HeadPart>
     requires within { at < length held.now }
     requires open { EndsIn part (take at held.now) }
@@ -124,14 +123,14 @@ fn part_after(part: HeadPart, held: &[u8], at: usize) -> Option<HeadPart>
     }
 }
 
-/// Whether the bytes of a target are one, now that it has ended.
+/// Whether these bytes are a whole target.
 fn is_target(bytes: &[u8]) -> bool
     ensures { IsTrue result → (0 < length bytes.now) × IsUtf8 bytes.now }
 {
     !bytes.is_empty() && std::str::from_utf8(bytes).is_ok()
 }
 
-/// How many bytes the rest of a request line has after the target, where the bytes begin with all of it.
+/// How many bytes the rest of a request line has after the target, if the bytes begin with all of it.
 fn version_len(bytes: &[u8]) -> Option<usize>
     ensures read { IfSome result (λ n. IsVersionEnd (take n bytes.now)) }
     ensures within { IfSome result (λ n. (0 < n) × (n ≤ length bytes.now)) }
@@ -151,7 +150,7 @@ fn version_len(bytes: &[u8]) -> Option<usize>
     None
 }
 
-/// The head after its request line, where the rest of that has come whole.
+/// The head after its request line, if the rest of that has come whole.
 #[tactic(auto, using(crate::proofs::OpenHeadLemmas::target_within, crate::proofs::OpenHeadLemmas::line_first))]
 fn after_target(held: &[u8], start: usize, at: usize) -> Option<OpenHead>
     requires within { at ≤ length held.now }

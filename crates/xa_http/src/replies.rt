@@ -42,7 +42,7 @@ impl Media {
     }
 }
 
-/// The reason phrase of the status, empty where it has none.
+/// The reason phrase of the status, empty if it has none.
 #[tactic(auto, unfolding(crate::specs::Reply::phrase))]
 fn phrase(status: StatusCode) -> &'static str
     ensures { result.now ≡ phrase status }
@@ -84,7 +84,7 @@ fn push_allow(bytes: &mut Vec<u8>, place: Place) -> Result<(), AllocError>
     bytes.extend_from_slice(b"\r\n")
 }
 
-/// Adds the field line of the extra field, and nothing where there is none.
+/// Adds the field line of the extra field, and nothing if there is none.
 #[tactic(auto, unfolding(crate::specs::Reply::extra_lines))]
 fn push_extra_lines(bytes: &mut Vec<u8>, extra: Extra) -> Result<(), AllocError>
     ensures { OnOk result (bytes.new.items ≡ bytes.old.items ++ extra_lines extra) }

@@ -54,16 +54,16 @@ pub enum Route {
     },
 }
 
-/// Why a message asks for nothing that is served.
+/// Why a message asks for nothing that is served (RFC 9110, sections 15.5.5, 15.5.6 and 15.5.16).
 #[derive(Clone, Copy, Debug, Error, PartialEq, Eq)]
 pub enum RouteFault {
     /// Nothing is served at the message's target: 404.
     #[error("nothing is served there")]
     NoRoute,
-    /// What is served at the message's target isn't asked for by its method: 405.
+    /// Something is served at the message's target, but not for its method: 405.
     #[error("the method isn't allowed there")]
     BadMethod(Place),
-    /// The body that would be read has another media type than JSON: 415.
+    /// The body would be read, and has another media type than JSON: 415.
     #[error("the body isn't JSON by its media type")]
     BadMediaType,
 }

@@ -106,7 +106,7 @@ impl Routes {
     }
 }
 
-/// The path that the target, which has no query, names.
+/// The path of a target without its query.
 #[tactic(auto, unfolding(crate::specs::Routes::path_of_plain))]
 fn path_of_plain(target: &[u8]) -> Option<&[u8]>
     ensures { option_map (λ path. path.now) result ≡ path_of_plain target.now }
@@ -117,7 +117,7 @@ fn path_of_plain(target: &[u8]) -> Option<&[u8]>
     }
 }
 
-/// The path that the target names.
+/// The path of a target.
 #[tactic(auto, using(xa_value::proofs::TextLemmas::is_text, xa_value::proofs::TextLemmas::is_no_text), unfolding(crate::specs::Routes::path_of))]
 fn path_of(target: &[u8]) -> Option<&[u8]>
     ensures { option_map (λ path. path.now) result ≡ path_of target.now }

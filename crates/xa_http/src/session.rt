@@ -31,11 +31,11 @@ pub enum Next {
 pub enum Look {
     /// A whole message.
     Message,
-    /// That no whole message has come yet.
+    /// No whole message yet.
     More,
-    /// That the stream doesn't go on with a message, and why.
+    /// The stream doesn't go on with a message, and why.
     Fault(SessionFault),
-    /// That the session has ended.
+    /// The session has ended.
     Ended,
 }
 
@@ -43,15 +43,15 @@ pub enum Look {
 #[derive(Drop)]
 pub struct Session {
     alloc: Global,
-    /// The bytes that have come, with those before the start, which were answered and aren't dropped yet.
+    /// The bytes that have come. Those before the start were answered, and aren't dropped yet.
     buffer: Vec<u8>,
-    /// Where the bytes begin that are held.
+    /// Where the held bytes begin.
     start: usize,
-    /// The head at the start, where it was read and its body wasn't whole then.
+    /// The head at the start, if it was read and its body wasn't whole then.
     head: Option<Head>,
-    /// How far the head at the start was followed, where it wasn't whole.
+    /// How far the head at the start was followed, if it wasn't whole.
     followed: OpenHead,
-    /// Whether no message is answered any more.
+    /// Whether the session has ended: no message is answered any more.
     ended: bool,
 }
 
@@ -126,6 +126,7 @@ impl Session {
         if let Some(head) = &self.head {
             return Ok(look_behind(self.held(), head));
         }
+        self.follow_begun();
         if self.is_surely_open() {
             return Ok(Look::More);
         }
@@ -154,7 +155,8 @@ impl Session {
         Ok(())
     }
 
-    /// The next message of the stream, cut off its front. Without memory nothing is changed.
+    /// The next message of the stream (RFC 9112, section 2), cut off its front. Without memory nothing is
+    /// changed.
     pub fn next(&mut self) -> Result<Next, AllocError>
         ensures next { MatchResult result (λ answer. IsNext self.old answer self.new)
             (λ _. self.new ≡ self.old) }
@@ -166,6 +168,7 @@ impl Session {
         if let Some(head) = self.head.take() {
             return self.message_of(head);
         }
+        self.follow_begun();
         if self.is_surely_open() {
             return Ok(Next::More);
         }
@@ -182,23 +185,28 @@ impl Session {
         }
     }
 
-    /// Follows the head at the start, if that was begun, and says whether it is surely not whole yet. A
-    /// head that comes in one piece is read at once, and no byte of it is followed before.
-    fn is_surely_open(&mut self) -> bool
-        ensures unfinished { IsTrue result → IsUnfinished self.old.held }
-        ensures same { self.new ≡ self.old }
-    {
-        if self.followed.len > 0 {
-            self.follow();
-        }
-        self.followed.is_unfinished(self.held())
-    }
-
     /// Follows the head at the start to the end of what is held.
     fn follow(&mut self)
         ensures { self.new ≡ self.old }
     {
-        self.followed = self.followed.advanced(self.held());
+        self.followed = self.followed.follow(self.held());
+    }
+
+    /// Follows the head at the start if some of it was followed before. A head that comes in one piece is
+    /// read at once, and no byte of it is followed.
+    fn follow_begun(&mut self)
+        ensures { self.new ≡ self.old }
+    {
+        if self.followed.len > 0 {
+            self.follow();
+        }
+    }
+
+    /// Whether the head at the start surely isn't whole yet, as far as it was followed.
+    fn is_surely_open(&self) -> bool
+        ensures { IsTrue result → IsUnfinished self.now.held }
+    {
+        self.followed.is_unfinished(self.held())
     }
 
     /// The message of that head, once its body is whole; until then the head is kept, and not read again.
@@ -221,7 +229,7 @@ impl Session {
     }
 }
 
-/// What stands at the front of bytes that begin with that head: a message, where the body that
+/// What stands at the front of bytes that begin with that head: a message, if the body that
 /// follows it is whole.
 fn look_behind(held: &[u8], head: &Head) -> Look
     requires { HasHead held.now head.now }
@@ -234,7 +242,7 @@ fn look_behind(held: &[u8], head: &Head) -> Look
     }
 }
 
-/// Drops the bytes before the start, where they are more than those after it.
+/// Drops the bytes before the start, if they are more than those after it.
 fn compact(buffer: &mut Vec<u8>, start: &mut usize)
     requires { start.old ≤ length buffer.old.items }
     ensures held { drop start.new buffer.new.items ≡ drop start.old buffer.old.items }

@@ -24,11 +24,11 @@ pub enum Place {
     Documents,
     /// The root of a domain.
     Root,
-    /// The source of attributes of a domain.
+    /// The attribute source of a domain.
     Source,
     /// A document of a domain.
     OneDocument,
-    /// Whether references may resolve to a document.
+    /// Whether a document is active: references may resolve to it.
     Activity,
 }
 
@@ -57,7 +57,7 @@ impl Place {
             ],
             Place::Root => &[(Method::Put, Command::Domain(DomainCommand::SetRoot))],
             Place::Source => &[
-                (Method::Get, Command::Domain(DomainCommand::Source)),
+                (Method::Get, Command::Domain(DomainCommand::ShowSource)),
                 (Method::Put, Command::Domain(DomainCommand::SetSource)),
             ],
             Place::OneDocument => &[
@@ -94,12 +94,9 @@ impl Place {
 fn command_in(name: &[u8], rows: &[(Method, Command)]) -> Option<Command>
     ensures { result ≡ command_in name.now rows.now }
 {
-    for (method, command) in rows {
-        if name == method.name().as_bytes() {
-            return Some(*command);
-        }
-    }
-    None
+    rows.iter()
+        .find(|row| row.0.is_named(name))
+        .map(|row| row.1)
 }
 
 /// Adds the names of the methods, with a comma and a space between two.

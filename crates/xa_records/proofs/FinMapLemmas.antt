@@ -1,4 +1,4 @@
--- Finite maps where one key is put in or taken out, and what holds of all their entries.
+-- Finite maps after one key is put in or taken out, and what holds of all their entries.
 use Rattle.std.proofs.Common.{◌≡◌, Bool, true, false, List, [], ◌∷◌, refl, sym, ap, ◌∙◌, cond}
 use Rattle.std.specs.Prelude.{Some, None, T, ◌≢◌, ◌⊎◌, ◌&&◌}
 use Rattle.std.proofs.Common.{inl, inr}

@@ -29,7 +29,7 @@ abbrev AreKeyedIf : Option DomainState → Type 0
 AreKeyedIf None = Unit {0}
 AreKeyedIf (Some state) = AreKeyed state
 
--- a change after which that is so, where it was before
+-- a change after which that is so, if it was before
 abbrev pub Keeps : Change → Type 0
 Keeps change = (before : Option DomainState) (after : DomainState) → AreKeyedIf before → change before ≡ Ok (Some after) → AreKeyed after
 

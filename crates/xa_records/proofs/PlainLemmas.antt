@@ -47,7 +47,7 @@ pub same : {X : Type 0} (change : DomainChange) (old : Domain) (state : DomainSt
 same change old state x made e = subst (λ (s : DomainState). Alters change old (record { number = old.number; epoch = old.epoch; state = s }) (Ok x)) (sym e)
     (stays change old state x made (record { documents = ap (λ s. s.documents) e; root = ap (λ s. s.root) e; source = ap (λ s. s.source) e }))
 
--- a change of something that decides, by what it makes of a domain of epoch 0, can't be made where the epoch is the greatest
+-- a change of something that decides, by what it makes of a domain of epoch 0, can't be made if the epoch is the greatest
 pub cant_rise : {X : Type 0} (change : DomainChange) (number epoch : ℕ) (state after : DomainState) (x : X)
     → Alters change (record { number = number; epoch = 0; state = state }) (record { number = number; epoch = 1; state = after }) (Ok x) → IsGreatest epoch
     → CantRaiseEpoch change (record { number = number; epoch = epoch; state = state })

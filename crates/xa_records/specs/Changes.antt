@@ -61,7 +61,7 @@ abbrev pub with_document : DocumentKey → List ℕ → Bool → DomainState →
 with_document key text active state =
     with_documents (insert state.documents key (record { text = text; active = active })) state
 
--- over a document of the same key: its very text again changes nothing
+-- over a document of the same key: the same text again changes nothing
 abbrev pub uploaded_over : DocumentKey → List ℕ → DomainState → Option StoredDocument → Result DomainState Refusal
 uploaded_over key text state (Some document) =
     if bytes_eq document.text text then Ok state else Err SameVersionOtherText
@@ -93,7 +93,7 @@ deleted key state =
     or_absent (get state.documents key) >>= (λ document.
     if document.active then Err StillActive else Ok (with_documents (remove state.documents key) state))
 
--- ---- the root, and the source of attributes
+-- ---- the root, and the attribute source
 
 -- the root is another, or none
 abbrev pub root_set : Option Reference → DomainState → Result DomainState Refusal

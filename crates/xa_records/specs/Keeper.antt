@@ -80,7 +80,7 @@ pub record Reading {X : Type 0} (old new : Custody) (result : Result X Failure) 
   -- only a call that answers Store shuts it; and once it is shut, each call answers Store
   pub was_open : IsTrue new.is_open → IsTrue old.is_open
   pub stays_open : ¬ IsErrOf result Store → IsTrue new.is_open
-  -- where it is open still after such a call, it goes on
+  -- if it is open still after such a call, it goes on
   pub goes_on : new.clean → old.sound → IsErrOf result Store → IsTrue new.is_open → new.sound
 
 -- a call makes a change of the domain of that name

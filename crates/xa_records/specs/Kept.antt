@@ -56,7 +56,7 @@ pub record DecidesAlike (a b : DomainState) : Type 0 where
 abbrev pub IsRaised : ℕ → ℕ → Type 0
 IsRaised old new = (new ≡ old + 1) × (new < 2 ^ 63)
 
--- the epoch stays where nothing that decides has changed, and else rises by one
+-- the epoch stays if nothing that decides has changed, and else rises by one
 abbrev pub IsNextEpoch : DomainState → DomainState → ℕ → ℕ → Type 0
 IsNextEpoch before after old new =
     (DecidesAlike before after × (new ≡ old)) ⊎ ((¬ DecidesAlike before after) × IsRaised old new)
@@ -92,8 +92,8 @@ IsMade change name old new =
 abbrev pub IsGreatest : ℕ → Type 0
 IsGreatest number = 2 ^ 63 ≤ number + 1
 
--- in order to go over into that state the domain would have to raise what is at its greatest: the next number where
--- it is made, its epoch where it decides otherwise
+-- in order to go over into that state the domain would have to raise what is at its greatest: the next number if it
+-- is made, its epoch if it decides otherwise
 abbrev pub HasNoneLeft : ℕ → Option Domain → Option DomainState → Type 0
 HasNoneLeft next old None = ⊥
 HasNoneLeft next None (Some state) = IsGreatest next

@@ -29,7 +29,7 @@ abbrev pub active_at : DocumentKey → Bool → FinMap compare_keys StoredDocume
 active_at key active documents None = documents
 active_at key active documents (Some document) = insert documents key (record { text = document.text; active = active })
 
--- the documents where that one is active or not
+-- the documents with that one active or not
 abbrev pub with_activity : DocumentKey → Bool → FinMap compare_keys StoredDocument → FinMap compare_keys StoredDocument
 with_activity key active documents = active_at key active documents (get documents key)
 

@@ -38,8 +38,8 @@ active_texts state = active_among (entries state.documents)
 abbrev pub view_of_state : DomainState → KeptView
 view_of_state state = record { texts = active_texts state; root = state.root; source = state.source }
 
-abbrev pub view_of : List ℕ → Kept → Option KeptView
-view_of name kept = option_map view_of_state (state_of name kept)
+abbrev pub kept_view_of : List ℕ → Kept → Option KeptView
+kept_view_of name kept = option_map view_of_state (state_of name kept)
 
 -- the text of the document of that key
 abbrev pub text_in : DocumentKey → DomainState → Option (List ℕ)

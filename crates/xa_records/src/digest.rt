@@ -39,7 +39,7 @@ impl Digest {
         }
     }
 
-    /// The 32 bytes of a digest that was worked out before.
+    /// A digest that was computed before, by its 32 bytes.
     pub fn from_bytes(bytes: [u8; 32]) -> Digest
         ensures { result ≡ bytes }
     {

@@ -1,4 +1,4 @@
-//! What lets messages into a domain.
+//! A domain's gate: the tokens by which messages are let in.
 use crate::digest::Digest;
 use xa_notation::Role;
 use xa_value::Items;
@@ -12,8 +12,8 @@ pub struct Token {
     pub role: Role,
 }
 
-/// A domain's tokens, and which state it is in: as long as its number and its epoch stay, so do its
-/// documents, its root and its source rows.
+/// A domain's tokens, with its number and its epoch. While both stay, so do its documents, its root and
+/// its source rows.
 #[derive(Debug, Drop)]
 pub struct Gate {
     /// The domain's number, from 1 on, which no other domain ever has, nor a later one of its name.

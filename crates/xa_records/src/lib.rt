@@ -2,8 +2,8 @@
 //!
 //! `records` has the trait of a keeper. A reading gives a `gate` of tokens with their `digest`s, a
 //! `kept_view` of `active_text`s, or documents as they are `listed`; `listing` writes bodies of these. A
-//! change is made, where an `upload` tells what it did, or it fails or is refused (`refusal`). What every
-//! keeper asks before a change stands in `domain_name`, `limits` and `sameness`.
+//! change is made, fails or is refused (`refusal`); an `upload` tells what it did. What every keeper asks
+//! before a change stands in `domain_name`, `limits` and `sameness`.
 //!
 //! `plain` is the keeper in memory: `plain::records` over `domains`, each a `domain` with its `tokens` and
 //! `documents`; their numbers rise by `raising`.

@@ -10,7 +10,7 @@ pub const MAX_TOKENS: usize = 32;
 /// A domain keeps at most this many documents, for the same reason; the size of each is bounded, too.
 pub const MAX_DOCUMENTS: usize = 1_024;
 
-/// The source of attributes of a domain has at most this many rows, for the same reason.
+/// The attribute source of a domain has at most this many rows, for the same reason.
 pub const MAX_SOURCE_ROWS: usize = 4_096;
 
 /// Whether a domain may keep so many rows.

@@ -12,14 +12,6 @@ use std::alloc::{AllocError, Global};
 use xa_profile::{ToJson, write_items};
 use xa_value::Text;
 
-/// Writes a text as a member.
-fn write_named_text(out: &mut Writer, name: &str, text: &str) -> Result<(), AllocError>
-    ensures { Appends result out.old out.new (key name.now ∷ string text.now ∷ []) }
-{
-    out.key(name)?;
-    out.string(text)
-}
-
 impl ToJson for Listed {
     ghost written = { λ listed. listed_data listed };
 
@@ -35,6 +27,14 @@ impl ToJson for Listed {
     }
 }
 
+/// Writes a text as a member.
+fn write_named_text(out: &mut Writer, name: &str, text: &str) -> Result<(), AllocError>
+    ensures { Appends result out.old out.new (key name.now ∷ string text.now ∷ []) }
+{
+    out.key(name)?;
+    out.string(text)
+}
+
 /// Writes an array of texts.
 fn write_texts(out: &mut Writer, texts: &[Text]) -> Result<(), AllocError>
     ensures { Appends result out.old out.new (tokens (listing (map string_data texts.now))) }
@@ -46,8 +46,8 @@ fn write_texts(out: &mut Writer, texts: &[Text]) -> Result<(), AllocError>
     out.end_array()
 }
 
-/// The body that lists documents: `{"Policy":[{"Active","Id","Kind","Version"}]}`, JSON with no space,
-/// in the order in which they are given.
+/// The body that lists documents: `{"Policy":[{"Active","Id","Kind","Version"}]}`, compact JSON, in the
+/// order in which they are given.
 pub fn write_listing(alloc: Global, documents: &[Listed]) -> Result<Vec<u8>, AllocError>
     ensures { IfOk result (λ body. body.items ≡ listing_body documents.now) }
 {
@@ -59,8 +59,8 @@ pub fn write_listing(alloc: Global, documents: &[Listed]) -> Result<Vec<u8>, All
     Ok(out.into_inner())
 }
 
-/// The body that lists the names of domains, `{"Domain":[..]}`: JSON with no space, in the order in
-/// which they are given.
+/// The body that lists the names of domains: `{"Domain":[..]}`, compact JSON, in the order in which they
+/// are given.
 pub fn write_names(alloc: Global, names: &[Text]) -> Result<Vec<u8>, AllocError>
     ensures { IfOk result (λ body. body.items ≡ names_body names.now) }
 {

@@ -7,7 +7,7 @@ ghost use Rattle.xa_records.specs.DomainState.{IsDocumentOf};
 ghost use Rattle.xa_records.specs.Keeper.{Changing, Custody, Reading};
 ghost use Rattle.xa_records.specs.Kept.{IsNumbered, Kept, names_of, state_of};
 ghost use Rattle.xa_records.specs.Keyed.{KeepsDocuments};
-ghost use Rattle.xa_records.specs.Readings.{gate_of, listing_of, text_of, view_of};
+ghost use Rattle.xa_records.specs.Readings.{gate_of, kept_view_of, listing_of, text_of};
 
 use crate::digest::Digest;
 use crate::gate::Gate;
@@ -24,21 +24,20 @@ use xa_value::{Items, Text};
 /// A keeper of domains. Its meaning is a finite map from the names of domains to their states, each with
 /// a number and an epoch, and the next number.
 ///
-/// Each method reads that map or makes one change of it, for the domain named and no other; nothing has
-/// changed after a refusal or a failure, but that after `Store` a stop may leave the change made: it is
-/// there, or it isn't, when the storage is opened again. What the clauses say of the map they say where
-/// the keeper is `sound` after the call, and then it was sound before.
+/// Each method reads that map or makes one change of it, for the domain named and no other. After a
+/// refusal or a failure nothing has changed. After `Store` one exception holds: if the process crashes,
+/// the change may be there when the storage is opened again. The clauses speak of the map only if the
+/// keeper is `sound` after the call, and then it was sound before.
 pub trait Records {
-    /// What is told of the keeper: what it keeps, and whether it does.
+    /// What is told of the keeper: what it keeps, and whether it is sound.
     ghost custody: { Self → Custody };
 
-    /// How many calls have failed with `Store`; at the greatest number it stays.
+    /// How many calls have failed with `Store`. At the greatest number the count stays.
     fn faults(&self) -> u64
         ensures { result ≡ (custody self.now).faults };
 
     /// Whether it can go on. A keeper that is shut answers `Store` to each call, now and for ever: its
-    /// storage has to be opened again. It is told to be shut only where that was found, after a call
-    /// that answered `Store`.
+    /// storage has to be opened again. It is found shut only after a call that answered `Store`.
     fn is_open(&self) -> bool
         ensures told { result ≡ (custody self.now).is_open }
         ensures sound { (custody self.now).sound → IsTrue result };
@@ -51,7 +50,7 @@ pub trait Records {
     /// What decides in the domain; nothing, if there is no such domain.
     fn view(&mut self, alloc: Global, name: &Text) -> Result<Option<KeptView>, Failure>
         ensures { Reading (custody self.old) (custody self.new) result
-            (view_of name.now (custody self.old).kept) };
+            (kept_view_of name.now (custody self.old).kept) };
 
     /// The text of the document as it was uploaded; nothing, if there is no such domain or document.
     fn document(
@@ -72,7 +71,7 @@ pub trait Records {
     fn domains(&mut self, alloc: Global) -> Result<Items<Text>, Failure>
         ensures { Reading (custody self.old) (custody self.new) result (names_of (custody self.old).kept) };
 
-    /// Makes a domain in which nothing has been put yet. It gets the next number, the first being 1.
+    /// Makes a domain in which nothing has been put yet. It gets the next number; the first is 1.
     /// Refused with `Exists`.
     fn create(&mut self, alloc: Global, name: &Text) -> Result<(), ChangeError>
         requires { IsTrue (is_domain_name name.now) }
@@ -83,7 +82,7 @@ pub trait Records {
         ensures { Changing (custody self.old) (custody self.new) result name.now removed };
 
     /// Adds a token with its role, or replaces the role of one that is there. Refused with `Absent`, and
-    /// with `Quota` where the domain has 32 others.
+    /// with `Quota` if the domain has 32 others.
     fn put_token(
         &mut self,
         alloc: Global,
@@ -94,13 +93,13 @@ pub trait Records {
         ensures { Changing (custody self.old) (custody self.new) result name.now
             (within (token_put digest role)) };
 
-    /// Takes a token away. Refused with `Absent`, also where the domain has no such token.
+    /// Drops a token. Refused with `Absent`, also if the domain has no such token.
     fn drop_token(&mut self, alloc: Global, name: &Text, digest: Digest) -> Result<(), ChangeError>
         ensures { Changing (custody self.old) (custody self.new) result name.now
             (within (token_dropped digest)) };
 
-    /// Adds a document, which isn't active at first. The very text again changes nothing. Refused with
-    /// `Absent`, with `SameVersionOtherText`, and with `Quota` where the domain has 1,024 others.
+    /// Adds a document, which isn't active at first. The same text again changes nothing. Refused with
+    /// `Absent`, with `SameVersionOtherText`, and with `Quota` if the domain has 1,024 others.
     fn upload(
         &mut self,
         alloc: Global,
@@ -115,7 +114,7 @@ pub trait Records {
             → IfOk result (λ u. u ≡ upload_of key (state_of name.now ((custody self.old).kept))) };
 
     /// Makes the document active, so that references may resolve to it, or inactive. Refused with
-    /// `Absent`, also where there is no such document.
+    /// `Absent`, also if there is no such document.
     fn set_active(
         &mut self,
         alloc: Global,
@@ -126,12 +125,12 @@ pub trait Records {
         ensures { Changing (custody self.old) (custody self.new) result name.now
             (within (activity_set key.now active)) };
 
-    /// Deletes a document. Refused with `Absent`, also where there is no such document, and with
+    /// Deletes a document. Refused with `Absent`, also if there is no such document, and with
     /// `StillActive`.
     fn delete(&mut self, alloc: Global, name: &Text, key: &DocumentKey) -> Result<(), ChangeError>
         ensures { Changing (custody self.old) (custody self.new) result name.now (within (deleted key.now)) };
 
-    /// Sets the root, or takes it away. Refused with `Absent`.
+    /// Sets or removes the root. Refused with `Absent`.
     fn set_root(
         &mut self,
         alloc: Global,
@@ -140,8 +139,8 @@ pub trait Records {
     ) -> Result<(), ChangeError>
         ensures { Changing (custody self.old) (custody self.new) result name.now (within (root_set root)) };
 
-    /// Puts these rows into the source of attributes, in place of all that were there. Refused with
-    /// `Absent`, and with `Quota` where there are more than 4,096.
+    /// Replaces the rows of the attribute source. Refused with `Absent`, and with `Quota` if there are more
+    /// than 4,096.
     fn set_source(
         &mut self,
         alloc: Global,
@@ -150,8 +149,8 @@ pub trait Records {
     ) -> Result<(), ChangeError>
         ensures { Changing (custody self.old) (custody self.new) result name.now (within (source_set rows)) };
 
-    /// Law: each text is a document of the key under which it is kept, so that it need not be read in
-    /// order to know its key. It does nothing.
+    /// Law: each text is a document of the key under which it is kept. So it need not be read in order to
+    /// know its key. The call does nothing.
     fn keeps_documents(&self)
         ensures { (custody self.now).sound → KeepsDocuments (custody self.now).kept };
 

@@ -28,15 +28,15 @@ pub enum Refusal {
     StillActive,
 }
 
-/// Why a keeper gave no answer. Nothing has changed, but that after `Store` a stop may leave the change
-/// made: it is there, or it isn't, when the storage is opened again.
+/// Why a keeper gave no answer. Nothing has changed. After `Store` one exception holds: if the process
+/// crashes, the change may be there when the storage is opened again.
 #[derive(Clone, Copy, Debug, PartialEq, Eq, Error)]
 pub enum Failure {
     /// There was no memory for it.
     #[error("out of memory")]
     Memory,
-    /// The storage failed; or the next number or an epoch is the greatest already; or a value or a row is
-    /// none that the storage can keep. The keeper counts these calls.
+    /// The storage failed; or the next number or an epoch is the greatest already; or the storage can't
+    /// keep a value or a row. The keeper counts these calls.
     #[error("the storage failed")]
     Store,
 }
@@ -111,7 +111,7 @@ impl From<Refusal> for ChangeError {
     }
 }
 
-/// Counts the change where the storage failed.
+/// Counts the change if the storage failed.
 pub fn count_failure<X>(faults: &mut u64, done: &Result<X, ChangeError>)
     ensures { CountsChange faults.old faults.new done.now }
 {

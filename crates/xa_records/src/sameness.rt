@@ -9,14 +9,14 @@ use xa_decide::SourceRow;
 use xa_policy::{DocumentKind, Pattern, PatternPart, Reference, Version};
 use xa_value::{Items, Text, Value};
 
-/// Whether the two texts are one.
+/// Whether the two texts are the same.
 fn is_same_text(one: &Text, other: &Text) -> bool
     ensures { IsTrue result ↔ (one.now ≡ other.now) }
 {
     one == other
 }
 
-/// Whether the two texts are one, if they are there.
+/// Whether the two texts are the same, or neither is there.
 fn is_same_text_if_any(one: &Option<Text>, other: &Option<Text>) -> bool
     ensures { IsTrue result ↔ (one.now ≡ other.now) }
 {
@@ -27,32 +27,21 @@ fn is_same_text_if_any(one: &Option<Text>, other: &Option<Text>) -> bool
     }
 }
 
-/// Whether the two kinds are one.
+/// Whether the two kinds are the same.
 fn is_same_kind(one: DocumentKind, other: DocumentKind) -> bool
     ensures { IsTrue result ↔ (one ≡ other) }
 {
     one == other
 }
 
-/// Whether the two versions are one, if they are there.
+/// Whether the two versions are the same, or neither is there.
 fn is_same_version(one: &Option<Version>, other: &Option<Version>) -> bool
     ensures { IsTrue result ↔ (one.now ≡ other.now) }
 {
     one == other
 }
 
-/// Whether the two patterns are one, if they are there.
-fn is_same_pattern(one: &Option<Pattern>, other: &Option<Pattern>) -> bool
-    ensures { IsTrue result ↔ (one.now ≡ other.now) }
-{
-    match (one, other) {
-        (Some(one), Some(other)) => are_same_parts(one.parts(), other.parts()),
-        (None, None) => true,
-        (Some(_), None) | (None, Some(_)) => false,
-    }
-}
-
-/// Whether the two parts are one.
+/// Whether the two parts are the same.
 fn is_same_part(one: &PatternPart, other: &PatternPart) -> bool
     ensures { IsTrue result ↔ (one.now ≡ other.now) }
 {
@@ -74,7 +63,18 @@ fn are_same_parts(one: &[PatternPart], other: &[PatternPart]) -> bool
     true
 }
 
-/// Whether the two references are one.
+/// Whether the two patterns are the same, or neither is there.
+fn is_same_pattern(one: &Option<Pattern>, other: &Option<Pattern>) -> bool
+    ensures { IsTrue result ↔ (one.now ≡ other.now) }
+{
+    match (one, other) {
+        (Some(one), Some(other)) => are_same_parts(one.parts(), other.parts()),
+        (None, None) => true,
+        (Some(_), None) | (None, Some(_)) => false,
+    }
+}
+
+/// Whether the two references are the same.
 fn is_same_reference(one: &Reference, other: &Reference) -> bool
     ensures { IsTrue result ↔ (one.now ≡ other.now) }
 {
@@ -85,7 +85,7 @@ fn is_same_reference(one: &Reference, other: &Reference) -> bool
         && is_same_version(&one.latest, &other.latest)
 }
 
-/// Whether the two roots are one, or there is none in either place.
+/// Whether the two roots are the same, or neither is there.
 pub fn is_same_root(one: &Option<Reference>, other: &Option<Reference>) -> bool
     ensures { IsTrue result ↔ (one.now ≡ other.now) }
 {
@@ -96,14 +96,14 @@ pub fn is_same_root(one: &Option<Reference>, other: &Option<Reference>) -> bool
     }
 }
 
-/// Whether the two values are one.
+/// Whether the two values are the same.
 pub fn is_same_value(one: &Value, other: &Value) -> bool
     ensures { IsTrue result ↔ (one.now ≡ other.now) }
 {
     one == other
 }
 
-/// Whether the two rows are one.
+/// Whether the two rows are the same.
 fn is_same_row(one: &SourceRow, other: &SourceRow) -> bool
     ensures { IsTrue result ↔ (one.now ≡ other.now) }
 {
@@ -136,7 +136,7 @@ pub fn is_same_source(one: &Items<SourceRow>, other: &Items<SourceRow>) -> bool
     are_same_rows(one.as_slice(), other.as_slice())
 }
 
-/// Whether references may resolve to a document both times, or neither time.
+/// Whether a document is active both times, or neither time.
 pub fn is_same_activity(one: bool, other: bool) -> bool
     ensures { IsTrue result ↔ (one ≡ other) }
 {

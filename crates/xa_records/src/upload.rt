@@ -1,10 +1,10 @@
 //! The result of an upload.
 
-/// Whether an upload has put a document into the domain.
+/// Whether an upload has added a document.
 #[derive(Clone, Copy, Debug, PartialEq, Eq)]
 pub enum Upload {
     /// The document is new, and not active.
     New,
-    /// It was there already with this very text; nothing has changed.
+    /// It was there already with this text. Nothing has changed.
     Same,
 }

@@ -36,7 +36,7 @@ impl Model for Document {
 }
 
 impl Document {
-    /// A copy of the text, not active.
+    /// A document with a copy of the text, not active.
     pub(crate) fn new(alloc: Global, text: &[u8]) -> Result<Document, AllocError>
         ensures { IfOk result (λ d. d ≡ record { text = text.now; active = false }) }
     {
@@ -53,50 +53,19 @@ impl Document {
         self.text.as_slice()
     }
 
-    /// Whether references may resolve to it.
+    /// Whether it is active.
     pub(crate) fn is_active(&self) -> bool
         ensures { result ≡ self.now.active }
     {
         self.active
     }
 
-    /// Says whether references may resolve to it.
+    /// Makes it active or inactive.
     fn set_active(&mut self, active: bool)
         ensures { self.new ≡ record { text = self.old.text; active = active } }
     {
         self.active = active;
     }
-}
-
-/// A copy of the bytes.
-pub(crate) fn copy_of(alloc: Global, bytes: &[u8]) -> Result<Items<u8>, AllocError>
-    ensures { IfOk result (λ copy. copy ≡ bytes.now) }
-{
-    Ok(Items::from_vec(Vec::from_slice(alloc, bytes)?))
-}
-
-/// The document of that key as it is listed.
-fn listed_as(key: &DocumentKey, document: &Document) -> Result<Listed, AllocError>
-    ensures { IfOk result (λ listed. listed ≡ record { key = key.now; active = document.now.active }) }
-{
-    Ok(Listed {
-        key: key.clone()?,
-        active: document.is_active(),
-    })
-}
-
-/// A copy of the text of the document of that key.
-fn active_text(
-    alloc: Global,
-    key: &DocumentKey,
-    document: &Document,
-) -> Result<ActiveText, AllocError>
-    ensures { IfOk result (λ active. active ≡ record { key = key.now; text = document.now.text }) }
-{
-    Ok(ActiveText {
-        key: key.clone()?,
-        text: copy_of(alloc, document.text())?,
-    })
 }
 
 /// The documents of a domain.
@@ -137,7 +106,7 @@ impl Documents {
         self.documents.get(key)
     }
 
-    /// Whether one more document may be put in.
+    /// Whether one more document may be added.
     pub(crate) fn has_room(&self) -> bool
         ensures { result ≡ nat_lt (len self.now) 1_024 }
     {
@@ -151,7 +120,7 @@ impl Documents {
         self.documents.len()
     }
 
-    /// Puts a document in, in place of one of its key. Without memory nothing changes.
+    /// Adds a document, or replaces the one of its key. Without memory nothing changes.
     pub(crate) fn put(&mut self, key: DocumentKey, document: Document) -> Result<(), AllocError>
         ensures ok { OnOk result (self.new ≡ insert self.old key document) }
         ensures err { OnErr result (self.new ≡ self.old) }
@@ -160,7 +129,7 @@ impl Documents {
         Ok(())
     }
 
-    /// Says whether references may resolve to the document of that key, if it is there.
+    /// Makes the document of that key active or inactive, if it is there.
     pub(crate) fn set_active(&mut self, key: &DocumentKey, active: bool)
         ensures { self.new ≡ with_activity key.now active self.old }
     {
@@ -169,15 +138,15 @@ impl Documents {
         }
     }
 
-    /// Takes the document of that key away.
+    /// Removes the document of that key.
     pub(crate) fn remove(&mut self, key: &DocumentKey)
         ensures { self.new ≡ remove self.old key.now }
     {
         self.documents.remove(key);
     }
 
-    /// The keys, in their order, with whether references may resolve to the documents.
-    pub(crate) fn listed(&self, alloc: Global) -> Result<Items<Listed>, AllocError>
+    /// The documents as they are listed, in the order of their keys.
+    pub(crate) fn list(&self, alloc: Global) -> Result<Items<Listed>, AllocError>
         ensures { IfOk result (λ ls. ls ≡ map listed_of (entries self.now)) }
     {
         let mut listed = Vec::with_capacity(alloc, self.documents.len())?;
@@ -199,4 +168,35 @@ impl Documents {
         }
         Ok(Items::from_vec(texts))
     }
+}
+
+/// A copy of the bytes.
+pub(crate) fn copy_of(alloc: Global, bytes: &[u8]) -> Result<Items<u8>, AllocError>
+    ensures { IfOk result (λ copy. copy ≡ bytes.now) }
+{
+    Ok(Items::from_vec(Vec::from_slice(alloc, bytes)?))
+}
+
+/// The document of that key as it is listed.
+fn listed_as(key: &DocumentKey, document: &Document) -> Result<Listed, AllocError>
+    ensures { IfOk result (λ listed. listed ≡ record { key = key.now; active = document.now.active }) }
+{
+    Ok(Listed {
+        key: key.clone()?,
+        active: document.is_active(),
+    })
+}
+
+/// A copy of the text of the document of that key.
+fn active_text(
+    alloc: Global,
+    key: &DocumentKey,
+    document: &Document,
+) -> Result<ActiveText, AllocError>
+    ensures { IfOk result (λ active. active ≡ record { key = key.now; text = document.now.text }) }
+{
+    Ok(ActiveText {
+        key: key.clone()?,
+        text: copy_of(alloc, document.text())?,
+    })
 }

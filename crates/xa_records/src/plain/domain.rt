@@ -39,7 +39,7 @@ pub(crate) struct PlainDomain {
     documents: Documents,
     /// The reference at which decisions start, if one is set.
     root: Option<Reference>,
-    /// The rows of its source of attributes.
+    /// The rows of its attribute source.
     source: Items<SourceRow>,
 }
 
@@ -88,7 +88,7 @@ impl PlainDomain {
         Ok(Gate {
             number: self.number,
             epoch: self.epoch,
-            tokens: self.tokens.listed(alloc)?,
+            tokens: self.tokens.list(alloc)?,
         })
     }
 
@@ -121,34 +121,34 @@ impl PlainDomain {
     pub(crate) fn list(&self, alloc: Global) -> Result<Items<Listed>, AllocError>
         ensures { IfOk result (λ list. list ≡ listing_of_state self.now.state) }
     {
-        self.documents.listed(alloc)
+        self.documents.list(alloc)
     }
 
-    /// Puts a token in, or replaces its role.
+    /// Adds a token, or replaces the role of one.
     pub(crate) fn put_token(&mut self, digest: Digest, role: Role) -> Result<(), ChangeError>
         ensures does { Alters (token_put digest role) self.old self.new result }
         ensures store { ¬ IsErrOf result (Failed Store) }
     {
         if !self.tokens.has_room_for(&digest) {
-            return Err(ChangeError::Refused(Refusal::Quota));
+            return Err(Refusal::Quota.into());
         }
         self.tokens.put(digest, role)?;
         Ok(())
     }
 
-    /// Takes a token away.
+    /// Drops a token.
     pub(crate) fn drop_token(&mut self, digest: Digest) -> Result<(), ChangeError>
         ensures does { Alters (token_dropped digest) self.old self.new result }
         ensures store { ¬ IsErrOf result (Failed Store) }
     {
         if !self.tokens.contains(&digest) {
-            return Err(ChangeError::Refused(Refusal::Absent));
+            return Err(Refusal::Absent.into());
         }
         self.tokens.remove(&digest);
         Ok(())
     }
 
-    /// Puts a document in that isn't active yet. The very text again changes nothing.
+    /// Adds a document, which isn't active yet. The same text again changes nothing.
     pub(crate) fn upload(
         &mut self,
         alloc: Global,
@@ -163,7 +163,7 @@ impl PlainDomain {
             return upload_again(document, text);
         }
         if !self.documents.has_room() {
-            return Err(ChangeError::Refused(Refusal::Quota));
+            return Err(Refusal::Quota.into());
         }
         let epoch = next_after(self.epoch)?;
         let document = Document::new(alloc, text)?;
@@ -172,7 +172,7 @@ impl PlainDomain {
         Ok(Upload::New)
     }
 
-    /// Says whether references may resolve to the document of that key.
+    /// Makes the document of that key active or inactive.
     pub(crate) fn set_active(&mut self, key: &DocumentKey, active: bool) -> Result<(), ChangeError>
         ensures does { Alters (activity_set key.now active) self.old self.new result }
         ensures store { IsErrOf result (Failed Store)
@@ -193,14 +193,14 @@ impl PlainDomain {
         ensures store { IsErrOf result (Failed Store) → CantRaiseEpoch (deleted key.now) self.old }
     {
         if self.activity_of(key)? {
-            return Err(ChangeError::Refused(Refusal::StillActive));
+            return Err(Refusal::StillActive.into());
         }
         self.epoch = next_after(self.epoch)?;
         self.documents.remove(key);
         Ok(())
     }
 
-    /// Sets the root, or takes it away.
+    /// Sets or removes the root.
     pub(crate) fn set_root(&mut self, root: Option<Reference>) -> Result<(), ChangeError>
         ensures does { Alters (root_set root) self.old self.new result }
         ensures store { IsErrOf result (Failed Store) → CantRaiseEpoch (root_set root) self.old }
@@ -213,13 +213,13 @@ impl PlainDomain {
         Ok(())
     }
 
-    /// Puts these rows into the source of attributes, in place of all that were there.
+    /// Replaces the rows of the attribute source.
     pub(crate) fn set_source(&mut self, rows: Items<SourceRow>) -> Result<(), ChangeError>
         ensures does { Alters (source_set rows) self.old self.new result }
         ensures store { IsErrOf result (Failed Store) → CantRaiseEpoch (source_set rows) self.old }
     {
         if !may_be_kept(&rows) {
-            return Err(ChangeError::Refused(Refusal::Quota));
+            return Err(Refusal::Quota.into());
         }
         if is_same_source(&self.source, &rows) {
             return Ok(());
@@ -229,7 +229,7 @@ impl PlainDomain {
         Ok(())
     }
 
-    /// Whether references may resolve to the document of that key.
+    /// Whether the document of that key is active.
     fn activity_of(&self, key: &DocumentKey) -> Result<bool, Refusal>
         ensures { result ≡ activity_at key.now self.now.state }
     {
@@ -240,12 +240,12 @@ impl PlainDomain {
     }
 }
 
-/// What becomes of an upload over a document of the same key.
+/// The result of an upload over a document of the same key.
 fn upload_again(document: &Document, text: &[u8]) -> Result<Upload, ChangeError>
     ensures { result ≡ upload_again document.now text.now }
 {
     if document.text() != text {
-        return Err(ChangeError::Refused(Refusal::SameVersionOtherText));
+        return Err(Refusal::SameVersionOtherText.into());
     }
     Ok(Upload::Same)
 }

@@ -6,7 +6,7 @@ ghost use Rattle.xa_records.specs.Changes.{activity_set, created, deleted, remov
 ghost use Rattle.xa_records.specs.Changes.{token_dropped, token_put, upload_of, uploaded, within};
 ghost use Rattle.xa_records.specs.Keeper.{Changes};
 ghost use Rattle.xa_records.specs.Kept.{CantRaise, IsGreatest, names_of, nothing_kept, one_kept, state_of};
-ghost use Rattle.xa_records.specs.Readings.{gate_of, listing_of, text_of, view_of};
+ghost use Rattle.xa_records.specs.Readings.{gate_of, kept_view_of, listing_of, text_of};
 
 use crate::digest::Digest;
 use crate::gate::Gate;
@@ -60,7 +60,7 @@ impl Domains {
     }
 
     /// One domain, in which nothing has been put yet; the next that is made gets the number after its own.
-    /// `Store`, where the next number or the epoch would be above 2^63 - 1.
+    /// `Store`, if the next number or the epoch would be above 2^63 - 1.
     pub(crate) fn of_one(
         alloc: Global,
         name: Text,
@@ -92,7 +92,7 @@ impl Domains {
 
     /// What decides in the domain, if it is there.
     pub(crate) fn view(&self, alloc: Global, name: &Text) -> Result<Option<KeptView>, AllocError>
-        ensures { IfOk result (λ x. x ≡ view_of name.now self.now) }
+        ensures { IfOk result (λ x. x ≡ kept_view_of name.now self.now) }
     {
         let Some(domain) = self.by_name.get(name) else {
             return Ok(None);
@@ -146,7 +146,7 @@ impl Domains {
         ensures store { IsErrOf result (Failed Store) → CantRaise created name.now self.old }
     {
         if self.by_name.contains_key(name) {
-            return Err(ChangeError::Refused(Refusal::Exists));
+            return Err(Refusal::Exists.into());
         }
         let next = next_after(self.next)?;
         let domain = PlainDomain::new(alloc, self.next, 0);
@@ -161,12 +161,12 @@ impl Domains {
         ensures store { ¬ IsErrOf result (Failed Store) }
     {
         let Some(_) = self.by_name.remove(name) else {
-            return Err(ChangeError::Refused(Refusal::Absent));
+            return Err(Refusal::Absent.into());
         };
         Ok(())
     }
 
-    /// Puts a token in, or replaces its role.
+    /// Adds a token, or replaces the role of one.
     pub(crate) fn put_token(
         &mut self,
         name: &Text,
@@ -177,23 +177,23 @@ impl Domains {
         ensures store { ¬ IsErrOf result (Failed Store) }
     {
         let Some(domain) = self.by_name.get_mut(name) else {
-            return Err(ChangeError::Refused(Refusal::Absent));
+            return Err(Refusal::Absent.into());
         };
         domain.put_token(digest, role)
     }
 
-    /// Takes a token away.
+    /// Drops a token.
     pub(crate) fn drop_token(&mut self, name: &Text, digest: Digest) -> Result<(), ChangeError>
         ensures does { Changes self.old self.new result name.now (within (token_dropped digest)) }
         ensures store { ¬ IsErrOf result (Failed Store) }
     {
         let Some(domain) = self.by_name.get_mut(name) else {
-            return Err(ChangeError::Refused(Refusal::Absent));
+            return Err(Refusal::Absent.into());
         };
         domain.drop_token(digest)
     }
 
-    /// Puts a document in that isn't active yet. The very text again changes nothing.
+    /// Adds a document, which isn't active yet. The same text again changes nothing.
     pub(crate) fn upload(
         &mut self,
         alloc: Global,
@@ -207,12 +207,12 @@ impl Domains {
             → CantRaise (within (uploaded key text.now)) name.now self.old }
     {
         let Some(domain) = self.by_name.get_mut(name) else {
-            return Err(ChangeError::Refused(Refusal::Absent));
+            return Err(Refusal::Absent.into());
         };
         domain.upload(alloc, key, text)
     }
 
-    /// Says whether references may resolve to the document of that key.
+    /// Makes the document of that key active or inactive.
     pub(crate) fn set_active(
         &mut self,
         name: &Text,
@@ -224,7 +224,7 @@ impl Domains {
             → CantRaise (within (activity_set key.now active)) name.now self.old }
     {
         let Some(domain) = self.by_name.get_mut(name) else {
-            return Err(ChangeError::Refused(Refusal::Absent));
+            return Err(Refusal::Absent.into());
         };
         domain.set_active(key, active)
     }
@@ -236,12 +236,12 @@ impl Domains {
             → CantRaise (within (deleted key.now)) name.now self.old }
     {
         let Some(domain) = self.by_name.get_mut(name) else {
-            return Err(ChangeError::Refused(Refusal::Absent));
+            return Err(Refusal::Absent.into());
         };
         domain.delete(key)
     }
 
-    /// Sets the root, or takes it away.
+    /// Sets or removes the root.
     pub(crate) fn set_root(
         &mut self,
         name: &Text,
@@ -251,12 +251,12 @@ impl Domains {
         ensures store { IsErrOf result (Failed Store) → CantRaise (within (root_set root)) name.now self.old }
     {
         let Some(domain) = self.by_name.get_mut(name) else {
-            return Err(ChangeError::Refused(Refusal::Absent));
+            return Err(Refusal::Absent.into());
         };
         domain.set_root(root)
     }
 
-    /// Puts these rows in place of all that were there.
+    /// Replaces the rows of the attribute source.
     pub(crate) fn set_source(
         &mut self,
         name: &Text,
@@ -267,7 +267,7 @@ impl Domains {
             → CantRaise (within (source_set rows)) name.now self.old }
     {
         let Some(domain) = self.by_name.get_mut(name) else {
-            return Err(ChangeError::Refused(Refusal::Absent));
+            return Err(Refusal::Absent.into());
         };
         domain.set_source(rows)
     }

@@ -9,7 +9,7 @@ ghost use Rattle.xa_records.specs.Keeper.{Changing, Reading, in_memory};
 ghost use Rattle.xa_records.specs.Kept.{CantRaise, IsGreatest, IsNumbered};
 ghost use Rattle.xa_records.specs.Kept.{names_of, nothing_kept, one_kept, state_of};
 ghost use Rattle.xa_records.specs.Keyed.{KeepsDocuments};
-ghost use Rattle.xa_records.specs.Readings.{gate_of, listing_of, text_of, view_of};
+ghost use Rattle.xa_records.specs.Readings.{gate_of, kept_view_of, listing_of, text_of};
 ghost use Rattle.std.proofs.Props.{props};
 ghost use Rattle.xa_policy.specs.contracts.document_key.DocumentKey as key;
 
@@ -54,7 +54,7 @@ impl PlainRecords {
 
     /// A keeper of one domain of that number and epoch, in which nothing has been put yet; the next gets
     /// the number after it. It is there for tests of the greatest numbers, which no test reaches by
-    /// calls. Answers `Store` where the next number or the epoch would be above 2^63 - 1.
+    /// calls. Answers `Store` if the next number or the epoch would be above 2^63 - 1.
     pub fn with_domain(
         alloc: Global,
         name: Text,
@@ -93,7 +93,7 @@ impl Records for PlainRecords {
 
     fn view(&mut self, alloc: Global, name: &Text) -> Result<Option<KeptView>, Failure>
         ensures reads { Reading (in_memory self.old.domains self.old.faults)
-            (in_memory self.new.domains self.new.faults) result (view_of name.now self.old.domains) }
+            (in_memory self.new.domains self.new.faults) result (kept_view_of name.now self.old.domains) }
         ensures store { ¬ IsErrOf result Store }
     {
         Ok(self.domains.view(alloc, name)?)

@@ -50,7 +50,7 @@ impl Tokens {
         self.roles.contains_key(digest)
     }
 
-    /// Whether the token of that digest may be put in: it is there already, or there are fewer than a
+    /// Whether the token of that digest may be put: it is there already, or there are fewer than a
     /// domain may have.
     pub(crate) fn has_room_for(&self, digest: &Digest) -> bool
         ensures { result ≡ (contains_key self.now digest.now || nat_lt (len self.now) 32) }
@@ -65,7 +65,7 @@ impl Tokens {
         self.roles.len()
     }
 
-    /// Puts a token in, or replaces its role. Without memory nothing changes.
+    /// Adds a token, or replaces the role of one. Without memory nothing changes.
     pub(crate) fn put(&mut self, digest: Digest, role: Role) -> Result<(), AllocError>
         ensures ok { OnOk result (self.new ≡ insert self.old digest role) }
         ensures err { OnErr result (self.new ≡ self.old) }
@@ -74,7 +74,7 @@ impl Tokens {
         Ok(())
     }
 
-    /// Takes a token away.
+    /// Removes a token.
     pub(crate) fn remove(&mut self, digest: &Digest)
         ensures { self.new ≡ remove self.old digest.now }
     {
@@ -82,7 +82,7 @@ impl Tokens {
     }
 
     /// The tokens in the order of their digests.
-    pub(crate) fn listed(&self, alloc: Global) -> Result<Items<Token>, AllocError>
+    pub(crate) fn list(&self, alloc: Global) -> Result<Items<Token>, AllocError>
         ensures { IfOk result (λ tokens. tokens ≡ map token_of (entries self.now)) }
     {
         let mut tokens = Vec::with_capacity(alloc, self.roles.len())?;

@@ -8,7 +8,7 @@ use Rattle.xa_records.proofs.plain.domains.Domains.create.Goals as goal
 pub returns-then-contains_key-clause-does : goal.returns-then-contains_key-clause-does
 returns-then-contains_key-clause-does c =
     let there : is_some (tree.get_by (compare_bytes c.args.name.now) c.self.inside.by_name) ≡ true = sym c.contains_key.ensures ∙ c.if-contains_key.true in
-    rw (← c.self.view_is) (plain.exists_refused (Unit {0}) c.self.inside.by_name c.self.inside.next c.args.name.now there)
+    rw (c.into.ensures, ← c.self.view_is) (plain.exists_refused (Unit {0}) c.self.inside.by_name c.self.inside.next c.args.name.now there)
 
 pub returns-clause-does : goal.returns-clause-does
 returns-clause-does c =

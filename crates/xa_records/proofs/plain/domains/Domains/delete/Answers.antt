@@ -3,7 +3,7 @@ use Rattle.xa_records.proofs.PlainLemmas as plain
 use Rattle.xa_records.proofs.plain.domains.Domains.delete.Goals as goal
 
 pub returns-in_default-clause-does : goal.returns-in_default-clause-does
-returns-in_default-clause-does c = rw (← c.self.view_is) (plain.absent_refused (deleted c.args.key.now) c.args.name.now c.self.inside.by_name c.get_mut.follows.lender-at-none c.self.inside.next (Unit {0}) c.in_default.ensures.value c.get_mut.follows.holds-at-none)
+returns-in_default-clause-does c = rw (c.into.ensures, ← c.self.view_is) (plain.absent_refused (deleted c.args.key.now) c.args.name.now c.self.inside.by_name c.get_mut.follows.lender-at-none c.self.inside.next (Unit {0}) c.in_default.ensures.value c.get_mut.follows.holds-at-none)
 
 pub returns-clause-does : goal.returns-clause-does
 returns-clause-does c = rw (← c.self.view_is) (plain.altered (deleted c.args.key.now) c.args.name.now c.self.inside.by_name (c.get_mut.follows.lender c.delete.new.self) c.self.inside.next c.in-Some.domain.now c.delete.new.self c.in-Some.ensures.value (c.get_mut.follows.holds c.delete.new.self) c.delete.result c.delete.ensures.does)

@@ -8,7 +8,7 @@ use Rattle.xa_records.proofs.plain.domains.Domains.upload.Goals as goal
 use Rattle.xa_records.specs.declared.upload.Upload.{Upload}
 
 pub returns-in_default-clause-does : goal.returns-in_default-clause-does
-returns-in_default-clause-does c = rw (← c.self.view_is) (plain.absent_refused (uploaded c.args.key c.args.text.now) c.args.name.now c.self.inside.by_name c.get_mut.follows.lender-at-none c.self.inside.next (Upload) c.in_default.ensures.value c.get_mut.follows.holds-at-none)
+returns-in_default-clause-does c = rw (c.into.ensures, ← c.self.view_is) (plain.absent_refused (uploaded c.args.key c.args.text.now) c.args.name.now c.self.inside.by_name c.get_mut.follows.lender-at-none c.self.inside.next (Upload) c.in_default.ensures.value c.get_mut.follows.holds-at-none)
 
 pub returns-clause-does : goal.returns-clause-does
 returns-clause-does c = rw (← c.self.view_is) (plain.altered (uploaded c.args.key c.args.text.now) c.args.name.now c.self.inside.by_name (c.get_mut.follows.lender c.upload.new.self) c.self.inside.next c.in-Some.domain.now c.upload.new.self c.in-Some.ensures.value (c.get_mut.follows.holds c.upload.new.self) c.upload.result c.upload.ensures.does)

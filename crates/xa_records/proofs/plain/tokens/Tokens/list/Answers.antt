@@ -3,7 +3,7 @@ use Rattle.std.specs.FinMap.{entries}
 use Rattle.xa_records.specs.Readings.{token_of}
 use Rattle.xa_records.proofs.OrderLemmas.{bytes_exact, bytes_total}
 use Rattle.xa_records.proofs.TreeLemmas as map_lemmas
-use Rattle.xa_records.proofs.plain.tokens.Tokens.listed.Goals as goal
+use Rattle.xa_records.proofs.plain.tokens.Tokens.list.Goals as goal
 
 pub loop-digest-init : goal.loop-digest-init
 loop-digest-init c =

@@ -3,7 +3,7 @@ use Rattle.std.specs.FinMap.{entries}
 use Rattle.xa_records.specs.Readings.{listed_of}
 use Rattle.xa_records.proofs.OrderLemmas.{keys_exact, keys_total}
 use Rattle.xa_records.proofs.TreeLemmas as map_lemmas
-use Rattle.xa_records.proofs.plain.documents.Documents.listed.Goals as goal
+use Rattle.xa_records.proofs.plain.documents.Documents.list.Goals as goal
 
 pub loop-key-init : goal.loop-key-init
 loop-key-init c =
