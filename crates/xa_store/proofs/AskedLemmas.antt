@@ -1,4 +1,4 @@
--- What a query of the tables leaves where a store is opened, and which errors none has.
+-- What a query of the tables leaves when a store is opened, and which errors none has.
 use Rattle.std.proofs.Common.{◌≡◌, inl, inr, ℕ, List, Bool, true, false, Option, Ok, Err, Result, OnOk, refl, sym, ap, subst, ◌∙◌, true≢false, arith}
 use Rattle.xa_store.proofs.Common.{Database, RefusesToRead, Command, Select, IsPlain, understood, Row, Schema, State, HasCleanDisk, Shown, FailsToShow, Survives, CommitsShowing, store_error, Error, never_commits, survives_weaker, survives_then, OpenError, NotThisSchema, Damaged, SchemaVersion, schema_of, RestsIn, SameNow}
 use Rattle.sqlite.specs.Command.TheVariants.{Rows}

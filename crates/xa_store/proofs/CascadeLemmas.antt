@@ -1,4 +1,4 @@
--- What the actions of foreign keys take out, where the row of a domain goes.
+-- What the actions of foreign keys take out, when the row of a domain goes.
 use Rattle.std.proofs.Common.{◌≡◌, ◌≢◌, inl, inr, ℕ, zero, suc, ℤ, ◌<ℤ◌, List, [], ◌∷◌, ◌++◌, map, filter, fold, length, Bool, true, false, not, ◌&&◌, ◌||◌, ◌==◌, cond, Option, Some, None, Ok, refl, sym, ap, ap₂, subst, subst₂, ◌∙◌, arith, int_eq, append-nil, length-append}
 use Rattle.xa_store.proofs.Common.{AllByRecursion, list_all, list_any, and_parts, ints, Row, Table, Trees, Value, Int, Enforced, Eq, rowid, Work, action_edit, works, loses, is_child_of, AreChildren, Acts, ActsOn, Leads, IsNoIndex, taken_by, without_all, IsKeyedBy, delete_where, without_key, all_of, filter_all, deletes-map, at_ints, DomainRow, domain_row, our_schema, of_domain, tokens, policies, roots, attributes, sources}
 use Rattle.std.specs.List.{flat_map, filter_map}

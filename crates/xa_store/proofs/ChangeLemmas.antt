@@ -27,7 +27,7 @@ none_pass p (x ∷ xs) e = go (p x) refl (none_pass p xs) e
     go true is more e = absurd cc
     go false is more e = (is, more e)
 
--- where one row alone passes the test, and numbers are apart, the test is that of its number
+-- if one row alone passes the test, and numbers are apart, the test is that of its number
 pub one_passes : (p : DomainRow → Bool) (d : DomainRow) (xs : List DomainRow) → IsKeyedBy number_of xs → filter p xs ≡ d ∷ [] → AllByRecursion (λ x. p x ≡ int_eq x.number d.number) xs
 one_passes p d [] up e = tt
 one_passes p d (x ∷ xs) up e = go (p x) refl (one_passes p d xs up.1) e

@@ -3,7 +3,7 @@ use Rattle.std.proofs.Common.{◌≡◌, ℕ, true, List, [], ◌∷◌, map, co
 use Rattle.sqlite.specs.Listing.{understood}
 use Rattle.xa_store.proofs.Common.{Query, col, CheckedTable, Domains, Tokens, Documents, Roots, Attributes, Sources, SchemaVersion, Schema1, Schema2, read_columns, schema_of, sources_in, tree_of}
 use Rattle.sqlite_tied.specs.Compute.{everything}
-use Rattle.xa_store.specs.Check.{has_table, places_text_of, text_of}
+use Rattle.xa_store.specs.Check.{has_table, places_query, rows_query}
 use Rattle.xa_store.specs.Texts.{meta_shown}
 use Rattle.xa_store.proofs.TextLemmas.{of_table, reading, IsQuery, IsQueryIn}
 
@@ -18,7 +18,7 @@ names_of Roots = codes "number" ∷ codes "kind" ∷ codes "id" ∷ codes "patte
 names_of Attributes = codes "rowid" ∷ codes "number" ∷ codes "place" ∷ codes "category" ∷ codes "entity" ∷ codes "attribute" ∷ codes "value_type" ∷ codes "value" ∷ []
 names_of Sources = codes "rowid" ∷ codes "number" ∷ codes "place" ∷ codes "category" ∷ codes "entity" ∷ codes "attribute" ∷ codes "value_type" ∷ codes "value" ∷ codes "issuer" ∷ []
 
-pub checked_is : (kind : CheckedTable) (version : SchemaVersion) → has_table kind version ≡ true → IsQueryIn (schema_of version) (text_of kind) (reading (query_of kind) (names_of kind))
+pub checked_is : (kind : CheckedTable) (version : SchemaVersion) → has_table kind version ≡ true → IsQueryIn (schema_of version) (rows_query kind) (reading (query_of kind) (names_of kind))
 unfolding understood everything
 checked_is Domains Schema1 has = (refl, refl, (refl, refl))
 checked_is Domains Schema2 has = (refl, refl, (refl, refl))
@@ -33,19 +33,19 @@ checked_is Attributes Schema2 has = (refl, refl, (refl, refl))
 checked_is Sources Schema1 has = absurd (true≢false (sym has))
 checked_is Sources Schema2 has = (refl, refl, (refl, refl))
 
-abbrev pub places_query : SchemaVersion → Query
-places_query version = of_table (tree_of (sources_in version)) [] (col 1 1 ∷ col 1 2 ∷ []) (1 ∷ 2 ∷ [])
+abbrev pub query_of_places : SchemaVersion → Query
+query_of_places version = of_table (tree_of (sources_in version)) [] (col 1 1 ∷ col 1 2 ∷ []) (1 ∷ 2 ∷ [])
 
 abbrev pub place_names : List (List ℕ)
 place_names = codes "number" ∷ codes "place" ∷ []
 
-pub places_is : (version : SchemaVersion) → IsQueryIn (schema_of version) (places_text_of version) (reading (places_query version) place_names)
+pub places_is : (version : SchemaVersion) → IsQueryIn (schema_of version) (places_query version) (reading (query_of_places version) place_names)
 unfolding understood everything
 places_is Schema1 = (refl, refl, (refl, refl))
 places_is Schema2 = (refl, refl, (refl, refl))
 
 -- in schema 2 the same query is asked of the table that it leaves empty
-pub left_is : IsQuery (places_text_of Schema1) (reading (places_query Schema1) place_names)
+pub left_is : IsQuery (places_query Schema1) (reading (query_of_places Schema1) place_names)
 unfolding understood everything
 left_is = (refl, refl, (refl, refl))
 

@@ -41,7 +41,7 @@ beyond n h = grind (arith, ints)
 below : (n : ℕ) → is_bit (negsuc n) ≡ true → ⊥
 below n h = grind (arith, ints)
 
--- a bit is written as it was read, where both bits are
+-- a bit is written as it was read, if both bits are
 pub from_bit : {X : Type 0} (write : X → ℤ) (read : ℤ → X) → write (read (pos 0)) ≡ pos 0 → write (read (pos 1)) ≡ pos 1 → (n : ℤ) → is_bit n ≡ true → n ≡ write (read n)
 from_bit write read first second (pos zero) h = sym first
 from_bit write read first second (pos (suc zero)) h = sym second

@@ -82,7 +82,7 @@ pub use Rattle.xa_records.specs.DomainName.{is_domain_name}
 pub use Rattle.xa_records.specs.DomainState.{compare_bytes, DomainState, IsDocumentOf, new_domain, StoredDocument}
 pub use Rattle.xa_records.specs.Keeper.{Changes, IfAnswered, Leaves, Reads}
 pub use Rattle.xa_records.specs.Kept.{Becomes, Domain, IsChanged, IsMade, IsNextEpoch, IsNextNumber, IsNumbered, IsRaised, Kept, names_of, nothing_kept, state_of}
-pub use Rattle.xa_records.specs.Readings.{active_text, active_texts, gate_of, gate_of_domain, listed_of, listing_of, listing_of_state, text_in, text_of, token_of, view_of, view_of_state}
+pub use Rattle.xa_records.specs.Readings.{active_text, active_texts, gate_of, gate_of_domain, kept_view_of, listed_of, listing_of, listing_of_state, text_in, text_of, token_of, view_of_state}
 pub use Rattle.xa_records.specs.declared.refusal.ChangeError.{ChangeError}
 pub use Rattle.xa_records.specs.declared.refusal.Failure.{Failure}
 pub use Rattle.xa_records.specs.declared.refusal.Refusal.TheVariants.{Absent, Exists, Quota, SameVersionOtherText, StillActive}

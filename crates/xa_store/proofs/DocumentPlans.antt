@@ -124,7 +124,7 @@ module _ (rows : Rows) (name : List ℕ) (d : DomainRow) (one : IsOnly name d ro
           (AddDocument n key body ∷ SetEpoch n epoch ∷ []) epoch up ((none, reads, of_key key body document), (tt, tt)) (rewrote documents target here others differs) (next_epoch documents target here others differs)
           (columns documents (λ whole. all_push (IsWholeDocument rows.next) rows.documents new whole.documents (its_domain rows whole name d one).0))
 
-  -- ---- where nothing is done
+  -- ---- if nothing is done
 
   module _ (x : DocumentRow) (there : filter (is_document n key) rows.documents ≡ x ∷ []) where
     in_place : get state.documents key ≡ Some (stored x)

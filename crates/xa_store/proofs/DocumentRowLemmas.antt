@@ -74,7 +74,7 @@ document_back next row typed whole =
 
 -- ---- no two rows have one key
 
--- where a row has this number and this key
+-- if a row has this number and this key
 abbrev with_key : DocumentRow → ℤ × DocumentKey → DocumentRow
 with_key d p = record d { number = p.0; key = p.1 }
 

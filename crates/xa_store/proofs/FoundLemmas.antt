@@ -80,7 +80,7 @@ module _ (t : ℕ) (tests shown : List Term) (order : List ℕ) (db : Trees) (pl
       let shown_same = IsPermutation-map (λ (o : Output). o.1) (map outs among) h.0 same in
       subst (IsPermutation (map shows among)) (sym h.3) (subst (λ l. IsPermutation l (map (λ (o : Output). o.1) h.0)) (map-map (λ (o : Output). o.1) outs among) shown_same)
 
-  -- in the one order that ORDER BY leaves, where it leaves no ties
+  -- in the one order that ORDER BY leaves, if it leaves no ties
   pub found_sorted : (cmp : X → X → Ordering) → ((a b : X) → output_cmp (of_table t tests shown order) (outs a) (outs b) ≡ cmp a b) → IsAscending (λ a b. is_eq (cmp a b) ≡ false) among
       → (rows : List Row) → Answered t tests shown order db plain params rows → rows ≡ map shows (sort_by cmp among)
   found_sorted cmp is untied rows h =

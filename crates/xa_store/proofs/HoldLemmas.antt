@@ -18,7 +18,7 @@ no_index : (indexes : List Index) (t : ℕ) → list_all (λ (i : Index). not (i
 no_index [] t free = tt
 no_index (i ∷ indexes) t free = let both = and_parts _ _ free in (apart_by i.tree t both.0, no_index indexes t both.1)
 
--- what holds of each tree but that one and the indexes' holds where the test says so
+-- what holds of each tree but that one and the indexes' holds if the test says so
 pub of_other : (tree : ℕ) (P : ℕ → Type 0) → ((t : ℕ) → t ≢ tree → IsNoIndex our_schema t → P t) → (t : ℕ) → is_other tree t ≡ true → P t
 of_other tree P others t other = let both = and_parts _ _ other in others t (apart_by t tree both.0) (no_index our_schema.indexes t both.1)
 

@@ -10,7 +10,7 @@ use Rattle.xa_store.specs.Turns.{Turns}
 use Rattle.xa_store.proofs.KeeperReadingLemmas.{sound_store}
 use Rattle.xa_store.proofs.QuietLemmas.{ours_after}
 
--- the trait's word of a change, where this is to be made of the domain of that name
+-- the trait's word of a change, if this is to be made of the domain of that name
 abbrev pub IsChanging : {S X : Type 0} → Ghosts S → Keeper S → Keeper S → Result X ChangeError → List ℕ → Change → Type 0
 IsChanging g old new r name change = Changing (custody_by g old) (custody_by g new) r name change
 

@@ -9,7 +9,7 @@ use Rattle.xa_store.specs.Health.{TellsReading}
 use Rattle.xa_store.proofs.QuietLemmas.{ours_after}
 use Rattle.xa_store.proofs.ReopenLemmas.{are_ours}
 
--- the trait's word of a reading, where this is to be read of what is kept
+-- the trait's word of a reading, if this is to be read of what is kept
 abbrev pub IsReading : {S X : Type 0} → Ghosts S → Keeper S → Keeper S → Result X Failure → (Kept → X) → Type 0
 IsReading g old new r there = Reading (custody_by g old) (custody_by g new) r (there (kept_by g old))
 

@@ -47,7 +47,7 @@ failure_next known e (inl is) = subst (λ o. GivesNext known (Err o)) (sym is) t
 failure_next known e (inr is) = subst (λ o. GivesNext known (Err o)) (sym is) tt
 
 module _ (p q : Trees → Bool) (a b : State) where
-  -- the second is checked where the first is sound
+  -- the second is checked if the first is sound
   pub checked_then : {version : SchemaVersion} (c : State) (x : Unit {0}) (r : Result (Unit {0}) OpenError) → CheckedBy version p a b (Ok x) → CheckedBy version q b c r → CheckedBy version (λ db. p db && q db) a c r
   checked_then c x r first second = record {
     asks = asks_then a b c x first.asks r second.asks;

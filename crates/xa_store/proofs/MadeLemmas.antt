@@ -1,5 +1,5 @@
 -- The tables are made, or brought into schema 2, in a transaction: from the statements to the commit.
-use Rattle.std.proofs.Common.{◌≡◌, inl, inr, [], true, false, Ok, Err, IsTrue, refl, sym, subst, ◌∙◌, arith}
+use Rattle.std.proofs.Common.{◌≡◌, inl, inr, [], true, false, Result, Ok, Err, OnOk, IfErr, MatchResult, IsErrAnd, IsTrue, refl, sym, subst, ◌∙◌, arith}
 use Rattle.xa_store.proofs.Common.{both_ways, Database, Held, state, State, HasCleanDisk, KeepsCommit, KeepsCounts, Shows, Survives, Ghosts, Trees, Error, survives_begin, survives_then, IsSound, OpenError, Schema1, SameNow}
 use Rattle.sqlite.specs.Steps.{FailsToCommit}
 use Rattle.xa_store.specs.declared.schema.creation.Part.TheVariants as parts
@@ -67,6 +67,14 @@ module _ {S : Type 0} (g : Ghosts S) (old mid last : Held S) where
       unmade f e is goes_on ended failed =
           record { survives = leaves_made; made = λ clean blank. tt; same = λ clean blank up. undone e goes_on ended blank.settled clean up (failed clean); fails = is }
 
+      -- a commit whose error is told as a failure
+      pub made_or_not : (P : Error → OpenError → Type 0) → ((e : Error) (f : OpenError) → P e f → IsFailure f) → (done : Result (Unit {0}) Error) (r : Result (Unit {0}) OpenError) → MatchResult done (λ x. r ≡ Ok x) (λ e. IsErrAnd r (P e))
+          → (HasCleanDisk (state g mid) → IsTrue (state g mid).in_transaction) → (state g last).in_transaction ≡ false → (HasCleanDisk (state g last) → OnOk done (IsTrue (state g mid).in_transaction × Shows (state g mid) (state g last) (state g mid).now (state g mid).now false × KeepsCounts (state g mid) (state g last) × ((state g last).marks ≡ [])))
+          → (HasCleanDisk (state g last) → IfErr done (FailsToCommit (state g mid) (state g last))) → Made (state g old) (state g last) r
+      made_or_not P told (Ok x) r h goes_on ended shown failed = subst (λ (r : Result (Unit {0}) OpenError). Made (state g old) (state g last) r) (sym h) (made x shown)
+      made_or_not P told (Err e) (Ok x) h goes_on ended shown failed = absurd h
+      made_or_not P told (Err e) (Err f) h goes_on ended shown failed = unmade f e (told e f h) goes_on ended failed
+
     -- ---- tables of schema 1 in schema 2
 
     module _ (moves : HasCleanDisk (state g mid) → IsTrue begun.in_transaction → (first : Trees) → IsSoundFirst first → IsFirst first begun.now → IsDone first (state g mid).now) where
@@ -104,3 +112,11 @@ module _ {S : Type 0} (g : Ghosts S) (old mid last : Held S) where
           → (HasCleanDisk (state g last) → FailsToCommit (state g mid) (state g last) e) → Migrated {X = X} (state g old) (state g last) (Err f)
       unmigrated f e is goes_on ended failed =
           record { survives = leaves_migrated; migrated = λ clean sound. tt; same = λ clean rests up. undone e goes_on ended rests.settled clean up (failed clean); fails = is }
+
+      -- a commit whose error is told as a failure
+      pub migrated_or_not : (P : Error → OpenError → Type 0) → ((e : Error) (f : OpenError) → P e f → IsFailure f) → (done : Result (Unit {0}) Error) (r : Result (Unit {0}) OpenError) → MatchResult done (λ x. r ≡ Ok x) (λ e. IsErrAnd r (P e))
+          → (HasCleanDisk (state g mid) → IsTrue (state g mid).in_transaction) → (state g last).in_transaction ≡ false → (HasCleanDisk (state g last) → OnOk done (IsTrue (state g mid).in_transaction × Shows (state g mid) (state g last) (state g mid).now (state g mid).now false × KeepsCounts (state g mid) (state g last) × ((state g last).marks ≡ [])))
+          → (HasCleanDisk (state g last) → IfErr done (FailsToCommit (state g mid) (state g last))) → Migrated (state g old) (state g last) r
+      migrated_or_not P told (Ok x) r h goes_on ended shown failed = subst (λ (r : Result (Unit {0}) OpenError). Migrated (state g old) (state g last) r) (sym h) (migrated x shown)
+      migrated_or_not P told (Err e) (Ok x) h goes_on ended shown failed = absurd h
+      migrated_or_not P told (Err e) (Err f) h goes_on ended shown failed = unmigrated f e (told e f h) goes_on ended failed

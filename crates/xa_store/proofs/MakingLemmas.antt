@@ -1,15 +1,17 @@
 -- What the statements make by which the tables are made.
-use Rattle.std.proofs.Common.{◌≡◌, ℕ, pos, true, false, MatchBool, List, [], ◌∷◌, ◌++◌, map, Ok, Err, Result, OnOk, refl, sym, ap, subst, ◌∙◌}
-use Rattle.xa_store.proofs.Common.{AllByRecursion, Database, IsDatabase, understood, Gives, Chosen, Schema, State, Executes, mode_of, Table, Trees, CreateTable, Null, Int, statement_of, runs_as, cast_row, with_rowid, all-append, CheckedTable, Domains, Tokens, Documents, Roots, Attributes, Sources, tree_of, meta_row, first_schema, our_schema, meta, domains, tokens, policies, roots, attributes, sources}
+use Rattle.std.proofs.Common.{◌≡◌, ℕ, zero, suc, ◌+◌, ◌<◌, pos, true, false, MatchBool, List, [], ◌∷◌, ◌++◌, map, get_or, drop, Ok, Err, Result, OnOk, IsTrue, refl, sym, ap, subst, ◌∙◌, drop-cons, arith}
+use Rattle.xa_store.proofs.Common.{AllByRecursion, Database, IsDatabase, understood, Gives, Chosen, Schema, State, HasCleanDisk, Executes, Failure, survives_then, mode_of, Table, Trees, CreateTable, Null, Int, statement_of, runs_as, cast_row, with_rowid, all-append, CheckedTable, Domains, Tokens, Documents, Roots, Attributes, Sources, tree_of, meta_row, first_schema, our_schema, meta, domains, tokens, policies, roots, attributes, sources}
 use Rattle.sqlite.specs.Change.{created, next_tree}
 use Rattle.sqlite.specs.Does.{Tally, Does, MakesSequence, MakesTable, lacks_sequence, sequence_text}
 use Rattle.sqlite_catalog.specs.Change.{KeepsRows}
 use Rattle.xa_store.specs.declared.schema.creation.Part.{Part}
 use Rattle.xa_store.specs.declared.schema.creation.Part.TheVariants as parts
-use Rattle.xa_store.specs.Creation.{AreEmpty, text_of, first, second, third, fourth, fifth, IsBefore, IsAfter}
+use Rattle.xa_store.specs.Creation.{AreEmpty, AreMade, part_statement, first, second, third, fourth, fifth, IsBefore, IsAfter}
+use Rattle.xa_store.specs.Execution.{StaysInside}
 use Rattle.xa_store.specs.Opening.{no_tables}
 use Rattle.xa_store.specs.Texts as texts
 use Rattle.xa_store.proofs.MadeTexts.{IsMaking, first_made, all_made, meta_is, domains_is, tokens_is, policies_is, roots_is, attributes_is, sources_is, first_row, first_row_is}
+use Rattle.xa_store.proofs.ApartLemmas.{survives_still}
 use Rattle.xa_store.proofs.HoldLemmas.{is_other, kept}
 use Rattle.xa_store.proofs.StepLemmas.{meta_cast}
 use Rattle.xa_store.proofs.TableLemmas.{went, same_value, inserts}
@@ -64,7 +66,7 @@ module _ (schema : Schema) (sql : List ℕ) (table : Table) (is : IsMaking schem
   pub grown : (later : Schema) → created schema table ≡ later → Bare old.now.trees schema.tables → AreEmpty later (map (λ (t : Table). t.tree) schema.tables ++ next_tree schema ∷ []) new.now
   grown later is_later bare = record { schema = came.schema_is ∙ is_later; empty = bare_after bare }
 
--- where the tree of meta was written, no other table has a row yet
+-- once the tree of meta was written, no other table has a row yet
 still : (old new : Trees) → ((t : ℕ) → is_other 0 t ≡ true → new t ≡ old t) → AllByRecursion (λ t. old t ≡ []) (0 ∷ 1 ∷ 3 ∷ 5 ∷ 7 ∷ 8 ∷ 10 ∷ []) → (kind : CheckedTable) → new (tree_of kind) ≡ []
 still old new stays empty Domains = stays 1 refl ∙ empty.1.0
 still old new stays empty Tokens = stays 3 refl ∙ empty.1.1.0
@@ -74,7 +76,7 @@ still old new stays empty Attributes = stays 8 refl ∙ empty.1.1.1.1.1.0
 still old new stays empty Sources = stays 10 refl ∙ empty.1.1.1.1.1.1.0
 
 -- a part that was made is there, and those before it still are
-pub taken : (part : Part) (old new : State) (count : ℕ) → IsBefore part old.now → Executes (text_of part) [] old new (Ok count) → IsAfter part new.now
+pub taken : (part : Part) (old new : State) (count : ℕ) → IsBefore part old.now → Executes (part_statement part) [] old new (Ok count) → IsAfter part new.now
 taken parts.Meta old new count before h = grown no_tables texts.meta_made meta meta_is refl old new before.schema count h first refl before.empty
 taken parts.Domains old new count before h = grown first texts.domains_made domains domains_is refl old new before.schema count h second refl before.empty
 taken parts.Tokens old new count before h = grown second texts.tokens_made tokens tokens_is refl old new before.schema count h third refl before.empty
@@ -95,3 +97,60 @@ taken parts.FirstRow old new count before h =
 pub on_ok : {X E P Q : Type 0} (r : Result X E) → OnOk r P → (P → Q) → OnOk r Q
 on_ok (Ok x) p f = f p
 on_ok (Err e) p f = tt
+
+-- ---- one part after another
+
+abbrev pub all_parts : List Part
+all_parts = parts.Meta ∷ parts.Domains ∷ parts.Tokens ∷ parts.Policies ∷ parts.Roots ∷ parts.Attributes ∷ parts.Sources ∷ parts.FirstRow ∷ []
+
+-- what stands when these parts are left
+abbrev pub Reaches : List Part → Database → Type 0
+Reaches [] = AreMade
+Reaches (part ∷ left) = IsBefore part
+
+-- all parts but those that are left were made
+pub record MadeSoFar (left : List Part) (old mid : State) : Type 0 where
+  pub stays : StaysInside {X = Unit {0}} old mid (Ok tt)
+  pub reaches : HasCleanDisk mid → IsTrue old.in_transaction → IsBefore parts.Meta old.now → Reaches left mid.now
+
+pub none_made : (s : State) → MadeSoFar all_parts s s
+none_made s = record {
+  stays = record { survives = survives_still s; kept = λ clean inside. record { was_open = λ up. up; committed = λ up. refl }; inside = λ clean inside. inside };
+  reaches = λ clean inside before. before;
+}
+
+pub stays_then : (old mid new : State) → StaysInside {X = Unit {0}} old mid (Ok tt) → (r : Result (Unit {0}) Failure) → StaysInside mid new r → StaysInside old new r
+stays_then old mid new so_far r on = record {
+  survives = survives_then old mid new (λ _. ⊥) (λ _. ⊥) (λ _. ⊥) (λ _ db h. h) (λ _ db h. h) so_far.survives on.survives;
+  kept = λ clean inside.
+      let clean_mid : HasCleanDisk mid = omega (arith, on.survives.clean, clean) in
+      let one = so_far.kept clean_mid inside in
+      let two = on.kept clean (so_far.inside clean_mid inside) in
+      record { was_open = λ up. one.was_open (two.was_open up); committed = λ up. two.committed up ∙ one.committed (two.was_open up) };
+  inside = λ clean inside. on.inside clean (so_far.inside (omega (arith, on.survives.clean, clean)) inside);
+}
+
+part_at : (at : ℕ) → at < 8 → (db : Database) → Reaches (drop at all_parts) db → IsBefore (get_or all_parts at parts.Meta) db
+part_at at lt db = subst (λ (left : List Part). Reaches left db → IsBefore (get_or all_parts at parts.Meta) db) (sym (drop-cons all_parts at parts.Meta lt)) (λ h. h)
+
+next_part : (at : ℕ) → at < 8 → (db : Database) → IsAfter (get_or all_parts at parts.Meta) db → Reaches (drop (at + 1) all_parts) db
+next_part zero lt db h = h
+next_part (suc zero) lt db h = h
+next_part (suc (suc zero)) lt db h = h
+next_part (suc (suc (suc zero))) lt db h = h
+next_part (suc (suc (suc (suc zero)))) lt db h = h
+next_part (suc (suc (suc (suc (suc zero))))) lt db h = h
+next_part (suc (suc (suc (suc (suc (suc zero)))))) lt db h = h
+next_part (suc (suc (suc (suc (suc (suc (suc zero))))))) lt db h = h
+next_part (suc (suc (suc (suc (suc (suc (suc (suc at)))))))) lt db h = absurd (omega (arith, lt))
+
+module _ (at : ℕ) (lt : at < 8) (old mid new : State) (so_far : MadeSoFar (drop at all_parts) old mid) (x : Unit {0}) (on : StaysInside {X = Unit {0}} mid new (Ok x)) where
+  pub one_made : (HasCleanDisk new → IsTrue mid.in_transaction → IsBefore (get_or all_parts at parts.Meta) mid.now → IsAfter (get_or all_parts at parts.Meta) new.now) → MadeSoFar (drop (at + 1) all_parts) old new
+  one_made makes =
+      let both = stays_then old mid new so_far.stays (Ok x) on in
+      record {
+        stays = record { survives = both.survives; kept = both.kept; inside = both.inside };
+        reaches = λ clean inside before.
+            let clean_mid : HasCleanDisk mid = omega (arith, on.survives.clean, clean) in
+            next_part at lt new.now (makes clean (so_far.stays.inside clean_mid inside) (part_at at lt mid.now (so_far.reaches clean_mid inside before)));
+      }

@@ -8,7 +8,7 @@ use Rattle.xa_store.proofs.OursLemmas.{found, in_kind, next_counts, places_count
 use Rattle.xa_store.proofs.ReadLemmas.{numbers_read}
 use Rattle.xa_store.proofs.RiseLemmas.{both_true}
 
--- ---- rows that were moved are sound where they were
+-- ---- rows that were moved are sound if they were
 
 module _ (next : ℤ) where
   row_whole : (k : ℕ) (row : Row) → is_whole_row Attributes next (as_read Attributes row) ≡ true → is_whole_row Sources next (as_read Sources (moved_row (pos k) row)) ≡ true

@@ -6,7 +6,7 @@ use Rattle.sqlite_rules.specs.Edit.{edit_of}
 use Rattle.xa_store.specs.declared.schema.migration.Stage.{Stage}
 use Rattle.xa_store.specs.declared.schema.migration.Stage.TheVariants as stages
 use Rattle.xa_store.specs.Check.{HasNumbers}
-use Rattle.xa_store.specs.Migration.{IsAfter, IsBefore, IsSoundFirst, moved_rows, text_of}
+use Rattle.xa_store.specs.Migration.{IsAfter, IsBefore, IsSoundFirst, moved_rows, stage_statement}
 use Rattle.xa_store.specs.Texts as text
 use Rattle.xa_store.proofs.ActionLemmas.{works_of_coming}
 use Rattle.xa_store.proofs.AreRowsLemmas.{first_sources_are}
@@ -199,7 +199,7 @@ module _ (first : Trees) (sound : IsSoundFirst first) (old new : State) (count :
         others = (it.others.1.0 ∙ before.others.0, (it.others.1.1.0 ∙ before.others.1.0, (it.others.1.1.1.0 ∙ before.others.1.1.0, (it.others.1.1.1.1.0 ∙ before.others.1.1.1.0, tt))));
       }
 
-pub taken : (stage : Stage) (first : Trees) → IsSoundFirst first → (old new : State) (count : ℕ) → IsBefore stage first old.now → Executes (text_of stage) [] old new (Ok count) → IsAfter stage first new.now
+pub taken : (stage : Stage) (first : Trees) → IsSoundFirst first → (old new : State) (count : ℕ) → IsBefore stage first old.now → Executes (stage_statement stage) [] old new (Ok count) → IsAfter stage first new.now
 taken stages.Sources first sound old new count before h = added first sound old new count before h
 taken stages.Rows first sound old new count before h = filled first sound old new count before h
 taken stages.Attributes first sound old new count before h = emptied first sound old new count before h

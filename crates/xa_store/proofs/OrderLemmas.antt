@@ -12,7 +12,7 @@ use Rattle.sqlite_sql.specs.Text.{joined, text_in}
 use Rattle.sqlite_sql.specs.declared.aggregate.AggregateOp.TheVariants.{Concat}
 use Rattle.sqlite_sql.specs.declared.ops.UnaryOp.TheVariants.{Not}
 use Rattle.sqlite_value.specs.Order.{value_cmp}
-use Rattle.xa_store.specs.Check.{has_table, order_text_of, HasNumbers, Walks}
+use Rattle.xa_store.specs.Check.{has_table, order_query, HasNumbers, Walks}
 use Rattle.xa_store.proofs.NumberTexts.{AreShort, later_text, same_numbers}
 use Rattle.xa_store.proofs.ReadLemmas.{bare, checked_sound, checked_up, head_read, int_back, numbers_read, rising, walked_numbers}
 use Rattle.xa_store.proofs.RisingTexts.{by_rowid, order_is, rising_query, sorted_query, sorted_tree, text_over}
@@ -167,7 +167,7 @@ not_false true h = refl
 not_false false h = absurd (true≢false h)
 
 module _ (kind : CheckedTable) (version : SchemaVersion) (has : has_table kind version ≡ true) (old new : State) (rests : RestsIn (schema_of version) old) (shown : List Row)
-    (told : Shown (order_text_of kind) [] old new shown) (next : ℤ) (walked : Walks kind next old.now.trees (Ok tt)) where
+    (told : Shown (order_query kind) [] old new shown) (next : ℤ) (walked : Walks kind next old.now.trees (Ok tt)) where
   abbrev t : ℕ
   t = tree_of kind
 
@@ -183,7 +183,7 @@ module _ (kind : CheckedTable) (version : SchemaVersion) (has : has_table kind v
   parts : Parts
   parts =
       let it = order_is kind version has in
-      elim (reads_as (order_text_of kind) [] old new (schema_of version) rests.schema _ it.0 it.2 it.1 shown told).answer [ inl h ↦ (h.0, h.1, h.2) | inr h ↦ absurd h.1 ]
+      elim (reads_as (order_query kind) [] old new (schema_of version) rests.schema _ it.0 it.2 it.1 shown told).answer [ inl h ↦ (h.0, h.1, h.2) | inr h ↦ absurd h.1 ]
 
   numbers : HasNumbers kind db
   numbers = walked_numbers kind next db walked

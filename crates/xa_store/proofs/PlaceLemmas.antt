@@ -1,7 +1,7 @@
 -- What the query for the places of the rows of sources tells, and the query of the first table.
 use Rattle.std.proofs.Common.{◌≡◌, ℕ, Bool, true, false, ◌&&◌, List, [], ◌∷◌, map, filter, length, Ordering, is_eq, int_cmp, refl, sym, ap, subst, ◌∙◌, arith, IsPermutation}
 use Rattle.xa_store.proofs.Common.{nil_from_length, length_permutation, IsPermutation-map, IsPlain, understood, Row, Output, State, Shown, col, Trees, Int, reads_as, one_permutation, sort_by, all_of, ascending-map, ascending_weaker, filter_all, map-map, sort_by-map, IsAscending, then_key, last_key, value_cmp-Int, SchemaVersion, Schema1, Schema2, Place, are_counted, is_empty, is_left_empty, known_next, place_in, read_meta, schema_of, sources_in, tree_of, AttributeRow, attribute_in, attribute_row, AreRows, Rests, RestsIn, same_place, our_schema}
-use Rattle.xa_store.specs.Check.{counts, counts_on, no_place, places_text_of}
+use Rattle.xa_store.specs.Check.{counts, counts_on, no_place, places_query}
 use Rattle.xa_store.specs.Texts.{meta_shown}
 use Rattle.xa_store.proofs.CountedLemmas.{count_on, place_cmp, walk_counts}
 use Rattle.xa_store.proofs.FoundLemmas.{found_sorted}
@@ -12,10 +12,10 @@ use Rattle.xa_store.proofs.SqlLemmas.{Answered, answered, count_is, out}
 
 -- ---- the queries
 
-pub places_plain : (version : SchemaVersion) → IsPlain (understood (schema_of version) (places_text_of version))
+pub places_plain : (version : SchemaVersion) → IsPlain (understood (schema_of version) (places_query version))
 places_plain version = (places_is version).2
 
-pub left_plain : IsPlain (understood our_schema (places_text_of Schema1))
+pub left_plain : IsPlain (understood our_schema (places_query Schema1))
 left_plain = left_is.2
 
 pub meta_plain : (version : SchemaVersion) → IsPlain (understood (schema_of version) meta_shown)
@@ -37,7 +37,7 @@ abbrev by_place : AttributeRow → AttributeRow → Ordering
 by_place a b = place_cmp (place_of a) (place_of b)
 
 module _ (version : SchemaVersion) (old new : State) (rests : RestsIn (schema_of version) old) (are : AreRows attribute_row attribute_in (λ a. a.rowid) same_place (old.now.trees (tree_of (sources_in version))))
-    (rows : List Row) (shown : Shown (places_text_of version) [] old new rows) where
+    (rows : List Row) (shown : Shown (places_query version) [] old new rows) where
   abbrev db : Trees
   db = old.now.trees
 
@@ -57,7 +57,7 @@ module _ (version : SchemaVersion) (old new : State) (rests : RestsIn (schema_of
   answer =
       let it = places_is version in
       answered t [] (col 1 1 ∷ col 1 2 ∷ []) (1 ∷ 2 ∷ []) db (bare (sources_in version) db) [] rows
-      (reads_as (places_text_of version) [] old new (schema_of version) rests.schema _ it.0 it.2 it.1 rows shown).answer
+      (reads_as (places_query version) [] old new (schema_of version) rests.schema _ it.0 it.2 it.1 rows shown).answer
 
   untied : IsAscending (λ a b. is_eq (by_place a b) ≡ false) all
   untied = ascending_weaker (λ a b. same_place a b ≡ false) _ (λ a b h. eq_then (int_cmp a.number b.number) (int_cmp a.place b.place) ∙ h) all are.apart
@@ -75,7 +75,7 @@ module _ (version : SchemaVersion) (old new : State) (rests : RestsIn (schema_of
 
 -- ---- the table that schema 2 leaves empty
 
-module _ (old new : State) (rests : Rests old) (rows : List Row) (shown : Shown (places_text_of Schema1) [] old new rows) where
+module _ (old new : State) (rests : Rests old) (rows : List Row) (shown : Shown (places_query Schema1) [] old new rows) where
   abbrev left : List Row
   left = old.now.trees 8
 
@@ -83,7 +83,7 @@ module _ (old new : State) (rests : Rests old) (rows : List Row) (shown : Shown 
   as_many =
       count_is 8 [] (col 1 1 ∷ col 1 2 ∷ []) (1 ∷ 2 ∷ []) old.now.trees refl [] rows
       (answered 8 [] (col 1 1 ∷ col 1 2 ∷ []) (1 ∷ 2 ∷ []) old.now.trees refl [] rows
-      (reads_as (places_text_of Schema1) [] old new our_schema rests.schema _ left_is.0 left_is.2 left_is.1 rows shown).answer)
+      (reads_as (places_query Schema1) [] old new our_schema rests.schema _ left_is.0 left_is.2 left_is.1 rows shown).answer)
       ∙ ap length (filter_all (λ r. true) left (all_of _ (λ r. refl) left))
 
   pub none_left : rows ≡ [] → is_left_empty Schema2 old.now.trees ≡ true

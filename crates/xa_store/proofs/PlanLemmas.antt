@@ -48,7 +48,7 @@ module _ (rows : Rows) (name : List ℕ) (d : DomainRow) (one : IsOnly name d ro
       becomes : within change (state_of name (kept_of rows)) ≡ Ok (Some target)
       becomes = ap (within change) its_state ∙ ap (λ r. r >>= (λ next. Ok (Some next))) is
 
-      -- no step, where the domain has that state
+      -- no step, if the domain has that state
       pub unchanged : state_at rows d.number ≡ target → Plans [] (within change) name rows
       unchanged same = record {
         allows = tt;

@@ -2,7 +2,7 @@
 use Rattle.std.proofs.Common.{◌≡◌, ℤ, Bool, true, false, List, [], ◌∷◌, map, filter, int_lt, Less, Option, Some, None, Result, Ok, Err, refl, sym, ap, ap₂, subst, subst₂, ◌∙◌, true≢false, IsPermutation}
 use Rattle.xa_store.proofs.Common.{AllByRecursion, list_all, All-permutation, IsPermutation-map, IsPermutation-sym, Row, column, overlay, Output, Query, output_cmp, State, Shown, Term, col, eval, Trees, Value, Null, Int, Real, Text, Blob, reads_as, Less-from_lt, all_of, all_weaker, all_both, all_from_test, all_unmap, all_map, test_from_all, filter_all, map-map, map_same, ascending-map, first_of_both, second_of_both, sorted_unique, output_cmp_total, IsAscending, int_of, last_key, value_cmp-Int, CheckedTable, Domains, Tokens, Documents, Roots, Attributes, Sources, SchemaVersion, OpenError, NotThisSchema, Damaged, Store, Memory, are_rising, as_read, is_number, is_sound_table, is_whole_row, read_columns, row_number, schema_of, tree_of, RestsIn}
 use Rattle.std.proofs.lemmas.List.Elements.{recursion_from_All, All-from_recursion}
-use Rattle.xa_store.specs.Check.{has_table, text_of, HasNumbers, IsRead, TellsSound, Walks, checks, comes_after, fits}
+use Rattle.xa_store.specs.Check.{has_table, rows_query, HasNumbers, IsRead, TellsSound, Walks, checks, comes_after, is_next_sound_row}
 use Rattle.xa_store.proofs.CheckedTexts.{checked_is}
 use Rattle.xa_store.proofs.RiseLemmas.{lt_trans, lt_from, both_true, second_false}
 use Rattle.xa_store.proofs.SqlLemmas.{Answered, answered, show, out, hits}
@@ -77,13 +77,13 @@ module _ (kind : CheckedTable) (db : Trees) where
             h.3 ∙ ap (map (λ (o : Output). o.1)) (sorted_unique (output_cmp query) (output_cmp_total query) (map outs (db (tree_of kind))) h.0 strict same h.2) ∙ shown_map (db (tree_of kind));
       }
 
-pub shown_read : (kind : CheckedTable) (version : SchemaVersion) → has_table kind version ≡ true → (old new : State) → RestsIn (schema_of version) old → (rows : List Row) → Shown (text_of kind) [] old new rows
+pub shown_read : (kind : CheckedTable) (version : SchemaVersion) → has_table kind version ≡ true → (old new : State) → RestsIn (schema_of version) old → (rows : List Row) → Shown (rows_query kind) [] old new rows
     → IsRead kind old.now.trees rows
 shown_read kind version has old new rests rows shown =
     let it = checked_is kind version has in
     is_read kind old.now.trees rows
     (answered (tree_of kind) [] _ (0 ∷ []) old.now.trees (bare kind old.now.trees) [] rows
-    (reads_as (text_of kind) [] old new (schema_of version) rests.schema _ it.0 it.2 it.1 rows shown).answer)
+    (reads_as (rows_query kind) [] old new (schema_of version) rests.schema _ it.0 it.2 it.1 rows shown).answer)
 
 -- ---- what the checks say
 
@@ -106,13 +106,13 @@ module _ (kind : CheckedTable) (next : ℤ) where
   pub checked_after : (last : Option ℤ) (rows : List Row) → checks kind next last rows ≡ true → AllByRecursion (λ r. comes_after last (row_number r) ≡ true) rows
   checked_after last [] h = tt
   checked_after last (r ∷ rows) h =
-      let here = second_of_both _ _ (first_of_both (fits kind next last r) _ h) in
-      (here, all_weaker _ (λ s. comes_after last (row_number s) ≡ true) (λ s up. after_trans last (row_number r) (row_number s) here up) rows (checked_after (Some (row_number r)) rows (second_of_both (fits kind next last r) _ h)))
+      let here = second_of_both _ _ (first_of_both (is_next_sound_row kind next last r) _ h) in
+      (here, all_weaker _ (λ s. comes_after last (row_number s) ≡ true) (λ s up. after_trans last (row_number r) (row_number s) here up) rows (checked_after (Some (row_number r)) rows (second_of_both (is_next_sound_row kind next last r) _ h)))
 
   pub checked_up : (last : Option ℤ) (rows : List Row) → checks kind next last rows ≡ true → are_rising (map row_number rows) ≡ true
   checked_up last [] h = refl
   checked_up last (r ∷ rows) h =
-      let rest = second_of_both (fits kind next last r) _ h in
+      let rest = second_of_both (is_next_sound_row kind next last r) _ h in
       both_true _ _ (test_from_all (int_lt (row_number r)) (map row_number rows) (all_map (λ n. int_lt (row_number r) n ≡ true) row_number rows (checked_after (Some (row_number r)) rows rest))) (checked_up (Some (row_number r)) rows rest)
 
   module _ (db : Trees) where

@@ -1,6 +1,6 @@
 -- What is read of a domain, by its rows.
 use Rattle.std.proofs.Common.{◌≡◌, ℕ, List, [], map, filter, Option, Some, None, option_map, option_and_then, sym, ap, ◌∙◌}
-use Rattle.xa_store.proofs.Common.{get, entries, DocumentKey, Domain, state_of, gate_of, gate_of_domain, listing_of, listing_of_state, text_in, text_of, token_of, view_of, view_of_state, nat_of, Rows, domain_of, kept_of, state_at}
+use Rattle.xa_store.proofs.Common.{get, entries, DocumentKey, Domain, state_of, gate_of, gate_of_domain, kept_view_of, listing_of, listing_of_state, text_in, text_of, token_of, view_of_state, nat_of, Rows, domain_of, kept_of, state_at}
 use Rattle.xa_records.specs.declared.gate.Gate.{Gate}
 use Rattle.xa_records.specs.declared.gate.Token.{Token}
 use Rattle.xa_records.specs.declared.kept_view.KeptView.{KeptView}
@@ -27,7 +27,7 @@ module _ (rows : Rows) (name : List ℕ) where
   pub listing_absent : filter (is_named name) rows.domains ≡ [] → None ≡ listing_of name (kept_of rows)
   listing_absent none = sym (ap (option_map listing_of_state) (state_none none))
 
-  pub view_absent : filter (is_named name) rows.domains ≡ [] → None ≡ view_of name (kept_of rows)
+  pub view_absent : filter (is_named name) rows.domains ≡ [] → None ≡ kept_view_of name (kept_of rows)
   view_absent none = sym (ap (option_map view_of_state) (state_none none))
 
   module _ (found : DomainFound) (is : IsDomain name rows found) where
@@ -48,5 +48,5 @@ module _ (rows : Rows) (name : List ℕ) where
     pub listing_there : (listed : List Listed) → listed ≡ listing_of_state (state_at rows found.number) → Some listed ≡ listing_of name (kept_of rows)
     listing_there listed told = ap Some told ∙ sym (ap (option_map listing_of_state) state_is)
 
-    pub view_there : (view : KeptView) → view ≡ view_of_state (state_at rows found.number) → Some view ≡ view_of name (kept_of rows)
+    pub view_there : (view : KeptView) → view ≡ view_of_state (state_at rows found.number) → Some view ≡ kept_view_of name (kept_of rows)
     view_there view told = ap Some told ∙ sym (ap (option_map view_of_state) state_is)

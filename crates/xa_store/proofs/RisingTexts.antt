@@ -8,7 +8,7 @@ use Rattle.sqlite_sql.specs.declared.ops.UnaryOp.TheVariants.{Not}
 use Rattle.sqlite_sql.specs.Group.{Aggregate}
 use Rattle.sqlite_tied.specs.Compute.{everything}
 use Rattle.sqlite_value.specs.Keys.{ascending}
-use Rattle.xa_store.specs.Check.{has_table, order_text_of}
+use Rattle.xa_store.specs.Check.{has_table, order_query}
 use Rattle.xa_store.proofs.TextLemmas.{IsQueryIn}
 
 -- the rows that the query makes of its own
@@ -51,7 +51,7 @@ rising_query t = record {
 abbrev pub rising_command : ℕ → Command
 rising_command t = Select (record { lets = Selected (sorted_query t) ∷ []; body = rising_query t }) (codes "1" ∷ [])
 
-pub order_is : (kind : CheckedTable) (version : SchemaVersion) → has_table kind version ≡ true → IsQueryIn (schema_of version) (order_text_of kind) (rising_command (tree_of kind))
+pub order_is : (kind : CheckedTable) (version : SchemaVersion) → has_table kind version ≡ true → IsQueryIn (schema_of version) (order_query kind) (rising_command (tree_of kind))
 unfolding understood everything
 order_is Domains Schema1 has = (refl, refl, (refl, refl))
 order_is Domains Schema2 has = (refl, refl, (refl, refl))
@@ -66,5 +66,5 @@ order_is Attributes Schema2 has = (refl, refl, (refl, refl))
 order_is Sources Schema1 has = absurd (true≢false (sym has))
 order_is Sources Schema2 has = (refl, refl, (refl, refl))
 
-pub order_plain : (kind : CheckedTable) (version : SchemaVersion) → has_table kind version ≡ true → IsPlain (understood (schema_of version) (order_text_of kind))
+pub order_plain : (kind : CheckedTable) (version : SchemaVersion) → has_table kind version ≡ true → IsPlain (understood (schema_of version) (order_query kind))
 order_plain kind version has = (order_is kind version has).2

@@ -17,7 +17,7 @@ root_plain = root_shown_is.2
 text_back : (text : Option (List ℕ)) → unless_null bytes_of (or_null Text text) ≡ text
 text_back = null_back Text bytes_of (λ a. refl) (λ a. refl)
 
--- a text is shown as it is kept, and none where the row lacks the column
+-- a text is shown as it is kept, and none if the row lacks the column
 text_shown : (texts : List (Option (List ℕ))) (at : ℕ) → unless_null bytes_of (column (map (or_null Text) texts) at) ≡ text_at texts at
 text_shown [] at = refl
 text_shown (text ∷ texts) zero = text_back text

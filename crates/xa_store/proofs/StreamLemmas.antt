@@ -2,7 +2,7 @@
 use Rattle.std.proofs.Common.{◌≡◌, ◌⊎◌, inl, inr, ℕ, ℤ, w64, true, false, List, [], ◌∷◌, ◌++◌, Option, Some, None, Result, Ok, Err, IsTrue, OnOk, refl, sym, ap, subst, ◌∙◌, arith}
 use Rattle.xa_store.proofs.Common.{FitsSigned, Database, GivesOn, HasBegun, IsPlain, Held, state, understood, Row, State, HasCleanDisk, IsUnchanged, IsRolledBack, Survives, FailsToQuery, Fails, Ghosts, Error, given_begin, begins_as, begun_plain, unchanged_then, survives_then, OpenError, NotThisSchema, Damaged, Store, Memory, CheckedTable, SchemaVersion, row_number, schema_of, RestsIn, SameNow}
 use Rattle.sqlite.specs.Given.{HasGiven}
-use Rattle.xa_store.specs.Check.{has_table, text_of, AreHeld, GoesOn, HoldsBack, IsRead, IsUnguarded, Moves, refused_as, TellsNext, Walked, Walks, fits}
+use Rattle.xa_store.specs.Check.{has_table, rows_query, AreHeld, GoesOn, HoldsBack, IsRead, IsUnguarded, Moves, refused_as, TellsNext, Walked, Walks, is_next_sound_row}
 use Rattle.xa_store.proofs.AskLemmas.{goes_then, goes_unchanged, held_rolled, held_unchanged, holds_then, rolled_same, shown_goes, shown_held, unchanged_same}
 use Rattle.xa_store.proofs.AskedLemmas.{failed_fits, never_damaged, never_refused, same_then}
 use Rattle.xa_store.proofs.CheckedTexts.{checked_is}
@@ -11,7 +11,7 @@ use Rattle.xa_store.proofs.ReadLemmas.{bare, is_read, shown_read}
 use Rattle.xa_store.proofs.SqlLemmas.{answered}
 use Rattle.xa_store.proofs.WalkLemmas.{Leads, leads_on, leads_to, fails_on}
 
-pub checked_plain : (kind : CheckedTable) (version : SchemaVersion) → has_table kind version ≡ true → IsPlain (understood (schema_of version) (text_of kind))
+pub checked_plain : (kind : CheckedTable) (version : SchemaVersion) → has_table kind version ≡ true → IsPlain (understood (schema_of version) (rows_query kind))
 checked_plain kind version has = (checked_is kind version has).2
 
 module _ {S : Type 0} (g : Ghosts S) (kind : CheckedTable) (next : ℤ) (last : Option ℤ) (old new : Held S) (sql : List ℕ) (given : List Row) where
@@ -55,22 +55,22 @@ Keeps version first s = HasCleanDisk s → GoesOn version first s × (IsTrue fir
 
 -- where a walk stands: the rows that were given, of which the last is known
 abbrev pub Stands : {S : Type 0} → Ghosts S → SchemaVersion → CheckedTable → ℤ → State → Held S → Option ℤ → Type 0
-Stands g version kind next first h last = HasCleanDisk (state g h) → RestsIn (schema_of version) first → (given : List Row) × HasGiven g (text_of kind) [] h given × IsUnchanged first (state g h) × Leads kind next given last × AreHeld given
+Stands g version kind next first h last = HasCleanDisk (state g h) → RestsIn (schema_of version) first → (given : List Row) × HasGiven g (rows_query kind) [] h given × IsUnchanged first (state g h) × Leads kind next given last × AreHeld given
 
 module _ {S : Type 0} (g : Ghosts S) (version : SchemaVersion) (kind : CheckedTable) (has : has_table kind version ≡ true) (next : ℤ) (first : Held S) where
   abbrev start : State
   start = state g first
 
-  pub stands_begun : (new : Held S) → (HasCleanDisk (state g new) → HasBegun g (text_of kind) [] first new) → Stands g version kind next start new None
+  pub stands_begun : (new : Held S) → (HasCleanDisk (state g new) → HasBegun g (rows_query kind) [] first new) → Stands g version kind next start new None
   stands_begun new begun clean rests =
-      let plain = subst (λ s. IsPlain (understood s (text_of kind))) (sym rests.schema) (checked_plain kind version has) in
-      let it = begun_plain g (text_of kind) [] first new plain (begun clean) in
+      let plain = subst (λ s. IsPlain (understood s (rows_query kind))) (sym rests.schema) (checked_plain kind version has) in
+      let it = begun_plain g (rows_query kind) [] first new plain (begun clean) in
       ([], it.0, it.1, λ tail. refl, tt)
 
-  pub keeps_begun : (new : Held S) → (HasCleanDisk (state g new) → HasBegun g (text_of kind) [] first new) → Keeps version start (state g new)
+  pub keeps_begun : (new : Held S) → (HasCleanDisk (state g new) → HasBegun g (rows_query kind) [] first new) → Keeps version start (state g new)
   keeps_begun new begun clean = elim (begun clean) [
     | inl h ↦ (goes_unchanged start (state g new) h.1, λ inside. held_unchanged start (state g new) inside h.1)
-    | inr h ↦ (shown_goes (text_of kind) [] start (state g new) _ (checked_plain kind version has) h.1, λ inside. shown_held (text_of kind) [] start (state g new) _ inside h.1)
+    | inr h ↦ (shown_goes (rows_query kind) [] start (state g new) _ (checked_plain kind version has) h.1, λ inside. shown_held (rows_query kind) [] start (state g new) _ inside h.1)
   ]
 
   module _ (mid new : Held S) (last : Option ℤ) (survived : Survives start (state g mid) (λ db. IsUnguarded version start)) (keeps : Keeps version start (state g mid)) (stands : Stands g version kind next start mid last)
@@ -108,15 +108,15 @@ module _ {S : Type 0} (g : Ghosts S) (version : SchemaVersion) (kind : CheckedTa
         same_then start (state g mid) (state g new) here (elim (kept clean) [ inl h ↦ unchanged_same (state g mid) (state g new) there h | inr h ↦ rolled_same (state g mid) (state g new) there h up ])
 
     -- of a row that doesn't fit
-    unfit : HasCleanDisk (state g new) → RestsIn (schema_of version) start → (given : List Row) → Leads kind next given last → (row : Row) → HasGiven g (text_of kind) [] new (given ++ row ∷ []) → fits kind next last row ≡ false
+    unfit : HasCleanDisk (state g new) → RestsIn (schema_of version) start → (given : List Row) → Leads kind next given last → (row : Row) → HasGiven g (rows_query kind) [] new (given ++ row ∷ []) → is_next_sound_row kind next last row ≡ false
         → Walks kind next start.now.trees (Err Damaged)
     unfolding HasGiven
     unfit clean rests given leads row shows fails =
         let same = same_on clean rests shows.0.is_open in
         let there = rests_after start (state g new) rests same in
-        let begins = given_begin g (text_of kind) [] new (given ++ row ∷ []) shows in
+        let begins = given_begin g (rows_query kind) [] new (given ++ row ∷ []) shows in
         let it = checked_is kind version has in
-        let read = begins_as (text_of kind) [] (state g new) (state g new) (schema_of version) there.schema _ it.0 it.2 it.1 (given ++ row ∷ []) begins in
+        let read = begins_as (rows_query kind) [] (state g new) (state g new) (schema_of version) there.schema _ it.0 it.2 it.1 (given ++ row ∷ []) begins in
         let all = (given ++ row ∷ []) ++ read.1.0 in
         let is = is_read kind (state g new).now.trees all (answered _ [] _ (0 ∷ []) (state g new).now.trees (bare kind (state g new).now.trees) [] all read.1.1) in
         (all, subst (λ (d : Database). IsRead kind d.trees all) same.now is, fails_on kind next given last leads row fails read.1.0)
@@ -127,11 +127,11 @@ module _ {S : Type 0} (g : Ghosts S) (version : SchemaVersion) (kind : CheckedTa
     found : (e : OpenError) → Moved (Err e) → HasCleanDisk (state g new) → RestsIn (schema_of version) start → Walks kind next start.now.trees (Err e)
     found Damaged moved clean rests =
         let it = stands (before clean) rests in
-        let row = moved clean (text_of kind) it.0 it.1 in
+        let row = moved clean (rows_query kind) it.0 it.1 in
         unfit clean rests it.0 it.3 row.0 row.1 row.2
     found NotThisSchema moved clean rests =
         let it = stands (before clean) rests in
-        moved clean (text_of kind) it.0 it.1 version (checked_plain kind version has) (rests_after start (state g mid) rests (same_mid clean rests))
+        moved clean (rows_query kind) it.0 it.1 version (checked_plain kind version has) (rests_after start (state g mid) rests (same_mid clean rests))
     found Store moved clean rests = tt
     found Memory moved clean rests = tt
 
@@ -144,7 +144,7 @@ module _ {S : Type 0} (g : Ghosts S) (version : SchemaVersion) (kind : CheckedTa
       finds = λ clean rests.
           let it = stands (before clean) rests in
           let here = same_mid clean rests in
-          let shown = moved clean (text_of kind) it.0 it.1 in
+          let shown = moved clean (rows_query kind) it.0 it.1 in
           let is = shown_read kind version has (state g mid) (state g new) (rests_after start (state g mid) rests here) it.0 shown in
           (it.0, subst (λ (d : Database). IsRead kind d.trees it.0) here.now is, leads_to kind next it.0 last it.3, it.4);
     }
@@ -152,7 +152,7 @@ module _ {S : Type 0} (g : Ghosts S) (version : SchemaVersion) (kind : CheckedTa
     pub walk_goes_on : (number : ℤ) → FitsSigned w64 number → Moved (Ok (Some number)) → (HasCleanDisk (state g new) → IsUnchanged (state g mid) (state g new)) → Stands g version kind next start new (Some number)
     walk_goes_on number fits moved same clean rests =
         let it = stands (before clean) rests in
-        let row = moved clean (text_of kind) it.0 it.1 in
+        let row = moved clean (rows_query kind) it.0 it.1 in
         let is : number ≡ row_number row.0 = (let e = row.3 in cc) in (
           it.0 ++ row.0 ∷ [],
           row.1,

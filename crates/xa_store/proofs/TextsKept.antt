@@ -1,4 +1,4 @@
--- Each text that is kept is a document of its key: whatever steps are taken, and where opening finds the tables sound.
+-- Each text that is kept is a document of its key: whatever steps are taken, and when opening finds the tables sound.
 use Rattle.std.proofs.Common.{ℕ, Bool, true, false, not, cond, int_eq, List, [], ◌∷◌, ◌++◌, filter}
 use Rattle.xa_store.proofs.Common.{AllByRecursion, update_where, DocumentKey, IsDocumentOf, DocumentRow, AreDocuments, Rows}
 use Rattle.xa_store.specs.declared.step.Step.{Step}

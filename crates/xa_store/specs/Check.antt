@@ -33,36 +33,36 @@ use Rattle.xa_store.specs.Rows.{attribute_in, attribute_row}
 use Rattle.xa_store.specs.Sound.{AreRows, Ours, Rests, RestsIn, SameNow, same_place}
 use Rattle.xa_store.specs.Tables.{first_schema}
 
-abbrev pub text_of : CheckedTable → List ℕ
-text_of Domains = codes "SELECT number, name, epoch FROM domains ORDER BY number"
-text_of Tokens = codes "SELECT rowid, number, digest, role FROM tokens ORDER BY rowid"
-text_of Documents = codes "SELECT rowid, number, kind, id, version, body, active FROM policies ORDER BY rowid"
-text_of Roots = codes "SELECT number, kind, id, pattern, earliest, latest FROM roots ORDER BY number"
-text_of Attributes =
+abbrev pub rows_query : CheckedTable → List ℕ
+rows_query Domains = codes "SELECT number, name, epoch FROM domains ORDER BY number"
+rows_query Tokens = codes "SELECT rowid, number, digest, role FROM tokens ORDER BY rowid"
+rows_query Documents = codes "SELECT rowid, number, kind, id, version, body, active FROM policies ORDER BY rowid"
+rows_query Roots = codes "SELECT number, kind, id, pattern, earliest, latest FROM roots ORDER BY number"
+rows_query Attributes =
     codes "SELECT rowid, number, place, category, entity, attribute, value_type, value FROM attributes ORDER BY rowid"
-text_of Sources =
+rows_query Sources =
     codes "SELECT rowid, number, place, category, entity, attribute, value_type, value, issuer FROM sources ORDER BY rowid"
 
--- it shows a row exactly where the rowids, as the table has them, are other than in their order: then the texts of
+-- it shows a row exactly if the rowids, as the table has them, are other than in their order: then the texts of
 -- both differ. The six texts differ in the name of the table alone.
-abbrev pub order_text_of : CheckedTable → List ℕ
-order_text_of Domains =
+abbrev pub order_query : CheckedTable → List ℕ
+order_query Domains =
     codes "WITH s(n) AS (SELECT rowid FROM domains ORDER BY rowid) SELECT 1 WHERE (SELECT group_concat(rowid) FROM domains) IS NOT (SELECT group_concat(n) FROM s)"
-order_text_of Tokens =
+order_query Tokens =
     codes "WITH s(n) AS (SELECT rowid FROM tokens ORDER BY rowid) SELECT 1 WHERE (SELECT group_concat(rowid) FROM tokens) IS NOT (SELECT group_concat(n) FROM s)"
-order_text_of Documents =
+order_query Documents =
     codes "WITH s(n) AS (SELECT rowid FROM policies ORDER BY rowid) SELECT 1 WHERE (SELECT group_concat(rowid) FROM policies) IS NOT (SELECT group_concat(n) FROM s)"
-order_text_of Roots =
+order_query Roots =
     codes "WITH s(n) AS (SELECT rowid FROM roots ORDER BY rowid) SELECT 1 WHERE (SELECT group_concat(rowid) FROM roots) IS NOT (SELECT group_concat(n) FROM s)"
-order_text_of Attributes =
+order_query Attributes =
     codes "WITH s(n) AS (SELECT rowid FROM attributes ORDER BY rowid) SELECT 1 WHERE (SELECT group_concat(rowid) FROM attributes) IS NOT (SELECT group_concat(n) FROM s)"
-order_text_of Sources =
+order_query Sources =
     codes "WITH s(n) AS (SELECT rowid FROM sources ORDER BY rowid) SELECT 1 WHERE (SELECT group_concat(rowid) FROM sources) IS NOT (SELECT group_concat(n) FROM s)"
 
 -- the domains and places of the rows of sources
-abbrev pub places_text_of : SchemaVersion → List ℕ
-places_text_of Schema1 = codes "SELECT number, place FROM attributes ORDER BY number, place"
-places_text_of Schema2 = codes "SELECT number, place FROM sources ORDER BY number, place"
+abbrev pub places_query : SchemaVersion → List ℕ
+places_query Schema1 = codes "SELECT number, place FROM attributes ORDER BY number, place"
+places_query Schema2 = codes "SELECT number, place FROM sources ORDER BY number, place"
 
 -- the schema has the table
 abbrev pub has_table : CheckedTable → SchemaVersion → Bool
@@ -82,7 +82,7 @@ pub record GoesOn (version : SchemaVersion) (old new : State) : Type 0 where
   pub schema : old.now.schema ≡ schema_of version → new.now.schema ≡ schema_of version
   pub mode : new.in_transaction ≡ old.in_transaction
 
--- of a transaction: nothing was committed, and where it has ended all is undone
+-- of a transaction: nothing was committed, and if it has ended all is undone
 pub record HoldsBack (old new : State) : Type 0 where
   pub committed : new.committed ≡ old.committed
   pub undone : new.in_transaction ≡ false → new.now ≡ old.committed
@@ -142,13 +142,14 @@ abbrev pub comes_after : Option ℤ → ℤ → Bool
 comes_after None number = true
 comes_after (Some last) number = int_lt last number
 
-abbrev pub fits : CheckedTable → ℤ → Option ℤ → Row → Bool
-fits table next last row = is_whole_row table next row && comes_after last (row_number row)
+abbrev pub is_next_sound_row : CheckedTable → ℤ → Option ℤ → Row → Bool
+is_next_sound_row table next last row = is_whole_row table next row && comes_after last (row_number row)
 
 -- each row is sound, and its number above the last
 abbrev pub checks : CheckedTable → ℤ → Option ℤ → List Row → Bool
 checks table next last [] = true
-checks table next last (row ∷ rows) = fits table next last row && checks table next (Some (row_number row)) rows
+checks table next last (row ∷ rows) =
+    is_next_sound_row table next last row && checks table next (Some (row_number row)) rows
 
 -- the numbers of rows are such as a column can hold
 abbrev pub AreHeld : List Row → Type 0
@@ -167,10 +168,10 @@ pub record Walked (version : SchemaVersion) (table : CheckedTable) (next : ℤ) 
   pub asks : Asks version old new result
   pub finds : HasCleanDisk new → RestsIn (schema_of version) old → Walks table next old.now.trees result
 
--- the number of a row that fits, or that it doesn't
+-- the number of a sound row after the last, or that it is none
 abbrev pub TellsNumber : CheckedTable → ℤ → Option ℤ → Row → Result ℤ OpenError → Type 0
-TellsNumber table next last row (Ok number) = (number ≡ row_number row) × (fits table next last row ≡ true)
-TellsNumber table next last row (Err Damaged) = fits table next last row ≡ false
+TellsNumber table next last row (Ok number) = (number ≡ row_number row) × (is_next_sound_row table next last row ≡ true)
+TellsNumber table next last row (Err Damaged) = is_next_sound_row table next last row ≡ false
 TellsNumber table next last row (Err NotThisSchema) = ⊥
 TellsNumber table next last row (Err Store) = Unit {0}
 TellsNumber table next last row (Err Memory) = Unit {0}
@@ -194,10 +195,10 @@ module _ {S : Type 0} (g : Ghosts S) where
   IsKeptOrUndone old new = IsUnchanged (state g old) (state g new) ⊎ IsRolledBack (state g old) (state g new)
 
 module _ {S : Type 0} (g : Ghosts S) (table : CheckedTable) (next : ℤ) (last : Option ℤ) (old new : Held S) where
-  -- one more row, which fits or doesn't
+  -- one more row, which is a sound one after the last, or isn't
   abbrev pub GivesRow : Bool → List ℕ → List Row → Option ℤ → Type 0
   GivesRow is sql given number =
-      (row : Row) × HasGiven g sql [] new (given ++ row ∷ []) × (fits table next last row ≡ is)
+      (row : Row) × HasGiven g sql [] new (given ++ row ∷ []) × (is_next_sound_row table next last row ≡ is)
       × (number ≡ Some (row_number row))
 
   -- the query goes on by one row: that is a sound one after the last; or it isn't; or all rows were given
@@ -205,7 +206,7 @@ module _ {S : Type 0} (g : Ghosts S) (table : CheckedTable) (next : ℤ) (last :
   Moves sql given (Ok (Some number)) = GivesRow true sql given (Some number)
   Moves sql given (Ok None) = Shown sql [] (state g old) (state g new) given
   Moves sql given (Err Damaged) =
-      (row : Row) × HasGiven g sql [] new (given ++ row ∷ []) × (fits table next last row ≡ false)
+      (row : Row) × HasGiven g sql [] new (given ++ row ∷ []) × (is_next_sound_row table next last row ≡ false)
   Moves sql given (Err NotThisSchema) =
       (version : SchemaVersion) → IsPlain (understood (schema_of version) sql)
       → ¬ RestsIn (schema_of version) (state g old)
@@ -307,7 +308,7 @@ pub record IsSoundIn (version : SchemaVersion) (s : State) : Type 0 where
   pub database : IsDatabase s.now
   pub opens : opened version s.now.trees ≡ Ok tt
 
--- the tables were checked, and nothing has changed: of those that aren't the schema's alone that is said where the
+-- the tables were checked, and nothing has changed: of those that aren't the schema's alone that is said if the
 -- answer is about them
 pub record Tested (version : SchemaVersion) (old new : State) (result : Result Bool OpenError) : Type 0 where
   pub survives : Survives old new (λ _. ⊥)

@@ -11,15 +11,15 @@ use Rattle.xa_store.specs.Tables.{first_schema, our_schema, meta, domains, token
 use Rattle.xa_store.specs.Texts as text
 
 -- the statement that makes it
-abbrev pub text_of : Part → List ℕ
-text_of part.Meta = text.meta_made
-text_of part.Domains = text.domains_made
-text_of part.Tokens = text.tokens_made
-text_of part.Policies = text.policies_made
-text_of part.Roots = text.roots_made
-text_of part.Attributes = text.attributes_made
-text_of part.Sources = text.sources_made
-text_of part.FirstRow = text.meta_begun
+abbrev pub part_statement : Part → List ℕ
+part_statement part.Meta = text.meta_made
+part_statement part.Domains = text.domains_made
+part_statement part.Tokens = text.tokens_made
+part_statement part.Policies = text.policies_made
+part_statement part.Roots = text.roots_made
+part_statement part.Attributes = text.attributes_made
+part_statement part.Sources = text.sources_made
+part_statement part.FirstRow = text.meta_begun
 
 abbrev pub first : Schema
 first = created no_tables meta

@@ -16,11 +16,11 @@ use Rattle.xa_store.specs.Tables.{first_schema, our_schema}
 use Rattle.xa_store.specs.Texts as text
 
 -- the statement
-abbrev pub text_of : Stage → List ℕ
-text_of stage.Sources = text.sources_made
-text_of stage.Rows = text.sources_filled
-text_of stage.Attributes = text.attributes_emptied
-text_of stage.Number = text.schema_raised
+abbrev pub stage_statement : Stage → List ℕ
+stage_statement stage.Sources = text.sources_made
+stage_statement stage.Rows = text.sources_filled
+stage_statement stage.Attributes = text.attributes_emptied
+stage_statement stage.Number = text.schema_raised
 
 -- a row of a source as it stands in the table of sources: under another rowid, without an issuer
 abbrev pub moved_row : ℤ → Row → Row

@@ -1,7 +1,7 @@
 -- When the tables of a store are those of a keeper, and what opening it answers, by the schema that the tables
 -- have. A body is a document of the key that its columns hold, versions and values stand in their printed form,
 -- and places count from 0 in each domain. Rows of a number that was assigned and has no domain are sound: the
--- tables' keys rule them out, where who writes a file has them enforced, and nothing is ever read of them, since no
+-- tables' keys rule them out, if who writes a file has them enforced, and nothing is ever read of them, since no
 -- number is assigned twice.
 use Rattle.std.specs.Prelude.{◌==◌, ℕ, ◌+ℤ◌, ℤ, pos, Bool, true, false, ◌&&◌, if◌then◌else◌, List, [], ◌∷◌, map}
 use Rattle.std.specs.Prelude.{filter, length, bytes_eq, is_ok, int_le, int_lt, Option, Some, None, Result, Ok, Err}
@@ -194,7 +194,7 @@ abbrev pub schema_of : SchemaVersion → Schema
 schema_of Schema1 = first_schema
 schema_of Schema2 = our_schema
 
--- the number that the first table has for it
+-- the number that `meta` has for it
 abbrev pub number_of : SchemaVersion → ℤ
 number_of Schema1 = pos 1
 number_of Schema2 = pos 2
@@ -219,7 +219,7 @@ abbrev pub int_in : Value → Option ℤ
 int_in (Int n) = Some n
 int_in _ = None
 
--- the number of the next domain, in the one row of the first table as it is read, if that has the schema's number
+-- the number of the next domain, in the one row of `meta` as it is read, if that has the schema's number
 abbrev pub next_of : SchemaVersion → Row → Option ℤ
 next_of version row =
     if holds_int (int_eq (pos 1)) (column row 0) && holds_int (int_eq (number_of version)) (column row 1)

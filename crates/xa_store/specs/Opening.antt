@@ -120,9 +120,8 @@ pub record LeavesAlone (old new : State) : Type 0 where
   pub survives : Survives old new (λ _. ⊥)
   pub same : IsTrue new.is_open → SameNow old new
 
--- what a crash may leave beside what it could leave before: something where the table of sources can be made, the
--- tables as they are made where there is none, and tables of schema 2 that mean the same where those of schema 1
--- are there
+-- what a crash may leave beside what it could leave before: something only if the table of sources can be made; the
+-- tables as they are made, if there was none; tables of schema 2 that mean the same, if those of schema 1 were there
 abbrev pub MayLeaveTables : State → Trees → Type 0
 MayLeaveTables old db =
     IsTrue (is_free old.now.schema (codes "sources")) × (IsBlank old → AreNewTables db)

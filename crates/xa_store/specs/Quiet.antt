@@ -19,12 +19,12 @@ pub record Quiet (old new : State) : Type 0 where
   pub same : HasCleanDisk new → Rests old → IsTrue new.is_open → SameNow old new
   pub crash : HasCleanDisk new → Rests old → (db : Trees) → new.may_leave db → old.may_leave db
 
--- a call that only reads: where it is answered, the store is open
+-- a call that only reads: if it is answered, the store is open
 pub record OnlyReads {X E : Type 0} (old new : State) (result : Result X E) : Type 0 where
   pub quiet : Quiet old new
   pub opens : HasCleanDisk new → OnOk result (IsTrue new.is_open)
 
--- and for a change: where it is refused, the store is open too
+-- and for a change: if it is refused, the store is open too
 pub record OnlyReadsForChange {X : Type 0} (old new : State) (result : Result X ChangeError) : Type 0 where
   pub quiet : Quiet old new
   pub opens : HasCleanDisk new → IfAnswered result (IsTrue new.is_open)

@@ -1,4 +1,4 @@
--- A connection that is opened over what a stop has left of another.
+-- A connection that is opened over what a crash has left of another.
 use Rattle.std.specs.Prelude.{◌≡◌, Ok}
 use Rattle.sqlite.specs.State.{State, Opens as IsJustOpened}
 use Rattle.xa_records.specs.Kept.{Kept}
@@ -8,19 +8,19 @@ use Rattle.xa_store.specs.Sound.{LeavesWorld, Rests}
 use Rattle.xa_store.specs.World.{world_of}
 
 -- it was just opened, over trees that a crash of the other may leave
-pub record IsOverRest (stopped new : State) : Type 0 where
+pub record IsOverRest (crashed new : State) : Type 0 where
   pub fresh : IsJustOpened new
-  pub left : stopped.may_leave new.committed.trees
+  pub left : crashed.may_leave new.committed.trees
 
 -- a crash doesn't leave just anything
 abbrev pub LeavesNotAll : State → Type 0
 LeavesNotAll s = (other : Kept) × ¬ LeavesWorld s other
 
 -- it rests on our tables, which opening finds sound, and they mean one of those maps that a crash may leave
-pub record Resumes (stopped new : State) : Type 0 where
+pub record Resumes (crashed new : State) : Type 0 where
   pub rests : Rests new
   pub opens : opened Schema2 new.now.trees ≡ Ok tt
-  pub kept : LeavesWorld stopped (world_of new.now.trees)
+  pub kept : LeavesWorld crashed (world_of new.now.trees)
 
 abbrev pub Reopens : State → State → Type 0
-Reopens stopped new = IsOverRest stopped new → LeavesNotAll stopped → Resumes stopped new
+Reopens crashed new = IsOverRest crashed new → LeavesNotAll crashed → Resumes crashed new

@@ -1,5 +1,5 @@
 -- The rows of the tables: of each a record, the row that writes it, and the record that a row writes. A row begins
--- with its rowid; where that is a column of the table, that column holds NULL.
+-- with its rowid; if that is a column of the table, that column holds NULL.
 use Rattle.std.specs.Prelude.{ℕ, zero, ℤ, pos, negsuc, Bool, true, false, List, [], ◌∷◌}
 use Rattle.std.specs.Prelude.{map, drop, slice_get, slice_index_or, unwrap_or, Option, Some}
 use Rattle.std.specs.Prelude.{None, is_some, option_map, option_and_then, Result, Ok, Err}

@@ -141,7 +141,7 @@ pub record Ours (s : State) : Type 0 where
   pub documents : AreDocuments (rows_of s.now.trees).documents
   pub whole : AreWhole (rows_of s.now.trees)
 
--- What a crash now may leave: what our tables mean, and of trees that aren't ours whatever one likes. So where this
+-- What a crash now may leave: what our tables mean, and of trees that aren't ours whatever one likes. So if this
 -- says that only some things may be left, it says that all trees that may be left are ours.
 abbrev pub LeavesWorld : State → Kept → Type 0
 LeavesWorld s left = (db : Trees) × s.may_leave db × (AreOurs db → left ≡ world_of db)

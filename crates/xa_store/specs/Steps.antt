@@ -95,9 +95,9 @@ after (DropSource number) rows = record rows { attributes = delete_where (λ a. 
 abbrev pub after_all : List Step → Rows → Rows
 after_all steps rows = fold (λ rows step. after step rows) rows steps
 
--- ---- under what it is taken: no row of that key is there, where one comes, and a text that comes is a document of
--- its key; the domain is there, where it goes. Of a domain or a root that comes it isn't asked that its number has
--- no row yet: where it has one, `after` puts the new row in its place, and the statement fails and makes nothing
+-- ---- under what it is taken: no row of that key is there, if one comes, and a text that comes is a document of
+-- its key; the domain is there, if it goes. Of a domain or a root that comes it isn't asked that its number has
+-- no row yet: if it has one, `after` puts the new row in its place, and the statement fails and makes nothing
 
 -- the text of the value reads as the value
 abbrev pub ReadsBack : Value → Type 0

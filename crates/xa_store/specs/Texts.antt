@@ -1,5 +1,6 @@
--- The statements, but those of the check (`Check`). Contracts cite those that make and migrate tables, and
--- `document_shown`; proofs cite the others. A number that a statement has first is the domain's.
+-- The statements, but those of the check (`Check`), of which `meta_shown` alone stands here. Contracts cite those
+-- that make and migrate tables, and `document_shown`; proofs cite the others. A number that a statement has first is
+-- the domain's.
 use Rattle.std.specs.Prelude.{ℕ, List, codes}
 
 -- ---- the tables are made

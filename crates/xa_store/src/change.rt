@@ -1,8 +1,6 @@
 //! Changes of domains. Each is planned by queries, which may refuse it, and then one transaction takes
-//! the steps of the plan. `plan_X` finds the domain by its name, `plan_X_in` goes on where the domain was
-//! found, and `plan_X_of` where what changes was found in it, too. `plan_X_new` and `plan_X_again` are for
-//! what isn't there and what is there already. `X_in` makes the change on a connection: it plans, and then
-//! takes the steps.
+//! the steps of the plan. `plan_X` finds the domain by its name, `plan_X_in_domain` plans in that domain, and
+//! `plan_X_over` plans over what was found in it.
 ghost use Rattle.std.specs.Prelude.{◌≡◌, ◌++◌, [], ◌∷◌, Result, Err, IfErr, IfOk};
 ghost use Rattle.sqlite.specs.Held.{state};
 ghost use Rattle.xa_records.specs.declared.refusal.Failure.{Failure as Failed};

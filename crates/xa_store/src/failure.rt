@@ -13,6 +13,22 @@ use sqlite::{Error, ErrorCode};
 use std::alloc::AllocError;
 use xa_records::Failure;
 
+impl From<AllocError> for OpenError {
+    ghost from_gives = { λ _ e. e ≡ Memory };
+
+    fn from(_error: AllocError) -> OpenError {
+        OpenError::Memory
+    }
+}
+
+impl From<Failure> for OpenError {
+    ghost from_gives = { λ _ e. IsFailure e };
+
+    fn from(failure: Failure) -> OpenError {
+        error_of_failure(failure)
+    }
+}
+
 /// For a reading or a change: want of memory is `Memory`, and all else `Store`.
 pub(crate) fn failure_of(error: Error) -> Failure
     ensures { (result ≡ failures.Memory) ↔ (error ≡ SqliteFailure OutOfMemory) }
@@ -25,7 +41,7 @@ pub(crate) fn failure_of(error: Error) -> Failure
 
 /// For a query of the check: a statement that isn't understood, and a name that is taken, tell tables of
 /// another schema.
-fn error_of_check(error: Error) -> OpenError
+pub(crate) fn error_of_check(error: Error) -> OpenError
     ensures { result ≡ refused_as error }
 {
     match error {
@@ -61,30 +77,5 @@ pub(crate) fn error_after_making(error: OpenError) -> OpenError
     match error {
         OpenError::Memory => OpenError::Memory,
         _ => OpenError::Store,
-    }
-}
-
-impl From<AllocError> for OpenError {
-    ghost from_gives = { λ _ e. e ≡ Memory };
-
-    fn from(_error: AllocError) -> OpenError {
-        OpenError::Memory
-    }
-}
-
-impl From<Failure> for OpenError {
-    ghost from_gives = { λ _ e. IsFailure e };
-
-    fn from(failure: Failure) -> OpenError {
-        error_of_failure(failure)
-    }
-}
-
-/// For the queries of the check alone, which use `?`. Whatever is no query uses `error_of_statement`.
-impl From<Error> for OpenError {
-    ghost from_gives = { λ error e. e ≡ refused_as error };
-
-    fn from(error: Error) -> OpenError {
-        error_of_check(error)
     }
 }

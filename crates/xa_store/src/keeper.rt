@@ -46,10 +46,7 @@ impl<S: Alter> SqlRecords<S> {
         SqlRecords {
             conn,
             ours,
-            health: Health {
-                is_open: true,
-                faults: 0,
-            },
+            health: Health::fresh(),
         }
     }
 

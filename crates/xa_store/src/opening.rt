@@ -1,5 +1,5 @@
-//! Opening a connection as a keeper. Tables are made where there are none, else checked, and those of
-//! schema 1 are brought into schema 2.
+//! Opening a connection as a keeper. Tables are made if there are none, else checked, and those of schema 1
+//! are brought into schema 2.
 ghost use Rattle.std.specs.Prelude.{◌≡◌, false, Err, IfErr, IfOk, IsTrue};
 ghost use Rattle.sqlite.specs.Held.{state};
 ghost use Rattle.sqlite.specs.State.{HasCleanDisk, Survives};
@@ -13,7 +13,7 @@ ghost use Rattle.xa_store.specs.declared.schema.version.SchemaVersion.TheVariant
 ghost use Rattle.xa_store.specs.Sound.{Rests, RestsIn};
 ghost use Rattle.xa_store.specs.Tables.{first_schema};
 
-use crate::check::rollback::check_apart;
+use crate::check::rollback::check_in_undone_transaction;
 use crate::check::tables::check;
 use crate::error::OpenError;
 use crate::failure::error_after_making;
@@ -24,6 +24,38 @@ use crate::schema::shape::{has_room, is_of, schema_version_in};
 use crate::schema::version::SchemaVersion;
 use sqlite::{Alter, Connection};
 use std::alloc::Global;
+
+impl<S: Alter> SqlRecords<S> {
+    /// Opens the store of the connection as a keeper. If no name of a keeper's tables is taken, these are
+    /// made, in one transaction. Else each row is read and checked, a body at a time, and then all places
+    /// of source rows at once. Then tables of schema 1 are brought into schema 2, in one transaction. A
+    /// connection that is refused is handed back; its tables are as they were, unless the store failed.
+    /// If a transaction is under way nothing is asked, and the answer is `Store`.
+    pub fn open(
+        alloc: Global,
+        mut conn: Connection<S>,
+    ) -> Result<SqlRecords<S>, (OpenError, Connection<S>)>
+        ensures opens { Rests (state S.Store conn) → Opens S.Store (state S.Store conn) result }
+        ensures migrates { RestsIn first_schema (state S.Store conn)
+            → Migrates S.Store (state S.Store conn) result }
+        ensures makes { IsBlank (state S.Store conn) → Makes S.Store (state S.Store conn) result }
+        ensures refused { IfErr result (λ e.
+            IsRefusal e.0 → LeavesAlone (state S.Store conn) (state S.Store e.1)) }
+        ensures busy { IsTrue (state S.Store conn).in_transaction → result ≡ Err (Store, conn) }
+        ensures leaves { Survives (state S.Store conn) (state S.Store (held_in S.Store result))
+            (MayLeaveTables (state S.Store conn)) }
+        ensures settled { IfOk result (Settles S.Store) }
+        ensures sound { IfOk result (λ k.
+            IsTrue k.ours → IsTrue (state S.Store k.conn).is_open → IsSound S.Store k) }
+        ensures stays { HasCleanDisk (state S.Store (held_in S.Store result)) → IsKnown (state S.Store conn)
+            → IfOk result (λ k. IsTrue (state S.Store k.conn).is_open) }
+    {
+        match load(alloc, &mut conn) {
+            Ok(ours) => Ok(SqlRecords::over(conn, ours)),
+            Err(error) => Err((error, conn)),
+        }
+    }
+}
 
 /// Checks the tables, which are those of that schema and no others: so it gives true.
 fn check_ours<S: Alter>(
@@ -53,21 +85,18 @@ fn check_as<S: Alter>(
     if is_of(version, conn.schema()) {
         check_ours(alloc, conn, version)
     } else {
-        check_apart(alloc, conn, version)
+        check_in_undone_transaction(alloc, conn, version)
     }
 }
 
-/// Makes the tables beside what is there, and then checks them as any others. Where these aren't sound,
-/// the store has failed. It says whether they are a keeper's tables and no others.
+/// Makes the tables beside what is there, and then checks them as any others. If these aren't sound, the
+/// store has failed. It says whether they are a keeper's tables and no others.
 fn make_and_check<S: Alter>(alloc: Global, conn: &mut Connection<S>) -> Result<bool, OpenError>
     requires { IsTrue (has_room (state S.Store conn.old).now.schema) }
     ensures { Loads (state S.Store conn.old) (state S.Store conn.new) result }
 {
     make(conn)?;
-    match check_as(alloc, conn, SchemaVersion::Schema2) {
-        Ok(ours) => Ok(ours),
-        Err(error) => Err(error_after_making(error)),
-    }
+    check_as(alloc, conn, SchemaVersion::Schema2).map_err(error_after_making)
 }
 
 /// Checks tables of schema 1, and then brings them into schema 2. It says whether they were those of schema
@@ -107,37 +136,5 @@ fn load<S: Alter>(alloc: Global, conn: &mut Connection<S>) -> Result<bool, OpenE
         make_and_check(alloc, conn)
     } else {
         load_kept(alloc, conn)
-    }
-}
-
-impl<S: Alter> SqlRecords<S> {
-    /// Opens the store of the connection as a keeper. Where none of a keeper's tables has its name
-    /// taken they are made, in one transaction; else each row is read and checked, a body at a time,
-    /// and then all places of source rows at once. Then tables of schema 1 are brought into schema 2, in
-    /// one transaction. A connection that is refused is handed back; its tables are as they were, unless
-    /// the store failed. Where a transaction is under way nothing is asked, and the answer is `Store`.
-    pub fn open(
-        alloc: Global,
-        mut conn: Connection<S>,
-    ) -> Result<SqlRecords<S>, (OpenError, Connection<S>)>
-        ensures opens { Rests (state S.Store conn) → Opens S.Store (state S.Store conn) result }
-        ensures migrates { RestsIn first_schema (state S.Store conn)
-            → Migrates S.Store (state S.Store conn) result }
-        ensures makes { IsBlank (state S.Store conn) → Makes S.Store (state S.Store conn) result }
-        ensures refused { IfErr result (λ e.
-            IsRefusal e.0 → LeavesAlone (state S.Store conn) (state S.Store e.1)) }
-        ensures busy { IsTrue (state S.Store conn).in_transaction → result ≡ Err (Store, conn) }
-        ensures leaves { Survives (state S.Store conn) (state S.Store (held_in S.Store result))
-            (MayLeaveTables (state S.Store conn)) }
-        ensures settled { IfOk result (Settles S.Store) }
-        ensures sound { IfOk result (λ k.
-            IsTrue k.ours → IsTrue (state S.Store k.conn).is_open → IsSound S.Store k) }
-        ensures stays { HasCleanDisk (state S.Store (held_in S.Store result)) → IsKnown (state S.Store conn)
-            → IfOk result (λ k. IsTrue (state S.Store k.conn).is_open) }
-    {
-        match load(alloc, &mut conn) {
-            Ok(ours) => Ok(SqlRecords::over(conn, ours)),
-            Err(error) => Err((error, conn)),
-        }
     }
 }

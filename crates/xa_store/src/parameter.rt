@@ -1,5 +1,5 @@
 //! What a statement is given for the values of Rust: numbers for kinds, roles, data types and activities,
-//! and texts, or NULL where there is none.
+//! and texts, or NULL for none.
 ghost use Rattle.std.specs.Prelude.{◌≡◌, IfOk, option_map};
 ghost use Rattle.sqlite.specs.Values.{bound_value};
 ghost use Rattle.sqlite_value.specs.Value.{owned};

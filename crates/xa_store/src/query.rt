@@ -50,7 +50,7 @@ fn rows_shown<S: Alter>(
     conn.query_all(sql, given)
 }
 
-/// All rows that a plain query of these tables shows; want of memory is told where the store told it.
+/// All rows that a plain query of these tables shows. `Memory` only if the database told want of memory.
 /// The connection keeps the plan of each text, so none is prepared.
 pub(crate) fn query_rows<S: Alter>(
     conn: &mut Connection<S>,
@@ -64,8 +64,5 @@ pub(crate) fn query_rows<S: Alter>(
     ensures shows { HasCleanDisk (state S.Store conn.new) → IfOk result (λ rows.
         ShownOver S.Store sql.now (bound given.now) conn.old conn.new rows.items) }
 {
-    match rows_shown(conn, sql, given) {
-        Ok(rows) => Ok(rows),
-        Err(error) => Err(failure_of(error)),
-    }
+    rows_shown(conn, sql, given).map_err(failure_of)
 }

@@ -25,8 +25,8 @@ pub(crate) const DOCUMENT: &str =
 /// shown, so no text is read.
 pub(crate) const DOCUMENT_KINDS: &str = "SELECT kind FROM policies WHERE number = ?1";
 
-/// The keys of a domain's documents, and which of these are active. That index doesn't have the latter, so
-/// each row is read whole, with its text.
+/// The keys of a domain's documents, and which of these are active. The primary key's index doesn't have
+/// `active`, so each row is read whole, with its text.
 pub(crate) const DOCUMENTS: &str =
     "SELECT kind, id, version, active FROM policies WHERE number = ?1 ORDER BY kind, id, version";
 
@@ -53,7 +53,8 @@ pub(crate) const SET_NEXT: &str = "UPDATE meta SET next_number = ?1 WHERE id = 1
 /// Sets a domain's epoch.
 pub(crate) const SET_EPOCH: &str = "UPDATE domains SET epoch = ?2 WHERE number = ?1";
 
-/// Drops a domain; its other rows go with it.
+/// Drops a domain. Its other rows go with it, by ON DELETE CASCADE; the kit's `sqlite` always enforces
+/// foreign keys, which SQLite doesn't by default (Foreign Key Support, 2).
 pub(crate) const DROP_DOMAIN: &str = "DELETE FROM domains WHERE number = ?1";
 
 /// Adds a token.
@@ -121,7 +122,7 @@ pub(crate) const CREATE_ATTRIBUTES: &str =
 pub(crate) const CREATE_SOURCES: &str =
     "CREATE TABLE sources (number INTEGER NOT NULL REFERENCES domains (number) ON DELETE CASCADE, place INTEGER NOT NULL, category TEXT NOT NULL, entity TEXT NOT NULL, attribute TEXT NOT NULL, value_type INTEGER NOT NULL, value TEXT NOT NULL, issuer TEXT, PRIMARY KEY (number, place)) STRICT";
 
-/// The one row of the first table: schema 2, and 1 as the number of the next domain.
+/// The one row of `meta`: schema 2, and 1 as the number of the next domain.
 pub(crate) const ADD_META_ROW: &str =
     "INSERT INTO meta (id, schema_no, next_number) VALUES (1, 2, 1)";
 
@@ -139,7 +140,7 @@ pub(crate) const SET_SCHEMA: &str = "UPDATE meta SET schema_no = 2 WHERE id = 1"
 
 // ---- The check of the tables
 
-/// The rows of the first table.
+/// The rows of `meta`.
 pub(crate) const META_ROWS: &str = "SELECT id, schema_no, next_number FROM meta ORDER BY id";
 
 /// All domains, by their rowids.

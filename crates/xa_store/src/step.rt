@@ -65,7 +65,7 @@ pub(crate) enum Step {
         number: i64,
         key: DocumentKey,
     },
-    /// The root, where there is none.
+    /// The root of a domain that has none.
     AddRoot {
         number: i64,
         root: Reference,

@@ -37,7 +37,7 @@ fn copy_of_text(alloc: Global, text: &[u8]) -> Result<Items<u8>, AllocError>
 }
 
 /// Whether a domain of so many documents may have one more.
-fn has_room(count: usize) -> bool
+fn may_have_one_more(count: usize) -> bool
     ensures { result ≡ nat_lt count 1_024 }
 {
     // in a function of its own, the proof has the answer as an equation
@@ -48,7 +48,7 @@ fn has_room(count: usize) -> bool
 fn is_same_body(one: &[u8], other: &[u8]) -> bool
     ensures { result ≡ bytes_eq one.now other.now }
 {
-    // in a function of its own, as `has_room`, for the proof
+    // in a function of its own, as `may_have_one_more`, for the proof
     one == other
 }
 
@@ -67,7 +67,7 @@ fn plan_upload_new<S: Alter>(
 {
     key_reads_back(&key);
     let count = document_count(conn, found.number)?;
-    if !has_room(count) {
+    if !may_have_one_more(count) {
         return Err(ChangeError::Refused(Refusal::Quota));
     }
     let revision = next_revision(found)?;
@@ -80,7 +80,8 @@ fn plan_upload_new<S: Alter>(
     Ok(raising_steps(alloc, step, revision)?)
 }
 
-/// The plan for a document that is there with that text: the very text again changes nothing.
+/// The plan for a document that is there with that text: the very text again changes nothing. `found` is
+/// for the contract alone.
 fn plan_upload_again(
     alloc: Global,
     found: DomainFound,
@@ -100,7 +101,7 @@ fn plan_upload_again(
 }
 
 /// The plan for a document of a domain that was found.
-fn plan_upload_in<S: Alter>(
+fn plan_upload_in_domain<S: Alter>(
     alloc: Global,
     conn: &mut Connection<S>,
     found: DomainFound,
@@ -133,7 +134,7 @@ fn plan_upload<S: Alter>(
         (λ rows. IsUploadPlanned key text.now name.now rows result) }
 {
     let found = domain_to_change(conn, name)?;
-    plan_upload_in(alloc, conn, found, key, text)
+    plan_upload_in_domain(alloc, conn, found, key, text)
 }
 
 /// Whether the steps of an upload put a document in.
@@ -147,7 +148,7 @@ fn upload_by(steps: &[Step]) -> Upload
 }
 
 /// Uploads a document to the domain of that name. It isn't active at first.
-pub(crate) fn upload_in<S: Alter>(
+pub(crate) fn upload<S: Alter>(
     alloc: Global,
     conn: &mut Connection<S>,
     name: &Text,
@@ -169,7 +170,7 @@ pub(crate) fn upload_in<S: Alter>(
 }
 
 /// The plan for a document that is there, active or not.
-fn plan_active_of(
+fn plan_active_over(
     alloc: Global,
     found: DomainFound,
     there: &DocumentFound,
@@ -194,7 +195,7 @@ fn plan_active_of(
 }
 
 /// The plan for the activity of a document of a domain that was found.
-fn plan_active_in<S: Alter>(
+fn plan_active_in_domain<S: Alter>(
     alloc: Global,
     conn: &mut Connection<S>,
     found: DomainFound,
@@ -207,7 +208,7 @@ fn plan_active_in<S: Alter>(
 {
     key_reads_back(key);
     let there = document_to_change(alloc, conn, found.number, key)?;
-    plan_active_of(alloc, found, &there, key, active)
+    plan_active_over(alloc, found, &there, key, active)
 }
 
 /// The plan, or why the activity isn't set.
@@ -223,11 +224,11 @@ fn plan_active<S: Alter>(
         conn.old conn.new result }
 {
     let found = domain_to_change(conn, name)?;
-    plan_active_in(alloc, conn, found, key, active)
+    plan_active_in_domain(alloc, conn, found, key, active)
 }
 
 /// Sets whether references may resolve to the document of that key in the domain of that name.
-pub(crate) fn set_active_in<S: Alter>(
+pub(crate) fn set_active<S: Alter>(
     alloc: Global,
     conn: &mut Connection<S>,
     name: &Text,
@@ -242,7 +243,7 @@ pub(crate) fn set_active_in<S: Alter>(
 }
 
 /// The plan to take out a document that is there.
-fn plan_delete_of(
+fn plan_delete_over(
     alloc: Global,
     found: DomainFound,
     there: &DocumentFound,
@@ -265,7 +266,7 @@ fn plan_delete_of(
 }
 
 /// The plan to take a document out of a domain that was found.
-fn plan_delete_in<S: Alter>(
+fn plan_delete_in_domain<S: Alter>(
     alloc: Global,
     conn: &mut Connection<S>,
     found: DomainFound,
@@ -276,7 +277,7 @@ fn plan_delete_in<S: Alter>(
 {
     key_reads_back(key);
     let there = document_to_change(alloc, conn, found.number, key)?;
-    plan_delete_of(alloc, found, &there, key)
+    plan_delete_over(alloc, found, &there, key)
 }
 
 /// The plan, or why the document isn't deleted.
@@ -290,11 +291,11 @@ fn plan_delete<S: Alter>(
     ensures plans { PlansIn S.Store (within (deleted key.now)) name.now conn.old conn.new result }
 {
     let found = domain_to_change(conn, name)?;
-    plan_delete_in(alloc, conn, found, key)
+    plan_delete_in_domain(alloc, conn, found, key)
 }
 
 /// Deletes a document of the domain of that name, which must not be active.
-pub(crate) fn delete_in<S: Alter>(
+pub(crate) fn delete<S: Alter>(
     alloc: Global,
     conn: &mut Connection<S>,
     name: &Text,

@@ -70,7 +70,7 @@ fn plan_create<S: Alter>(
 }
 
 /// Makes the domain of that name, in which nothing has been put yet.
-pub(crate) fn create_in<S: Alter>(
+pub(crate) fn create<S: Alter>(
     alloc: Global,
     conn: &mut Connection<S>,
     name: &Text,
@@ -83,7 +83,7 @@ pub(crate) fn create_in<S: Alter>(
 }
 
 /// The plan for a domain that was found.
-fn plan_remove_in(alloc: Global, found: DomainFound) -> Result<Items<Step>, ChangeError>
+fn plan_remove_in_domain(alloc: Global, found: DomainFound) -> Result<Items<Step>, ChangeError>
     ensures plans { (name : List ℕ) → (rows : Rows) → AreNumbered rows → IsKeyedBy number_key rows.domains
         → IsDomain name rows found → IsPlanned removed name rows result }
 {
@@ -100,11 +100,11 @@ fn plan_remove<S: Alter>(
     ensures plans { PlansIn S.Store removed name.now conn.old conn.new result }
 {
     let found = domain_to_change(conn, name)?;
-    plan_remove_in(alloc, found)
+    plan_remove_in_domain(alloc, found)
 }
 
 /// Removes the domain of that name, with all that is in it.
-pub(crate) fn remove_in<S: Alter>(
+pub(crate) fn remove<S: Alter>(
     alloc: Global,
     conn: &mut Connection<S>,
     name: &Text,

@@ -1,4 +1,4 @@
-//! The domain, the document and the token that a change is of. Where they are absent, it is refused.
+//! The domain, the document and the token that a change is of. If they are absent, it is refused.
 ghost use Rattle.std.specs.Prelude.{None, Some, IfErr};
 ghost use Rattle.xa_store.specs.Lookup.{FindsDocument, FindsDomain, FindsRole, IsDomain, TellsAbsent};
 ghost use Rattle.xa_store.specs.Quiet.{OnlyReadsForChangeOver, OverRows, ReadsRows};

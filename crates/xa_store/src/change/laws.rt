@@ -21,7 +21,7 @@ pub(crate) fn bytes_are_utf8(text: &Text)
     let _text = text.as_str();
 }
 
-/// Law: a text that may be absent is UTF-8, where it is there.
+/// Law: a text that may be absent is UTF-8, if it is there.
 pub(crate) fn bytes_are_utf8_if_any(text: &Option<Text>)
     ensures { is_if_any is_utf8 text.now ≡ true }
 {

@@ -43,7 +43,7 @@ fn root_steps(
 }
 
 /// The plan for a domain that was found with that root.
-fn plan_root_of(
+fn plan_root_over(
     alloc: Global,
     found: DomainFound,
     there: &Option<Reference>,
@@ -72,11 +72,11 @@ fn plan_root<S: Alter>(
 {
     let found = domain_to_change(conn, name)?;
     let there = root_of(alloc, conn, found.number)?;
-    plan_root_of(alloc, found, &there, root)
+    plan_root_over(alloc, found, &there, root)
 }
 
 /// Sets the root of the domain of that name, or takes it away.
-pub(crate) fn set_root_in<S: Alter>(
+pub(crate) fn set<S: Alter>(
     alloc: Global,
     conn: &mut Connection<S>,
     name: &Text,

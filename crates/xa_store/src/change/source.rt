@@ -24,8 +24,8 @@ use xa_decide::SourceRow;
 use xa_records::{ChangeError, Failure, Refusal, is_same_source, is_same_value, may_be_kept};
 use xa_value::{Items, Text, Value};
 
-/// Answers where the value reads back from its text. One that doesn't, a URI with white space around it
-/// for one, can't be kept.
+/// Succeeds if the value reads back from its text. One that doesn't, a URI with white space around it for
+/// one, can't be kept.
 fn check_value(alloc: Global, value: &Value) -> Result<(), Failure>
     ensures reads { OnOk result (ReadsBack value.now) }
     ensures text { OnOk result (holds_value (type_number value.now) (value_text value.now) ≡ true) }
@@ -38,7 +38,7 @@ fn check_value(alloc: Global, value: &Value) -> Result<(), Failure>
     Err(Failure::Store)
 }
 
-/// Answers where the value of the row reads back.
+/// Succeeds if the value of the row reads back.
 fn check_row(alloc: Global, row: &SourceRow) -> Result<(), Failure>
     ensures reads { OnOk result (ReadsBack row.now.value) }
     ensures texts { OnOk result (AreSourceTexts row.now) }
@@ -50,7 +50,7 @@ fn check_row(alloc: Global, row: &SourceRow) -> Result<(), Failure>
     check_value(alloc, &row.value)
 }
 
-/// Answers where the values of all the rows read back. In time in proportion to their texts.
+/// Succeeds if the values of all the rows read back. In time in proportion to their texts.
 fn check_rows(alloc: Global, rows: &[SourceRow]) -> Result<(), Failure>
     ensures reads { OnOk result (RowsRead rows.now) }
     ensures texts { OnOk result (HaveTexts rows.now) }
@@ -98,7 +98,7 @@ fn source_steps(
 }
 
 /// The plan for a domain that was found with that source.
-fn plan_source_of(
+fn plan_source_over(
     alloc: Global,
     found: DomainFound,
     there: &Items<SourceRow>,
@@ -131,13 +131,13 @@ fn plan_source<S: Alter>(
 {
     let found = domain_to_change(conn, name)?;
     let there = source_of(alloc, conn, found.number)?;
-    plan_source_of(alloc, found, &there, rows)
+    plan_source_over(alloc, found, &there, rows)
 }
 
 /// Puts these rows into the source of the domain of that name, in place of all that were there.
-/// It fails with `Store`, too, where a value doesn't read back from its printed text, as a URI with white
-/// space around it; no value that was read is such a one.
-pub(crate) fn set_source_in<S: Alter>(
+/// It fails with `Store`, too, if a value doesn't read back from its printed text, as a URI with white space
+/// around it; no value that was read is such a one.
+pub(crate) fn set<S: Alter>(
     alloc: Global,
     conn: &mut Connection<S>,
     name: &Text,

@@ -21,7 +21,7 @@ use xa_records::{ChangeError, Digest, MAX_TOKENS, Refusal};
 use xa_value::{Items, Text};
 
 /// Whether a domain of so many tokens may have one more.
-fn has_room(count: usize) -> bool
+fn may_have_one_more(count: usize) -> bool
     ensures { result ≡ nat_lt count 32 }
 {
     // in a function of its own, the proof has the answer as an equation
@@ -43,7 +43,7 @@ fn plan_put_new<S: Alter>(
 {
     has_all_bytes(&digest);
     let count = token_count(conn, found.number)?;
-    if !has_room(count) {
+    if !may_have_one_more(count) {
         return Err(ChangeError::Refused(Refusal::Quota));
     }
     let step = Step::AddToken {
@@ -55,7 +55,7 @@ fn plan_put_new<S: Alter>(
 }
 
 /// The plan for a token of a domain that was found.
-fn plan_put_in<S: Alter>(
+fn plan_put_in_domain<S: Alter>(
     alloc: Global,
     conn: &mut Connection<S>,
     found: DomainFound,
@@ -91,11 +91,11 @@ fn plan_put<S: Alter>(
     ensures plans { PlansIn S.Store (within (token_put digest role)) name.now conn.old conn.new result }
 {
     let found = domain_to_change(conn, name)?;
-    plan_put_in(alloc, conn, found, digest, role)
+    plan_put_in_domain(alloc, conn, found, digest, role)
 }
 
 /// Puts a token into the domain of that name, or replaces the role of one that is there.
-pub(crate) fn put_token_in<S: Alter>(
+pub(crate) fn put<S: Alter>(
     alloc: Global,
     conn: &mut Connection<S>,
     name: &Text,
@@ -110,7 +110,7 @@ pub(crate) fn put_token_in<S: Alter>(
 }
 
 /// The plan to take a token out of a domain that was found.
-fn plan_drop_in<S: Alter>(
+fn plan_drop_in_domain<S: Alter>(
     alloc: Global,
     conn: &mut Connection<S>,
     found: DomainFound,
@@ -138,11 +138,11 @@ fn plan_drop<S: Alter>(
     ensures plans { PlansIn S.Store (within (token_dropped digest)) name.now conn.old conn.new result }
 {
     let found = domain_to_change(conn, name)?;
-    plan_drop_in(alloc, conn, found, digest)
+    plan_drop_in_domain(alloc, conn, found, digest)
 }
 
 /// Takes a token out of the domain of that name.
-pub(crate) fn drop_token_in<S: Alter>(
+pub(crate) fn drop_token<S: Alter>(
     alloc: Global,
     conn: &mut Connection<S>,
     name: &Text,

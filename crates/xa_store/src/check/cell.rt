@@ -1,9 +1,11 @@
 //! What one column of a row holds. A column that a row hasn't reads as NULL, as in SQLite and in the
 //! definitions (`column`).
-ghost use Rattle.std.specs.Prelude.{◌≡◌, is_ok, bytes_eq};
+ghost use Rattle.std.specs.Prelude.{◌≡◌, ℕ, false, true, List, is_ok, bytes_eq};
+ghost use Rattle.std.specs.Fn.{FnOnceReturnsAt};
 ghost use Rattle.std.specs.Ordering.{int_eq};
 ghost use Rattle.std.specs.Str.{is_utf8};
 ghost use Rattle.sqlite.specs.Order.{column};
+ghost use Rattle.sqlite.specs.declared.types.Value.TheVariants.{Null, Text};
 ghost use Rattle.xa_records.specs.DomainName.{is_domain_name};
 ghost use Rattle.xa_store.specs.Opened.{holds_int, holds_text, holds_text_if_any, holds_blob, is_bit};
 ghost use Rattle.xa_store.specs.Opened.{is_assigned, is_count, is_digest, is_pattern, is_version};
@@ -24,7 +26,7 @@ pub(crate) fn is_count(number: i64) -> bool
     0 <= number
 }
 
-/// Whether the number has been assigned to a domain, where `next` is that of the next.
+/// Whether the number has been assigned to a domain; `next` is that of the next.
 fn is_assigned(next: i64, number: i64) -> bool
     ensures { result ≡ is_assigned next number }
 {
@@ -50,10 +52,7 @@ fn is_text(bytes: &[u8]) -> bool
 fn is_pattern(bytes: &[u8]) -> bool
     ensures { result ≡ is_pattern bytes.now }
 {
-    match str::from_utf8(bytes) {
-        Ok(text) => Pattern::read(text).is_ok(),
-        Err(_) => false,
-    }
+    str::from_utf8(bytes).is_ok_and(|text| Pattern::read(text).is_ok())
 }
 
 /// Whether the text is a version.
@@ -61,10 +60,7 @@ fn is_pattern(bytes: &[u8]) -> bool
 fn is_version(bytes: &[u8]) -> bool
     ensures { result ≡ is_version bytes.now }
 {
-    match str::from_utf8(bytes) {
-        Ok(text) => Version::read(text).is_ok(),
-        Err(_) => false,
-    }
+    str::from_utf8(bytes).is_ok_and(|text| Version::read(text).is_ok())
 }
 
 /// Whether the column holds a number that has been assigned to a domain.
@@ -109,19 +105,30 @@ pub(crate) fn holds_text(row: &Row, at: usize) -> bool
     matches!(row.get_ref(at), Ok(ValueRef::Text(bytes)) if is_text(bytes))
 }
 
-/// Whether the column holds a text, or nothing.
-pub(crate) fn holds_text_if_any(row: &Row, at: usize) -> bool
-    ensures { result ≡ holds_text_if_any is_utf8 (column row.now at) }
+/// Whether the column holds a text that passes the test, or nothing.
+fn holds_such_text_if_any<F: FnOnce(&[u8]) -> bool>(row: &Row, at: usize, test: F) -> bool
+    requires { F.IsAlwaysCallable test }
+    ensures nothing { column row.now at ≡ Null → result ≡ true }
+    ensures text { (bytes : List ℕ) → column row.now at ≡ Text bytes
+        → FnOnceReturnsAt F.FnOnce test bytes result }
+    ensures other { holds_text_if_any (λ _. true) (column row.now at) ≡ false → result ≡ false }
 {
     match row.get_ref(at) {
-        Ok(ValueRef::Text(bytes)) => is_text(bytes),
+        Ok(ValueRef::Text(bytes)) => test(bytes),
         Ok(ValueRef::Null) | Err(_) => true,
         _ => false,
     }
 }
 
+/// Whether the column holds a text, or nothing.
+pub(crate) fn holds_text_if_any(row: &Row, at: usize) -> bool
+    ensures { result ≡ holds_text_if_any is_utf8 (column row.now at) }
+{
+    holds_such_text_if_any(row, at, is_text)
+}
+
 /// Whether the column holds this text.
-pub(crate) fn holds_bytes(row: &Row, at: usize, wanted: &[u8]) -> bool
+pub(crate) fn holds_this_text(row: &Row, at: usize, wanted: &[u8]) -> bool
     ensures { result ≡ holds_text (bytes_eq wanted.now) (column row.now at) }
 {
     matches!(row.get_ref(at), Ok(ValueRef::Text(bytes)) if wanted == bytes)
@@ -138,20 +145,12 @@ pub(crate) fn holds_digest(row: &Row, at: usize) -> bool
 pub(crate) fn holds_pattern_if_any(row: &Row, at: usize) -> bool
     ensures { result ≡ holds_text_if_any is_pattern (column row.now at) }
 {
-    match row.get_ref(at) {
-        Ok(ValueRef::Text(bytes)) => is_pattern(bytes),
-        Ok(ValueRef::Null) | Err(_) => true,
-        _ => false,
-    }
+    holds_such_text_if_any(row, at, is_pattern)
 }
 
 /// Whether the column holds a version, or nothing.
 pub(crate) fn holds_version_if_any(row: &Row, at: usize) -> bool
     ensures { result ≡ holds_text_if_any is_version (column row.now at) }
 {
-    match row.get_ref(at) {
-        Ok(ValueRef::Text(bytes)) => is_version(bytes),
-        Ok(ValueRef::Null) | Err(_) => true,
-        _ => false,
-    }
+    holds_such_text_if_any(row, at, is_version)
 }

@@ -4,7 +4,7 @@
 /// The column of the row's own number, which each query of rows shows first.
 pub(crate) const ROWID: usize = 0;
 
-/// The columns of the first table, as `sql::META_ROWS` shows them.
+/// The columns of `meta`, as `sql::META_ROWS` shows them.
 pub(crate) mod meta {
     pub(crate) const ID: usize = 0;
 

@@ -9,6 +9,7 @@ ghost use Rattle.xa_store.specs.Check.{comes_after, has_table};
 
 use crate::check::row::{is_sound_row, row_number};
 use crate::error::OpenError;
+use crate::failure::error_of_check;
 use crate::schema::checked_table::CheckedTable;
 use crate::schema::version::Checking;
 use sqlite::{Alter, Connection, Row, Rows};
@@ -78,8 +79,10 @@ fn next_row_number<S: Alter>(
         → (sql : List ℕ) → (given : List SqlRow) → HasGiven S.Store sql [] rows.old.conn.now given
         → Moves S.Store table next last rows.old.conn.now rows.new.conn.now sql given result }
 {
-    rows.advance()?;
-    number_here(alloc, table, next, last, rows)
+    match rows.advance() {
+        Ok(()) => number_here(alloc, table, next, last, rows),
+        Err(error) => Err(error_of_check(error)),
+    }
 }
 
 /// Checks all rows of the table, in the order of their numbers.
@@ -94,8 +97,12 @@ pub(crate) fn walk<S: Alter>(
         (state S.Store conn.old) (state S.Store conn.new) result }
 {
     let mut last = None;
-    let mut rows = conn.query(table.rows_query(), &[])?;
-    // bounded, so that it ends whatever the store shows; by its label the proof names the loop
+    let mut rows = match conn.query(table.rows_query(), &[]) {
+        Ok(rows) => rows,
+        Err(error) => return Err(error_of_check(error)),
+    };
+    // bounded, as no clause of the kit bounds what a query shows; the count never ends a walk that a file
+    // could hold. By its label the proof names the loop
     'rows: for _ in 0..u64::MAX {
         match next_row_number(alloc, table, checking.next, last, &mut rows)? {
             Some(number) => last = Some(number),

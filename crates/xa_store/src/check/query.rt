@@ -11,6 +11,7 @@ ghost use Rattle.xa_store.specs.Opening.{IsFailure};
 ghost use Rattle.xa_store.specs.Sound.{RestsIn};
 
 use crate::error::OpenError;
+use crate::failure::error_of_check;
 use sqlite::{Alter, Connection, Row};
 
 /// All rows that a query shows, of tables of a schema of which it is a plain one.
@@ -23,6 +24,8 @@ pub(crate) fn rows_of<S: Alter>(conn: &mut Connection<S>, sql: &str) -> Result<V
         → (version : Version) → IsPlain (understood (schema_of version) sql.now)
         → RestsIn (schema_of version) (state S.Store conn.old) → IfErr result IsFailure }
 {
-    let rows = conn.query_all(sql, &[])?;
-    Ok(rows)
+    match conn.query_all(sql, &[]) {
+        Ok(rows) => Ok(rows),
+        Err(error) => Err(error_of_check(error)),
+    }
 }

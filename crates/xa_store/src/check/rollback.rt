@@ -14,7 +14,7 @@ use sqlite::{Alter, Connection};
 use std::alloc::Global;
 
 /// Begins a transaction.
-fn begin<S: Alter>(conn: &mut Connection<S>) -> Result<(), OpenError>
+fn begin_transaction<S: Alter>(conn: &mut Connection<S>) -> Result<(), OpenError>
     ensures { Begun (state S.Store conn.old) (state S.Store conn.new) result }
 {
     match conn.execute(sql::BEGIN, &[]) {
@@ -24,7 +24,7 @@ fn begin<S: Alter>(conn: &mut Connection<S>) -> Result<(), OpenError>
 }
 
 /// Undoes the transaction, if an error has not yet done so.
-fn end<S: Alter>(conn: &mut Connection<S>) -> Result<(), OpenError>
+fn undo_transaction<S: Alter>(conn: &mut Connection<S>) -> Result<(), OpenError>
     ensures { Ended (state S.Store conn.old) (state S.Store conn.new) result }
 {
     if conn.is_autocommit() {
@@ -37,7 +37,7 @@ fn end<S: Alter>(conn: &mut Connection<S>) -> Result<(), OpenError>
 }
 
 /// Checks the tables as those of that schema. They aren't these alone: so it gives false.
-pub(crate) fn check_apart<S: Alter>(
+pub(crate) fn check_in_undone_transaction<S: Alter>(
     alloc: Global,
     conn: &mut Connection<S>,
     version: SchemaVersion,
@@ -46,9 +46,9 @@ pub(crate) fn check_apart<S: Alter>(
     requires other { (state S.Store conn.old).now.schema ≢ schema_of version }
     ensures { Tested version (state S.Store conn.old) (state S.Store conn.new) result }
 {
-    begin(conn)?;
+    begin_transaction(conn)?;
     let checked = check(alloc, conn, version);
-    end(conn)?;
+    undo_transaction(conn)?;
     checked?;
     Ok(false)
 }

@@ -12,8 +12,8 @@ ghost use Rattle.xa_store.specs.declared.schema.checked_table.CheckedTable.TheVa
 ghost use Rattle.xa_store.specs.declared.schema.checked_table.CheckedTable.TheVariants.{Roots, Tokens};
 
 use crate::check::cell::{
-    holds_assigned, holds_bit, holds_bytes, holds_count, holds_digest, holds_name, holds_number,
-    holds_pattern_if_any, holds_text, holds_text_if_any, holds_version_if_any,
+    holds_assigned, holds_bit, holds_count, holds_digest, holds_name, holds_number,
+    holds_pattern_if_any, holds_text, holds_text_if_any, holds_this_text, holds_version_if_any,
 };
 use crate::check::columns::{ROWID, document, domain, meta, root, source, source_place, token};
 use crate::query::cell::type_numbered;
@@ -74,8 +74,8 @@ fn holds_key_of(alloc: Global, row: &Row, parsed: &Parsed) -> Result<bool, Alloc
     let kind = i64::from(parsed.kind().place());
     Ok(
         holds_number(row, document::KIND, kind)
-            && holds_bytes(row, document::ID, parsed.id().as_bytes())
-            && holds_bytes(row, document::VERSION, version.as_bytes()),
+            && holds_this_text(row, document::ID, parsed.id().as_bytes())
+            && holds_this_text(row, document::VERSION, version.as_bytes()),
     )
 }
 
@@ -189,7 +189,7 @@ fn is_source(alloc: Global, next: i64, row: &Row) -> Result<bool, AllocError>
     Ok(is_attribute(alloc, next, row)? && holds_text_if_any(row, source::ISSUER))
 }
 
-/// Whether the row is one of that table, where `next` is the number of the next domain.
+/// Whether the row is one of that table; `next` is the number of the next domain.
 pub(crate) fn is_sound_row(
     alloc: Global,
     table: CheckedTable,
@@ -241,20 +241,7 @@ pub(crate) fn follows(last: Place, place: Place) -> bool
     if place.domain != last.domain {
         return place.place == 0;
     }
-    match last.place.checked_add(1) {
-        Some(wanted) => place.place == wanted,
-        None => false,
-    }
-}
-
-/// The number of the next domain, if the rows of the first table are one row of that schema.
-pub(crate) fn known_next(version: SchemaVersion, rows: &[Row]) -> Option<i64>
-    ensures { result ≡ known_next version rows.now }
-{
-    match rows {
-        [row] => next_of(version, row),
-        _ => None,
-    }
+    last.place.checked_add(1) == Some(place.place)
 }
 
 /// The number of the next domain, if the row is of that schema.
@@ -265,4 +252,14 @@ fn next_of(version: SchemaVersion, row: &Row) -> Option<i64>
         return None;
     }
     number_at(row, meta::NEXT)
+}
+
+/// The number of the next domain, if the rows of `meta` are one row of that schema.
+pub(crate) fn known_next(version: SchemaVersion, rows: &[Row]) -> Option<i64>
+    ensures { result ≡ known_next version rows.now }
+{
+    match rows {
+        [row] => next_of(version, row),
+        _ => None,
+    }
 }

@@ -23,7 +23,7 @@ use crate::sql;
 use sqlite::{Alter, Connection, Row};
 use std::alloc::Global;
 
-/// Nothing, where the tables are sound.
+/// `Damaged`, unless the tables are sound.
 fn sound_or_damaged(sound: bool) -> Result<(), OpenError>
     ensures { TellsSound sound result }
 {
@@ -62,7 +62,8 @@ fn check_table<S: Alter>(
     check_order(conn, table)
 }
 
-/// Checks two tables, one after the other. For the proof, which puts two checks together at a time.
+/// Checks two tables, one after the other. For the proof, which puts two checks together at a time: a loop's
+/// invariant can't hold `CheckedBy`, which is too large a type.
 fn check_both<S: Alter>(
     alloc: Global,
     conn: &mut Connection<S>,
@@ -80,8 +81,8 @@ fn check_both<S: Alter>(
     check_table(alloc, conn, second, checking)
 }
 
-/// Checks the tables that both schemas have, but the first and those of the rows of sources. Two pairs,
-/// as the proof puts two checks together at a time.
+/// Checks the tables that both schemas have, but `meta` and those of the rows of sources. Two pairs, as the
+/// proof puts two checks together at a time.
 fn check_common<S: Alter>(
     alloc: Global,
     conn: &mut Connection<S>,
@@ -108,7 +109,7 @@ fn check_common<S: Alter>(
     )
 }
 
-/// Checks all tables that have rows, but the first.
+/// Checks all tables that have rows, but `meta`.
 #[tactic(auto, using(crate::proofs::LoadLemmas::has_sources))]
 fn check_tables<S: Alter>(
     alloc: Global,
@@ -124,7 +125,7 @@ fn check_tables<S: Alter>(
 }
 
 /// Whether each place comes after the one before.
-fn are_places(rows: &[Row]) -> bool
+fn are_consecutive(rows: &[Row]) -> bool
     ensures { result ≡ counts no_place rows.now }
 {
     // before the first of any domain
@@ -150,7 +151,7 @@ fn check_places<S: Alter>(conn: &mut Connection<S>, version: SchemaVersion) -> R
         result) }
 {
     let rows = rows_of(conn, version.places_query())?;
-    sound_or_damaged(are_places(rows.as_slice()))
+    sound_or_damaged(are_consecutive(rows.as_slice()))
 }
 
 /// Checks whether the table `attributes` has no row, of tables of schema 2.
@@ -185,7 +186,7 @@ fn check_sources<S: Alter>(
     }
 }
 
-/// Checks all tables but the first, and the places.
+/// Checks all tables but `meta`, and the places.
 fn check_all<S: Alter>(
     alloc: Global,
     conn: &mut Connection<S>,
@@ -203,8 +204,7 @@ fn check_all<S: Alter>(
     check_sources(conn, checking.version)
 }
 
-/// The number of the next domain, in the one row of the first table, which has to have the number of
-/// that schema.
+/// The number of the next domain, in the one row of `meta`, which has to have the number of that schema.
 fn next_domain<S: Alter>(conn: &mut Connection<S>, version: SchemaVersion) -> Result<i64, OpenError>
     ensures asks { AsksOver S.Store version conn.old conn.new result }
     ensures finds { FindsIn S.Store version conn.old conn.new

@@ -1,5 +1,5 @@
-//! Whether the keeper can go on: failures of its store are counted, and after each the store is looked
-//! at.
+//! Whether the keeper can go on. If a call fails with `Store`, the store is looked at, and the failure is
+//! counted.
 ghost use Rattle.std.specs.Prelude.{◌≡◌, true, false, Err, IsOk, IsTrue, Some};
 ghost use Rattle.sqlite.specs.Held.{state};
 ghost use Rattle.sqlite.specs.declared.error.Error.TheVariants.{SqliteFailure};
@@ -20,10 +20,102 @@ pub(crate) struct Health {
     pub(crate) faults: u64,
 }
 
-/// What the answer to a statement that was to be prepared tells: that the store is open, or that it is
-/// shut, or nothing, for want of memory. Each call of a store that is shut is answered by `Closed`,
-/// before anything else is looked at.
-fn seen_by(prepared: Result<Statement, Error>) -> Option<bool>
+impl Health {
+    /// What is known of a store of which no call has failed.
+    pub(crate) fn fresh() -> Health
+        ensures { result ≡ record { is_open = true; faults = 0 } }
+    {
+        Health {
+            is_open: true,
+            faults: 0,
+        }
+    }
+
+    /// Counts one more failure.
+    fn count_failure(&mut self)
+        ensures counts { IsOneMore self.old.faults self.new.faults }
+        ensures keeps { self.new.is_open ≡ self.old.is_open }
+    {
+        self.faults = self.faults.saturating_add(1);
+    }
+
+    /// Looks whether the store is open still, and counts the failure. Without memory to look it answers
+    /// `Memory`, and counts nothing.
+    fn after_store_failure<S: Alter>(&mut self, conn: &mut Connection<S>) -> Failure
+        requires { IsTrue self.old.is_open }
+        ensures looks { Looks (state S.Store conn.old) (state S.Store conn.new) }
+        ensures tells { TellsFailure (state S.Store conn.new) self.new.is_open
+            self.old.faults self.new.faults result }
+    {
+        match look(conn) {
+            Some(is_open) => {
+                self.count_failure();
+                self.is_open = is_open;
+                Failure::Store
+            }
+            None => Failure::Memory,
+        }
+    }
+
+    /// What is told of a failure.
+    fn after_failure<S: Alter>(&mut self, conn: &mut Connection<S>, failure: Failure) -> Failure
+        requires { IsTrue self.old.is_open }
+        ensures looks { Looks (state S.Store conn.old) (state S.Store conn.new) }
+        ensures tells { TellsFailure (state S.Store conn.new) self.new.is_open
+            self.old.faults self.new.faults result }
+    {
+        match failure {
+            Failure::Memory => Failure::Memory,
+            Failure::Store => self.after_store_failure(conn),
+        }
+    }
+
+    /// What is told of a reading. If it failed with `Store`, the store is looked at first. Each call of a
+    /// shut keeper fails with `Store`, and is counted.
+    pub(crate) fn after_reading<S: Alter, X: Drop>(
+        &mut self,
+        conn: &mut Connection<S>,
+        read: Result<X, Failure>,
+    ) -> Result<X, Failure>
+        ensures { TellsReading (state S.Store conn.old) (state S.Store conn.new) self.old.is_open
+            self.new.is_open self.old.faults self.new.faults read result }
+    {
+        if !self.is_open {
+            self.count_failure();
+            return Err(Failure::Store);
+        }
+        match read {
+            Ok(x) => Ok(x),
+            Err(failure) => Err(self.after_failure(conn, failure)),
+        }
+    }
+
+    /// What is told of a change, as of a reading.
+    pub(crate) fn after_change<S: Alter, X: Drop>(
+        &mut self,
+        conn: &mut Connection<S>,
+        done: Result<X, ChangeError>,
+    ) -> Result<X, ChangeError>
+        ensures { TellsChange (state S.Store conn.old) (state S.Store conn.new) self.old.is_open
+            self.new.is_open self.old.faults self.new.faults done result }
+    {
+        if !self.is_open {
+            self.count_failure();
+            return Err(ChangeError::Failed(Failure::Store));
+        }
+        match done {
+            Ok(x) => Ok(x),
+            Err(ChangeError::Refused(refusal)) => Err(ChangeError::Refused(refusal)),
+            Err(ChangeError::Failed(failure)) => {
+                Err(ChangeError::Failed(self.after_failure(conn, failure)))
+            }
+        }
+    }
+}
+
+/// Whether the store is open, by the answer to a statement that was to be prepared, unless that tells want
+/// of memory. Each call of a shut store is answered by `Closed`, before anything else is looked at.
+fn open_state_of(prepared: Result<Statement, Error>) -> Option<bool>
     ensures opened { result ≡ Some true → IsOk prepared }
     ensures shut { result ≡ Some false → prepared ≡ Err (SqliteFailure Closed) }
 {
@@ -40,85 +132,5 @@ fn look<S: Alter>(conn: &mut Connection<S>) -> Option<bool>
     ensures sees { Sees (state S.Store conn.new) result }
 {
     let prepared = conn.prepare(sql::PROBE);
-    seen_by(prepared)
-}
-
-/// Counts one more failure.
-fn count_fault(faults: &mut u64)
-    ensures { IsOneMore faults.old faults.new }
-{
-    *faults = faults.saturating_add(1);
-}
-
-/// Counts a failure of the store, and sets whether it is open still. Where there is no memory to look,
-/// that is what is told.
-fn store_failed<S: Alter>(conn: &mut Connection<S>, health: &mut Health) -> Failure
-    requires { IsTrue health.old.is_open }
-    ensures looks { Looks (state S.Store conn.old) (state S.Store conn.new) }
-    ensures tells { TellsFailure (state S.Store conn.new) health.new.is_open
-        health.old.faults health.new.faults result }
-{
-    match look(conn) {
-        Some(still) => {
-            health.is_open = still;
-            count_fault(&mut health.faults);
-            Failure::Store
-        }
-        None => Failure::Memory,
-    }
-}
-
-/// What is told of a failure.
-fn failed<S: Alter>(conn: &mut Connection<S>, health: &mut Health, failure: Failure) -> Failure
-    requires { IsTrue health.old.is_open }
-    ensures looks { Looks (state S.Store conn.old) (state S.Store conn.new) }
-    ensures tells { TellsFailure (state S.Store conn.new) health.new.is_open
-        health.old.faults health.new.faults result }
-{
-    match failure {
-        Failure::Memory => Failure::Memory,
-        Failure::Store => store_failed(conn, health),
-    }
-}
-
-/// What is told of a reading: a failure of the store is counted, and then the store is looked at. All
-/// that is asked of a keeper that is shut has failed so.
-pub(crate) fn after_reading<S: Alter, X: Drop>(
-    conn: &mut Connection<S>,
-    health: &mut Health,
-    read: Result<X, Failure>,
-) -> Result<X, Failure>
-    ensures { TellsReading (state S.Store conn.old) (state S.Store conn.new) health.old.is_open
-        health.new.is_open health.old.faults health.new.faults read result }
-{
-    if !health.is_open {
-        count_fault(&mut health.faults);
-        return Err(Failure::Store);
-    }
-    match read {
-        Ok(x) => Ok(x),
-        Err(failure) => Err(failed(conn, health, failure)),
-    }
-}
-
-/// What is told of a change, as of a reading.
-pub(crate) fn after_change<S: Alter, X: Drop>(
-    conn: &mut Connection<S>,
-    health: &mut Health,
-    done: Result<X, ChangeError>,
-) -> Result<X, ChangeError>
-    ensures { TellsChange (state S.Store conn.old) (state S.Store conn.new) health.old.is_open
-        health.new.is_open health.old.faults health.new.faults done result }
-{
-    if !health.is_open {
-        count_fault(&mut health.faults);
-        return Err(ChangeError::Failed(Failure::Store));
-    }
-    match done {
-        Ok(x) => Ok(x),
-        Err(ChangeError::Refused(refusal)) => Err(ChangeError::Refused(refusal)),
-        Err(ChangeError::Failed(failure)) => {
-            Err(ChangeError::Failed(failed(conn, health, failure)))
-        }
-    }
+    open_state_of(prepared)
 }

@@ -1,5 +1,5 @@
 //! Laws of a keeper that was opened: it is sound while its store is open, its tables open again, and so does
-//! what a stop has left of them. A law does nothing when it runs.
+//! what a crash has left of them. A law does nothing when it runs.
 ghost use Rattle.std.specs.Prelude.{◌≡◌, Ok, IsTrue};
 ghost use Rattle.sqlite.specs.Held.{state};
 ghost use Rattle.xa_store.specs.Keeper.{IsSound};
@@ -26,8 +26,8 @@ impl<S: Alter> SqlRecords<S> {
         ensures { IsSound S.Store self.now → opened Schema2 (state S.Store self.now.conn).now.trees ≡ Ok tt }
     {}
 
-    /// Law: a connection that was just opened over what a stop of this keeper has left rests on a
-    /// keeper's tables, which `open` finds sound, and they mean one of the maps that the stop may leave,
+    /// Law: a connection that was just opened over what a crash of this keeper has left rests on a
+    /// keeper's tables, which `open` finds sound, and they mean one of the maps that the crash may leave,
     /// if it doesn't leave just any. So `open` gives that map, by a keeper that is sound, or it tells
     /// want of memory or a failure of the store.
     pub fn reopens<T: Alter>(&self, conn: &Connection<T>)

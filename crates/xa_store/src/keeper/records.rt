@@ -3,13 +3,8 @@
 ghost use Rattle.std.proofs.Common.{◌∙◌};
 ghost use Rattle.xa_store.specs.KeeperReading.{custody_by};
 
-use crate::change::document::{delete_in, set_active_in, upload_in};
-use crate::change::domain::{create_in, remove_in};
-use crate::change::root::set_root_in;
-use crate::change::source::set_source_in;
-use crate::change::token::{drop_token_in, put_token_in};
+use crate::change::{document, domain, root, source, token};
 use crate::keeper::SqlRecords;
-use crate::keeper::health::{after_change, after_reading};
 use crate::query::name::names_in;
 use crate::query::reading::{gate_by_name, listing_by_name, text_by_name, view_by_name};
 use sqlite::Alter;
@@ -40,12 +35,12 @@ impl<S: Alter> Records for SqlRecords<S> {
 
     fn gate(&mut self, alloc: Global, name: &Text) -> Result<Option<Gate>, Failure> {
         let read = gate_by_name(alloc, &mut self.conn, name);
-        after_reading(&mut self.conn, &mut self.health, read)
+        self.health.after_reading(&mut self.conn, read)
     }
 
     fn view(&mut self, alloc: Global, name: &Text) -> Result<Option<KeptView>, Failure> {
         let read = view_by_name(alloc, &mut self.conn, name);
-        after_reading(&mut self.conn, &mut self.health, read)
+        self.health.after_reading(&mut self.conn, read)
     }
 
     fn document(
@@ -55,27 +50,27 @@ impl<S: Alter> Records for SqlRecords<S> {
         key: &DocumentKey,
     ) -> Result<Option<Items<u8>>, Failure> {
         let read = text_by_name(alloc, &mut self.conn, name, key);
-        after_reading(&mut self.conn, &mut self.health, read)
+        self.health.after_reading(&mut self.conn, read)
     }
 
     fn list(&mut self, alloc: Global, name: &Text) -> Result<Option<Items<Listed>>, Failure> {
         let read = listing_by_name(alloc, &mut self.conn, name);
-        after_reading(&mut self.conn, &mut self.health, read)
+        self.health.after_reading(&mut self.conn, read)
     }
 
     fn domains(&mut self, alloc: Global) -> Result<Items<Text>, Failure> {
         let read = names_in(alloc, &mut self.conn);
-        after_reading(&mut self.conn, &mut self.health, read)
+        self.health.after_reading(&mut self.conn, read)
     }
 
     fn create(&mut self, alloc: Global, name: &Text) -> Result<(), ChangeError> {
-        let done = create_in(alloc, &mut self.conn, name);
-        after_change(&mut self.conn, &mut self.health, done)
+        let done = domain::create(alloc, &mut self.conn, name);
+        self.health.after_change(&mut self.conn, done)
     }
 
     fn remove(&mut self, alloc: Global, name: &Text) -> Result<(), ChangeError> {
-        let done = remove_in(alloc, &mut self.conn, name);
-        after_change(&mut self.conn, &mut self.health, done)
+        let done = domain::remove(alloc, &mut self.conn, name);
+        self.health.after_change(&mut self.conn, done)
     }
 
     fn put_token(
@@ -85,8 +80,8 @@ impl<S: Alter> Records for SqlRecords<S> {
         digest: Digest,
         role: Role,
     ) -> Result<(), ChangeError> {
-        let done = put_token_in(alloc, &mut self.conn, name, digest, role);
-        after_change(&mut self.conn, &mut self.health, done)
+        let done = token::put(alloc, &mut self.conn, name, digest, role);
+        self.health.after_change(&mut self.conn, done)
     }
 
     fn drop_token(
@@ -95,8 +90,8 @@ impl<S: Alter> Records for SqlRecords<S> {
         name: &Text,
         digest: Digest,
     ) -> Result<(), ChangeError> {
-        let done = drop_token_in(alloc, &mut self.conn, name, digest);
-        after_change(&mut self.conn, &mut self.health, done)
+        let done = token::drop_token(alloc, &mut self.conn, name, digest);
+        self.health.after_change(&mut self.conn, done)
     }
 
     fn upload(
@@ -106,8 +101,8 @@ impl<S: Alter> Records for SqlRecords<S> {
         key: DocumentKey,
         text: &[u8],
     ) -> Result<Upload, ChangeError> {
-        let done = upload_in(alloc, &mut self.conn, name, key, text);
-        after_change(&mut self.conn, &mut self.health, done)
+        let done = document::upload(alloc, &mut self.conn, name, key, text);
+        self.health.after_change(&mut self.conn, done)
     }
 
     fn set_active(
@@ -117,13 +112,13 @@ impl<S: Alter> Records for SqlRecords<S> {
         key: &DocumentKey,
         active: bool,
     ) -> Result<(), ChangeError> {
-        let done = set_active_in(alloc, &mut self.conn, name, key, active);
-        after_change(&mut self.conn, &mut self.health, done)
+        let done = document::set_active(alloc, &mut self.conn, name, key, active);
+        self.health.after_change(&mut self.conn, done)
     }
 
     fn delete(&mut self, alloc: Global, name: &Text, key: &DocumentKey) -> Result<(), ChangeError> {
-        let done = delete_in(alloc, &mut self.conn, name, key);
-        after_change(&mut self.conn, &mut self.health, done)
+        let done = document::delete(alloc, &mut self.conn, name, key);
+        self.health.after_change(&mut self.conn, done)
     }
 
     fn set_root(
@@ -132,8 +127,8 @@ impl<S: Alter> Records for SqlRecords<S> {
         name: &Text,
         root: Option<Reference>,
     ) -> Result<(), ChangeError> {
-        let done = set_root_in(alloc, &mut self.conn, name, root);
-        after_change(&mut self.conn, &mut self.health, done)
+        let done = root::set(alloc, &mut self.conn, name, root);
+        self.health.after_change(&mut self.conn, done)
     }
 
     fn set_source(
@@ -142,7 +137,7 @@ impl<S: Alter> Records for SqlRecords<S> {
         name: &Text,
         rows: Items<SourceRow>,
     ) -> Result<(), ChangeError> {
-        let done = set_source_in(alloc, &mut self.conn, name, rows);
-        after_change(&mut self.conn, &mut self.health, done)
+        let done = source::set(alloc, &mut self.conn, name, rows);
+        self.health.after_change(&mut self.conn, done)
     }
 }

@@ -44,10 +44,7 @@ pub(crate) fn text_if_any(row: &Row, at: usize) -> Result<Option<Text>, Failure>
     ensures { IfOk result (λ text. text ≡ unless_null bytes_of (column row.now at)) }
 {
     let text = row.get::<Option<String>>(at).map_err(failure_of)?;
-    let Some(text) = text else {
-        return Ok(None);
-    };
-    Ok(Some(Text::from_string(text)))
+    Ok(text.map(Text::from_string))
 }
 
 /// The flag in a column: 0 or 1.
@@ -115,11 +112,9 @@ pub(crate) fn version_if_any(row: &Row, at: usize) -> Result<Option<Version>, Fa
     ensures { IfOk result (λ version. version
         ≡ option_and_then (λ text. given (read_version text)) (unless_null bytes_of (column row.now at))) }
 {
-    let Some(text) = text_if_any(row, at)? else {
-        return Ok(None);
-    };
-    let version = Version::read(text.as_str()).map_err(|_| Failure::Store)?;
-    Ok(Some(version))
+    text_if_any(row, at)?
+        .map(|text| Version::read(text.as_str()).map_err(|_| Failure::Store))
+        .transpose()
 }
 
 /// The pattern of versions in a column that may hold none.
@@ -127,9 +122,7 @@ pub(crate) fn pattern_if_any(row: &Row, at: usize) -> Result<Option<Pattern>, Fa
     ensures { IfOk result (λ pattern. pattern
         ≡ option_and_then (λ text. given (read_pattern text)) (unless_null bytes_of (column row.now at))) }
 {
-    let Some(text) = text_if_any(row, at)? else {
-        return Ok(None);
-    };
-    let pattern = Pattern::read(text.as_str()).map_err(|_| Failure::Store)?;
-    Ok(Some(pattern))
+    text_if_any(row, at)?
+        .map(|text| Pattern::read(text.as_str()).map_err(|_| Failure::Store))
+        .transpose()
 }

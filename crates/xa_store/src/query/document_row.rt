@@ -31,16 +31,6 @@ impl FromRow for DocumentFound {
     }
 }
 
-/// The key that a row begins with.
-fn key_in(row: &Row) -> Result<DocumentKey, Failure>
-    ensures { IfOk result (λ key. key ≡ key_told row.now) }
-{
-    let kind = kind_in(row, document_key::KIND)?;
-    let id = text_in(row, document_key::ID)?;
-    let version = version_in(row, document_key::VERSION)?;
-    Ok(DocumentKey { kind, id, version })
-}
-
 /// Read from the columns of `sql::DOCUMENTS`.
 impl FromRow for Listed {
     ghost told = { listed_told };
@@ -61,4 +51,14 @@ impl FromRow for ActiveText {
         let text = bytes_in(row, active_text::BODY)?;
         Ok(ActiveText { key, text })
     }
+}
+
+/// The key that a row begins with.
+fn key_in(row: &Row) -> Result<DocumentKey, Failure>
+    ensures { IfOk result (λ key. key ≡ key_told row.now) }
+{
+    let kind = kind_in(row, document_key::KIND)?;
+    let id = text_in(row, document_key::ID)?;
+    let version = version_in(row, document_key::VERSION)?;
+    Ok(DocumentKey { kind, id, version })
 }

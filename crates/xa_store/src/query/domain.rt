@@ -21,22 +21,7 @@ pub(crate) struct DomainFound {
     pub epoch: i64,
 }
 
-/// The domain of that name, if there is one: neither its number nor its epoch is negative. A point
-/// query, whatever the number of domains.
-#[tactic(auto, using(crate::proofs::DomainLemmas::domain_plain))]
-pub(crate) fn domain_named<S: Alter>(
-    conn: &mut Connection<S>,
-    name: &Text,
-) -> Result<Option<DomainFound>, Failure>
-    ensures only_reads { OnlyReadsOver S.Store conn.old conn.new result }
-    ensures finds { ReadsRows S.Store conn.old conn.new result (FindsDomain name.now) }
-{
-    let rows = query_rows(conn, sql::DOMAIN, &[ValueRef::Text(name.as_bytes())])?;
-    read_domain(rows.as_slice())
-}
-
-/// The domain that rows of `sql::DOMAIN` tell: none, where there is no row, and a failure where there are
-/// several.
+/// The domain that rows of `sql::DOMAIN` tell: none if there is no row, and a failure if there are several.
 fn read_domain(rows: &[Row]) -> Result<Option<DomainFound>, Failure>
     ensures { IfOk result (TellDomain rows.now) }
 {
@@ -52,4 +37,18 @@ fn read_domain(rows: &[Row]) -> Result<Option<DomainFound>, Failure>
         }
         _ => Err(Failure::Store),
     }
+}
+
+/// The domain of that name, if there is one: neither its number nor its epoch is negative. A point
+/// query, whatever the number of domains.
+#[tactic(auto, using(crate::proofs::DomainLemmas::domain_plain))]
+pub(crate) fn domain_named<S: Alter>(
+    conn: &mut Connection<S>,
+    name: &Text,
+) -> Result<Option<DomainFound>, Failure>
+    ensures only_reads { OnlyReadsOver S.Store conn.old conn.new result }
+    ensures finds { ReadsRows S.Store conn.old conn.new result (FindsDomain name.now) }
+{
+    let rows = query_rows(conn, sql::DOMAIN, &[ValueRef::Text(name.as_bytes())])?;
+    read_domain(rows.as_slice())
 }

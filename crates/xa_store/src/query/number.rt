@@ -9,18 +9,8 @@ use crate::sql;
 use sqlite::{Alter, Connection, Row};
 use xa_records::Failure;
 
-/// The number that the next domain gets. A point query.
-#[tactic(auto, using(crate::proofs::NextLemmas::next_plain))]
-pub(crate) fn next_number<S: Alter>(conn: &mut Connection<S>) -> Result<i64, Failure>
-    ensures only_reads { OnlyReadsOver S.Store conn.old conn.new result }
-    ensures finds { ReadsRows S.Store conn.old conn.new result IsNext }
-{
-    let rows = query_rows(conn, sql::NEXT_NUMBER, &[])?;
-    read_next(rows.as_slice())
-}
-
-/// The number that the one row of `sql::NEXT_NUMBER` tells, whose column is next_number; a failure of the
-/// store, where there is none or several.
+/// The number that the one row of `sql::NEXT_NUMBER` tells, whose column is next_number. No row, and
+/// several, are a failure of the store.
 fn read_next(rows: &[Row]) -> Result<i64, Failure>
     ensures { IfOk result (TellNext rows.now) }
 {
@@ -34,4 +24,14 @@ fn read_next(rows: &[Row]) -> Result<i64, Failure>
         }
         _ => Err(Failure::Store),
     }
+}
+
+/// The number that the next domain gets. A point query.
+#[tactic(auto, using(crate::proofs::NextLemmas::next_plain))]
+pub(crate) fn next_number<S: Alter>(conn: &mut Connection<S>) -> Result<i64, Failure>
+    ensures only_reads { OnlyReadsOver S.Store conn.old conn.new result }
+    ensures finds { ReadsRows S.Store conn.old conn.new result IsNext }
+{
+    let rows = query_rows(conn, sql::NEXT_NUMBER, &[])?;
+    read_next(rows.as_slice())
 }

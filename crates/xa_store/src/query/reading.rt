@@ -1,7 +1,8 @@
 //! The readings of a domain by its name: its gate, its view, a document's text, and its list of
 //! documents.
 ghost use Rattle.std.specs.Prelude.{◌≡◌, pos, Some, IfOk};
-ghost use Rattle.xa_records.specs.Readings.{gate_of, listing_of, text_in, text_of, view_of, view_of_state};
+ghost use Rattle.xa_records.specs.Readings.{gate_of, kept_view_of, listing_of, text_in, text_of};
+ghost use Rattle.xa_records.specs.Readings.{view_of_state};
 ghost use Rattle.xa_store.specs.Lookup.{TellsGate};
 ghost use Rattle.xa_store.specs.Quiet.{OnlyReadsOver, ReadsRows};
 ghost use Rattle.xa_store.specs.World.{kept_of, state_at};
@@ -18,7 +19,7 @@ use xa_records::{Failure, Gate, KeptView, Listed, Token};
 use xa_value::{Items, Text};
 
 /// The number, which isn't negative.
-fn natural(number: i64) -> Result<u64, Failure>
+fn natural_of(number: i64) -> Result<u64, Failure>
     ensures { IfOk result (λ n. number ≡ pos n) }
 {
     u64::try_from(number).map_err(|_| Failure::Store)
@@ -28,8 +29,8 @@ fn natural(number: i64) -> Result<u64, Failure>
 fn gate_by(domain: DomainFound, tokens: Items<Token>) -> Result<Gate, Failure>
     ensures { IfOk result (TellsGate domain tokens) }
 {
-    let number = natural(domain.number)?;
-    let epoch = natural(domain.epoch)?;
+    let number = natural_of(domain.number)?;
+    let epoch = natural_of(domain.epoch)?;
     Ok(Gate {
         number,
         epoch,
@@ -56,6 +57,23 @@ pub(crate) fn gate_by_name<S: Alter>(
     Ok(Some(gate))
 }
 
+/// The text of the document of that key in the domain of that number.
+fn text_at<S: Alter>(
+    alloc: Global,
+    conn: &mut Connection<S>,
+    number: i64,
+    key: &DocumentKey,
+) -> Result<Option<Items<u8>>, Failure>
+    ensures only_reads { OnlyReadsOver S.Store conn.old conn.new result }
+    ensures reads { ReadsRows S.Store conn.old conn.new result
+        (λ rows text. text ≡ text_in key.now (state_at rows number)) }
+{
+    match document_of(alloc, conn, number, key)? {
+        Some(document) => Ok(Some(document.text)),
+        None => Ok(None),
+    }
+}
+
 /// The text of the document of that key: two point queries, and time in proportion to the text.
 pub(crate) fn text_by_name<S: Alter>(
     alloc: Global,
@@ -72,23 +90,6 @@ pub(crate) fn text_by_name<S: Alter>(
         return Ok(None);
     };
     text_at(alloc, conn, domain.number, key)
-}
-
-/// The text of the document of that key in the domain of that number.
-fn text_at<S: Alter>(
-    alloc: Global,
-    conn: &mut Connection<S>,
-    number: i64,
-    key: &DocumentKey,
-) -> Result<Option<Items<u8>>, Failure>
-    ensures only_reads { OnlyReadsOver S.Store conn.old conn.new result }
-    ensures reads { ReadsRows S.Store conn.old conn.new result
-        (λ rows text. text ≡ text_in key.now (state_at rows number)) }
-{
-    match document_of(alloc, conn, number, key)? {
-        Some(document) => Ok(Some(document.text)),
-        None => Ok(None),
-    }
 }
 
 /// The domain's documents, in the order of their keys: two queries, and time in proportion to their texts,
@@ -110,25 +111,6 @@ pub(crate) fn listing_by_name<S: Alter>(
     Ok(Some(listed))
 }
 
-/// What decides in the domain: four queries, and time in proportion to all its texts, active or not, and to
-/// its source.
-pub(crate) fn view_by_name<S: Alter>(
-    alloc: Global,
-    conn: &mut Connection<S>,
-    name: &Text,
-) -> Result<Option<KeptView>, Failure>
-    ensures only_reads { OnlyReadsOver S.Store conn.old conn.new result }
-    ensures reads { ReadsRows S.Store conn.old conn.new result
-        (λ rows view. view ≡ view_of name.now (kept_of rows)) }
-{
-    let found = domain_named(conn, name)?;
-    let Some(domain) = found else {
-        return Ok(None);
-    };
-    let view = view_at(alloc, conn, domain.number)?;
-    Ok(Some(view))
-}
-
 /// What decides in the domain of that number.
 fn view_at<S: Alter>(
     alloc: Global,
@@ -147,4 +129,23 @@ fn view_at<S: Alter>(
         root,
         source,
     })
+}
+
+/// What decides in the domain: four queries, and time in proportion to all its texts, active or not, and to
+/// its source.
+pub(crate) fn view_by_name<S: Alter>(
+    alloc: Global,
+    conn: &mut Connection<S>,
+    name: &Text,
+) -> Result<Option<KeptView>, Failure>
+    ensures only_reads { OnlyReadsOver S.Store conn.old conn.new result }
+    ensures reads { ReadsRows S.Store conn.old conn.new result
+        (λ rows view. view ≡ kept_view_of name.now (kept_of rows)) }
+{
+    let found = domain_named(conn, name)?;
+    let Some(domain) = found else {
+        return Ok(None);
+    };
+    let view = view_at(alloc, conn, domain.number)?;
+    Ok(Some(view))
 }

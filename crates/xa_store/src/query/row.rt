@@ -18,7 +18,7 @@ pub(crate) trait FromRow: Sized {
         ensures { IfOk result (λ x. x ≡ told row.now) };
 }
 
-/// What is read from the one row, if there is one; a failure of the store, where there are several.
+/// What is read from the one row, if there is one. Several rows are a failure of the store.
 pub(crate) fn read_one<T: FromRow>(alloc: Global, rows: &[Row]) -> Result<Option<T>, Failure>
     ensures { IfOk result (TellsOne T.FromRow.told rows.now) }
 {

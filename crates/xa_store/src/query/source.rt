@@ -19,17 +19,6 @@ use xa_decide::SourceRow;
 use xa_records::Failure;
 use xa_value::{Items, Value};
 
-/// The value that two columns hold: its data type, and its text.
-#[tactic(auto, unfolding(crate::specs::Rows::value_in))]
-fn value_in(alloc: Global, row: &Row, at: usize, text_at: usize) -> Result<Value, Failure>
-    ensures { IfOk result (λ value.
-        value ≡ value_in (int_of (column row.now at)) (bytes_of (column row.now text_at))) }
-{
-    let data_type = type_in(row, at)?;
-    let text = text_in(row, text_at)?;
-    Ok(Value::read(alloc, data_type, text.as_str())?)
-}
-
 /// Read from the columns of `sql::SOURCE`.
 impl FromRow for SourceRow {
     ghost told = { source_told };
@@ -48,6 +37,17 @@ impl FromRow for SourceRow {
             issuer,
         })
     }
+}
+
+/// The value that two columns hold: its data type, and its text.
+#[tactic(auto, unfolding(crate::specs::Rows::value_in))]
+fn value_in(alloc: Global, row: &Row, at: usize, text_at: usize) -> Result<Value, Failure>
+    ensures { IfOk result (λ value.
+        value ≡ value_in (int_of (column row.now at)) (bytes_of (column row.now text_at))) }
+{
+    let data_type = type_in(row, at)?;
+    let text = text_in(row, text_at)?;
+    Ok(Value::read(alloc, data_type, text.as_str())?)
 }
 
 /// The rows of the source of the domain of that number, in the order of their places. In time in

@@ -1,10 +1,10 @@
 //! The tables whose rows are checked one by one when a store is opened, each by two queries.
 ghost use Rattle.std.specs.Prelude.{◌≡◌};
-ghost use Rattle.xa_store.specs.Check.{order_text_of, text_of};
+ghost use Rattle.xa_store.specs.Check.{order_query, rows_query};
 
 use crate::sql;
 
-/// A table whose rows are checked one by one: each but the first.
+/// A table whose rows are checked one by one: each but `meta`.
 #[derive(Clone, Copy, Debug)]
 pub(crate) enum CheckedTable {
     /// The domains, by their numbers.
@@ -25,7 +25,7 @@ impl CheckedTable {
     /// The query of all rows of the table, in the order of their rowids. A bare column of a row's own
     /// key is its rowid.
     pub(crate) fn rows_query(self) -> &'static str
-        ensures { result.now ≡ text_of self }
+        ensures { result.now ≡ rows_query self }
     {
         match self {
             CheckedTable::Domains => sql::DOMAIN_ROWS,
@@ -42,7 +42,7 @@ impl CheckedTable {
     /// only an aggregate tells the order in which a table has its rows. It makes two texts of all
     /// rowids, and its cost grows as that of sorting them.
     pub(crate) fn order_query(self) -> &'static str
-        ensures { result.now ≡ order_text_of self }
+        ensures { result.now ≡ order_query self }
     {
         match self {
             CheckedTable::Domains => sql::DOMAIN_ORDER,

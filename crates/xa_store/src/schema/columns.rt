@@ -1,4 +1,5 @@
-//! The columns that each table has in a keeper's store.
+//! The columns that each table has in a keeper's store. A group that is used once, as `are_key_columns`, is
+//! a function for the prover alone, which takes a conjunction of so many parts only in groups.
 ghost use Rattle.std.specs.Prelude.{◌≡◌, ◌↔◌, ◌∷◌, [], true, IsTrue, codes};
 ghost use Rattle.sqlite.specs.Collation.TheVariants.{Binary};
 ghost use Rattle.sqlite.specs.declared.types.Value.TheVariants.{Null};

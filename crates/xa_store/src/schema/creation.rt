@@ -1,9 +1,9 @@
 //! The creation of the tables, in one transaction.
-ghost use Rattle.std.specs.Prelude.{◌≡◌, IsTrue, OnOk};
+ghost use Rattle.std.specs.Prelude.{◌≡◌, [], ◌∷◌, IsTrue, OnOk};
 ghost use Rattle.sqlite.specs.Held.{state};
 ghost use Rattle.sqlite.specs.State.{HasCleanDisk};
 ghost use Rattle.xa_store.specs.Check.{Made};
-ghost use Rattle.xa_store.specs.Creation.{text_of, AreMade, IsAfter, IsBefore};
+ghost use Rattle.xa_store.specs.Creation.{part_statement, AreMade, IsAfter, IsBefore};
 ghost use Rattle.xa_store.specs.Execution.{StaysInside};
 ghost use Rattle.xa_store.specs.declared.schema.creation.Part.TheVariants as parts;
 
@@ -31,14 +31,31 @@ pub(super) enum Part {
     Attributes,
     /// The table of the rows of their sources.
     Sources,
-    /// The one row of the first table.
+    /// The one row of `meta`.
     FirstRow,
 }
 
 impl Part {
+    /// All parts, in the order in which they are made.
+    fn all() -> [Part; 8]
+        ensures { result ≡ parts.Meta ∷ parts.Domains ∷ parts.Tokens ∷ parts.Policies ∷ parts.Roots
+            ∷ parts.Attributes ∷ parts.Sources ∷ parts.FirstRow ∷ [] }
+    {
+        [
+            Part::Meta,
+            Part::Domains,
+            Part::Tokens,
+            Part::Policies,
+            Part::Roots,
+            Part::Attributes,
+            Part::Sources,
+            Part::FirstRow,
+        ]
+    }
+
     /// The SQL that makes it.
     pub(super) fn statement(self) -> &'static str
-        ensures { result.now ≡ text_of self }
+        ensures { result.now ≡ part_statement self }
     {
         match self {
             Part::Meta => sql::CREATE_META,
@@ -65,36 +82,6 @@ fn make_part<S: Alter>(tx: &mut Transaction<'_, S>, part: Part) -> Result<(), Fa
     execute_in(tx, part.statement(), &[])
 }
 
-/// Makes the first four tables. All parts are made in two halves for the proof alone.
-fn make_first_parts<S: Alter>(tx: &mut Transaction<'_, S>) -> Result<(), Failure>
-    ensures same_reference { tx.new.conn.ghost_name ≡ tx.old.conn.ghost_name }
-    ensures stays { StaysInside (state S.Store tx.old.conn.now) (state S.Store tx.new.conn.now) result }
-    ensures makes { HasCleanDisk (state S.Store tx.new.conn.now)
-        → IsTrue (state S.Store tx.old.conn.now).in_transaction
-        → IsBefore parts.Meta (state S.Store tx.old.conn.now).now
-        → OnOk result (IsBefore parts.Roots (state S.Store tx.new.conn.now).now) }
-{
-    make_part(tx, Part::Meta)?;
-    make_part(tx, Part::Domains)?;
-    make_part(tx, Part::Tokens)?;
-    make_part(tx, Part::Policies)
-}
-
-/// Makes the other tables, and the first row.
-fn make_other_parts<S: Alter>(tx: &mut Transaction<'_, S>) -> Result<(), Failure>
-    ensures same_reference { tx.new.conn.ghost_name ≡ tx.old.conn.ghost_name }
-    ensures stays { StaysInside (state S.Store tx.old.conn.now) (state S.Store tx.new.conn.now) result }
-    ensures makes { HasCleanDisk (state S.Store tx.new.conn.now)
-        → IsTrue (state S.Store tx.old.conn.now).in_transaction
-        → IsBefore parts.Roots (state S.Store tx.old.conn.now).now
-        → OnOk result (AreMade (state S.Store tx.new.conn.now).now) }
-{
-    make_part(tx, Part::Roots)?;
-    make_part(tx, Part::Attributes)?;
-    make_part(tx, Part::Sources)?;
-    make_part(tx, Part::FirstRow)
-}
-
 /// Makes all parts, one after another.
 fn make_parts<S: Alter>(tx: &mut Transaction<'_, S>) -> Result<(), Failure>
     ensures same_reference { tx.new.conn.ghost_name ≡ tx.old.conn.ghost_name }
@@ -104,8 +91,10 @@ fn make_parts<S: Alter>(tx: &mut Transaction<'_, S>) -> Result<(), Failure>
         → IsBefore parts.Meta (state S.Store tx.old.conn.now).now
         → OnOk result (AreMade (state S.Store tx.new.conn.now).now) }
 {
-    make_first_parts(tx)?;
-    make_other_parts(tx)
+    for part in Part::all() {
+        make_part(tx, part)?;
+    }
+    Ok(())
 }
 
 /// Makes the tables, all or none.
@@ -117,8 +106,5 @@ pub(crate) fn make<S: Alter>(conn: &mut Connection<S>) -> Result<(), OpenError>
     }
     let mut tx = conn.transaction();
     make_parts(&mut tx)?;
-    match tx.commit() {
-        Ok(()) => Ok(()),
-        Err(error) => Err(error_of_statement(error)),
-    }
+    tx.commit().map_err(error_of_statement)
 }

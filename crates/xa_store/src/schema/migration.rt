@@ -4,7 +4,7 @@ ghost use Rattle.sqlite.specs.Held.{state};
 ghost use Rattle.sqlite.specs.State.{HasCleanDisk};
 ghost use Rattle.sqlite.specs.Tree.{Trees};
 ghost use Rattle.xa_store.specs.Check.{Migrated};
-ghost use Rattle.xa_store.specs.Migration.{text_of, IsAfter, IsBefore, IsDone, IsSoundFirst};
+ghost use Rattle.xa_store.specs.Migration.{stage_statement, IsAfter, IsBefore, IsDone, IsSoundFirst};
 ghost use Rattle.xa_store.specs.Execution.{StaysInside};
 ghost use Rattle.xa_store.specs.declared.schema.migration.Stage.TheVariants as stages;
 
@@ -30,10 +30,10 @@ enum Stage {
 }
 
 impl Stage {
-    /// Its SQL. It takes time and memory in proportion to the rows of sources of all domains, of which
-    /// none is held here.
+    /// Its SQL. The database takes time and memory in proportion to all source rows; none passes through
+    /// this program.
     fn statement(self) -> &'static str
-        ensures { result.now ≡ text_of self }
+        ensures { result.now ≡ stage_statement self }
     {
         match self {
             Stage::Sources => Part::Sources.statement(),
@@ -80,8 +80,5 @@ pub(crate) fn migrate<S: Alter>(conn: &mut Connection<S>) -> Result<(), OpenErro
     }
     let mut tx = conn.transaction();
     take_all(&mut tx)?;
-    match tx.commit() {
-        Ok(()) => Ok(()),
-        Err(error) => Err(error_of_statement(error)),
-    }
+    tx.commit().map_err(error_of_statement)
 }

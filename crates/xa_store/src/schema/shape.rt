@@ -1,7 +1,7 @@
 //! The tables and indexes that a keeper's store has, with no others beside them. The trees of tables and of
-//! their automatic indexes are numbered from 0 as they are made: a table's index comes after it. Some groups
-//! of tables or indexes have a function of their own for the prover alone: `are_meta_domains_and_tokens`,
-//! `are_policies_roots_and_attributes`, `are_name_and_digest_indexes` and `are_key_and_place_indexes`.
+//! their automatic indexes are numbered from 0 as they are made: a table's index comes after it. A group
+//! that is used once, as `are_meta_domains_and_tokens`, is a function for the prover alone, which takes a
+//! conjunction of so many parts only in groups.
 ghost use Rattle.std.specs.Prelude.{◌≡◌, ◌↔◌, false, [], ◌∷◌, None, Some, IsTrue, codes};
 ghost use Rattle.xa_store.specs.Opened.{schema_of};
 ghost use Rattle.xa_store.specs.Opening.{has_room, is_free, schema_version_in};
@@ -40,7 +40,7 @@ fn is_name(names: &[Bytes], name: &str) -> bool
 }
 
 /// Whether the reference goes from that column to a domain's number, and the row with its domain.
-fn is_of_domain(reference: &Reference, column: usize) -> bool
+fn is_domain_reference(reference: &Reference, column: usize) -> bool
     ensures { IsTrue result ↔ (reference.now ≡ record of_domain { columns = column ∷ [] }) }
 {
     is_place(reference.columns.as_slice(), column)
@@ -52,11 +52,11 @@ fn is_of_domain(reference: &Reference, column: usize) -> bool
 }
 
 /// Whether it is one reference, from that column to a domain's number.
-fn refers_by(references: &[Reference], column: usize) -> bool
+fn is_one_domain_reference(references: &[Reference], column: usize) -> bool
     ensures { IsTrue result ↔ (references.now ≡ record of_domain { columns = column ∷ [] } ∷ []) }
 {
     match references {
-        [one] => is_of_domain(one, column),
+        [one] => is_domain_reference(one, column),
         _ => false,
     }
 }
@@ -148,7 +148,7 @@ fn has_no_unique(table: &Table) -> bool
 }
 
 /// Whether the table's key is these columns, and its rows are of domains.
-fn is_of_domains(table: &Table, places: &[usize]) -> bool
+fn has_domain_key(table: &Table, places: &[usize]) -> bool
     ensures { IsTrue result
         ↔ ((table.now.key ≡ None) × (table.now.primary ≡ places.now) × (table.now.uniques ≡ places.now ∷ [])
         × (table.now.orders ≡ rising ∷ []) × (table.now.references ≡ of_domain ∷ [])) }
@@ -156,7 +156,7 @@ fn is_of_domains(table: &Table, places: &[usize]) -> bool
     table.key.is_none()
         && table.primary.as_slice() == places
         && has_unique(table, places)
-        && refers_by(table.references.as_slice(), 1)
+        && is_one_domain_reference(table.references.as_slice(), 1)
 }
 
 /// Whether it is the table of the schema's number and the next domain's.
@@ -187,7 +187,7 @@ fn is_tokens(table: &Table) -> bool
 {
     is_plain(table, "tokens", 3)
         && are_token_columns(table.columns.as_slice())
-        && is_of_domains(table, &[1, 2])
+        && has_domain_key(table, &[1, 2])
 }
 
 /// Whether it is the table of the domains' documents.
@@ -196,7 +196,7 @@ fn is_policies(table: &Table) -> bool
 {
     is_plain(table, "policies", 5)
         && are_policy_columns(table.columns.as_slice())
-        && is_of_domains(table, &[1, 2, 3, 4])
+        && has_domain_key(table, &[1, 2, 3, 4])
 }
 
 /// Whether it is the table of the domains' roots.
@@ -207,7 +207,7 @@ fn is_roots(table: &Table) -> bool
         && are_root_columns(table.columns.as_slice())
         && has_own_key(table)
         && has_no_unique(table)
-        && refers_by(table.references.as_slice(), 0)
+        && is_one_domain_reference(table.references.as_slice(), 0)
 }
 
 /// Whether it is the table of the rows of the domains' sources in schema 1.
@@ -216,7 +216,7 @@ fn is_attributes(table: &Table) -> bool
 {
     is_plain(table, "attributes", 8)
         && are_attribute_columns(table.columns.as_slice())
-        && is_of_domains(table, &[1, 2])
+        && has_domain_key(table, &[1, 2])
 }
 
 /// Whether it is the table of the rows of the domains' sources in schema 2.
@@ -225,10 +225,10 @@ fn is_sources(table: &Table) -> bool
 {
     is_plain(table, "sources", 10)
         && are_source_columns(table.columns.as_slice())
-        && is_of_domains(table, &[1, 2])
+        && has_domain_key(table, &[1, 2])
 }
 
-/// Whether they are the tables of the first row, of domains and of their tokens.
+/// Whether they are the tables `meta`, of domains and of their tokens.
 fn are_meta_domains_and_tokens(first: &Table, second: &Table, third: &Table) -> bool
     ensures { IsTrue result ↔ ((first.now ≡ meta) × (second.now ≡ domains) × (third.now ≡ tokens)) }
 {

@@ -1,6 +1,6 @@
 //! The two schemas of a keeper's tables, and what differs between them.
 ghost use Rattle.std.specs.Prelude.{◌≡◌};
-ghost use Rattle.xa_store.specs.Check.{places_text_of};
+ghost use Rattle.xa_store.specs.Check.{places_query};
 ghost use Rattle.xa_store.specs.Opened.{number_of, sources_in};
 
 use crate::schema::checked_table::CheckedTable;
@@ -16,7 +16,7 @@ pub(crate) enum SchemaVersion {
 }
 
 impl SchemaVersion {
-    /// The number that the first table has for it.
+    /// The number that `meta` has for it.
     pub(crate) fn number(self) -> i64
         ensures { result ≡ number_of self }
     {
@@ -39,7 +39,7 @@ impl SchemaVersion {
     /// The query of the domains and places of the rows of sources, domain by domain, in the order of
     /// the places.
     pub(crate) fn places_query(self) -> &'static str
-        ensures { result.now ≡ places_text_of self }
+        ensures { result.now ≡ places_query self }
     {
         match self {
             SchemaVersion::Schema1 => sql::ATTRIBUTE_PLACES,

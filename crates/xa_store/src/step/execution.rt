@@ -22,7 +22,7 @@ use sqlite::{Alter, Transaction};
 use std::alloc::Global;
 use xa_records::Failure;
 
-/// Runs one statement. Want of memory is told where the store told it.
+/// Runs one statement. `Memory` only if the database told want of memory.
 pub(crate) fn execute_in<S: Alter>(
     tx: &mut Transaction<'_, S>,
     sql: &str,

@@ -15,7 +15,7 @@ use sqlite::{Alter, Connection, Transaction};
 use std::alloc::Global;
 use xa_records::Failure;
 
-/// Commits the transaction. Want of memory is told where the store told it.
+/// Commits the transaction. `Memory` only if the database told want of memory.
 fn commit<S: Alter>(tx: Transaction<'_, S>) -> Result<(), Failure>
     ensures ended { tx.exit.0.now.in_transaction ≡ false }
     ensures commits { HasCleanDisk (state S.Store tx.exit.0.now)
@@ -27,10 +27,7 @@ fn commit<S: Alter>(tx: Transaction<'_, S>) -> Result<(), Failure>
     ensures survives { Survives (state S.Store tx.entry.conn.now) (state S.Store tx.exit.0.now)
         (λ db. db ≡ (state S.Store tx.entry.conn.now).now.trees) }
 {
-    match tx.commit() {
-        Ok(()) => Ok(()),
-        Err(error) => Err(failure_of(error)),
-    }
+    tx.commit().map_err(failure_of)
 }
 
 /// Takes all the steps, or none of them, also over a crash.

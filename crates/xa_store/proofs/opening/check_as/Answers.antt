@@ -15,11 +15,11 @@ check_ours-requires-clause-quiet g c =
 pub check_ours-requires-clause-ours : goal.check_ours-requires-clause-ours
 check_ours-requires-clause-ours g c = sym c.schema.ensures.value ∙ c.is_of.ensures.0 c.if-is_of.true
 
-pub check_apart-requires-clause-quiet : goal.check_apart-requires-clause-quiet
-check_apart-requires-clause-quiet g c =
+pub check_in_undone_transaction-requires-clause-quiet : goal.check_in_undone_transaction-requires-clause-quiet
+check_in_undone_transaction-requires-clause-quiet g c =
     let idle : (state g.S.Store c.args.conn.now).in_transaction ≡ false = search rules in
     let settled : IsTrue (state g.S.Store c.args.conn.now).is_open → (state g.S.Store c.args.conn.now).now ≡ (state g.S.Store c.args.conn.now).committed = search rules in
     record { idle = idle; settled = settled }
 
-pub check_apart-requires-clause-other : goal.check_apart-requires-clause-other
-check_apart-requires-clause-other g c = λ same. absurd (let is = c.is_of.ensures.1 (c.schema.ensures.value ∙ same) in cc)
+pub check_in_undone_transaction-requires-clause-other : goal.check_in_undone_transaction-requires-clause-other
+check_in_undone_transaction-requires-clause-other g c = λ same. absurd (let is = c.is_of.ensures.1 (c.schema.ensures.value ∙ same) in cc)

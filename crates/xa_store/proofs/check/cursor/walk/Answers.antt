@@ -1,6 +1,6 @@
 use Rattle.std.proofs.Common.{◌≡◌, true, ◌∙◌, ℕ, ℤ, inl, inr, List, [], Option, Result, Ok, Err, refl, sym, subst, subst₂, rules, w64}
 use Rattle.xa_store.proofs.Common.{to_z-of_z, FitsSigned, HasGiven, Held, state, Row, State, HasCleanDisk, FailsToQuery, Survives, CommitsShowing, Ghosts, Trees, Error, OpenError, CheckedTable, SchemaVersion}
-use Rattle.xa_store.specs.Check.{has_table, refused_as, text_of, Moves, Walked, Walks}
+use Rattle.xa_store.specs.Check.{has_table, refused_as, rows_query, Moves, Walked, Walks}
 use Rattle.xa_store.specs.Opening.{IsFailure}
 use Rattle.xa_store.proofs.AskedLemmas.{a_failure, failed_fits, not_asked, survives_asked}
 use Rattle.xa_store.proofs.StreamLemmas.{checked_plain, keeps_begun, keeps_on, stands_begun, survived_on, walk_ended, walk_goes_on, walk_stopped}
@@ -10,33 +10,33 @@ walks_failed : (kind : CheckedTable) (next : ℤ) (db : Trees) (e : OpenError) �
 walks_failed kind next db e (inl is) = subst (λ o. Walks kind next db (Err o)) (sym is) tt
 walks_failed kind next db e (inr is) = subst (λ o. Walks kind next db (Err o)) (sym is) tt
 
-not_walked : (version : SchemaVersion) (kind : CheckedTable) → has_table kind version ≡ true → (next : ℤ) (old new : State) (e : Error) → Survives old new (CommitsShowing (text_of kind) [] old)
-    → (HasCleanDisk new → FailsToQuery (text_of kind) [] old new e) → Walked version kind next old new (Err (refused_as e))
+not_walked : (version : SchemaVersion) (kind : CheckedTable) → has_table kind version ≡ true → (next : ℤ) (old new : State) (e : Error) → Survives old new (CommitsShowing (rows_query kind) [] old)
+    → (HasCleanDisk new → FailsToQuery (rows_query kind) [] old new e) → Walked version kind next old new (Err (refused_as e))
 not_walked version kind has next old new e survives failed = record {
-  asks = not_asked (text_of kind) [] old new version (checked_plain kind version has) survives e (refused_as e) failed;
-  finds = λ clean rests. walks_failed kind next old.now.trees (refused_as e) (a_failure e (failed_fits (text_of kind) [] old new e rests (checked_plain kind version has) (failed clean)));
+  asks = not_asked (rows_query kind) [] old new version (checked_plain kind version has) survives e (refused_as e) failed;
+  finds = λ clean rests. walks_failed kind next old.now.trees (refused_as e) (a_failure e (failed_fits (rows_query kind) [] old new e rests (checked_plain kind version has) (failed clean)));
 }
 
 -- what is known of a row that is asked for
 abbrev Moved : {S : Type 0} → Ghosts S → CheckedTable → ℤ → Option ℤ → Held S → Held S → Result (Option ℤ) OpenError → Type 0
 Moved g kind next last old new r = HasCleanDisk (state g new) → (sql : List ℕ) → (given : List Row) → HasGiven g sql [] old given → Moves g kind next last old new sql given r
 
-pub returns-in_err-rows : goal.returns-in_err-rows
-returns-in_err-rows g c =
-    let e = c.in_err-rows.field-0.0 in
+pub returns-in-Err : goal.returns-in-Err
+returns-in-Err g c =
+    let e = c.in-Err.error in
     let old = state g.S.Store c.args.conn.now in
     let new = state g.S.Store c.query.follows.lender-at-none in
-    let refused = rw (c.rows_query.ensures, c.in_err-rows.was) at c.query.follows.holds-at-none in
-    let is : c.from_residual.result ≡ Err (refused_as e) = search rules in
-    rw is (not_walked c.args.checking.version c.args.table c.requires c.args.checking.next old new e refused.survives refused.err)
+    let refused = rw (c.rows_query.ensures, c.in-Err.is) at c.query.follows.holds-at-none in
+    subst (λ o. Walked c.args.checking.version c.args.table c.args.checking.next old new (Err o)) (sym c.error_of_check.ensures)
+    (not_walked c.args.checking.version c.args.table c.requires c.args.checking.next old new e refused.survives refused.err)
 
 pub rows-init : goal.rows-init
 rows-init g c =
-    let made = c.in_ok-rows.ensures in (
+    let made = c.in-Ok.ensures in (
       refl,
-      survives_asked (text_of c.args.table) [] (state g.S.Store c.args.conn.now) _ c.args.checking.version (checked_plain c.args.table c.args.checking.version c.requires) (rw c.rows_query.ensures at made.survives),
-      keeps_begun g.S.Store c.args.checking.version c.args.table c.requires c.args.checking.next c.args.conn.now c.in_ok-rows.rows.conn.now (rw c.rows_query.ensures at made.begun),
-      stands_begun g.S.Store c.args.checking.version c.args.table c.requires _ c.args.conn.now c.in_ok-rows.rows.conn.now (rw c.rows_query.ensures at made.begun),
+      survives_asked (rows_query c.args.table) [] (state g.S.Store c.args.conn.now) _ c.args.checking.version (checked_plain c.args.table c.args.checking.version c.requires) (rw c.rows_query.ensures at made.survives),
+      keeps_begun g.S.Store c.args.checking.version c.args.table c.requires c.args.checking.next c.args.conn.now c.in-Ok.rows.conn.now (rw c.rows_query.ensures at made.begun),
+      stands_begun g.S.Store c.args.checking.version c.args.table c.requires _ c.args.conn.now c.in-Ok.rows.conn.now (rw c.rows_query.ensures at made.begun),
     )
 
 pub returns-in_err-number : goal.returns-in_err-number
@@ -45,7 +45,7 @@ returns-in_err-number g c =
     let told = c.in_err-number.ensures in
     let last = c.next_row_number.new.rows.conn.now in
     let same : last ≡ c.conn-in_err-number-1.given.0 = search rules in
-    let is : c.from_residual-in_err-number.result ≡ Err c.in_err-number.field-0.0 = search rules in
+    let is : c.from_residual.result ≡ Err c.in_err-number.field-0.0 = search rules in
     rw is (subst (λ h. Walked c.args.checking.version c.args.table c.args.checking.next (state g.S.Store c.args.conn.now) (state g.S.Store h) (Err c.in_err-number.field-0.0)) same
     (walk_stopped g.S.Store c.args.checking.version c.args.table c.requires c.args.checking.next c.args.conn.now c.rows.rows.conn.now last c.rows.last c.rows.invariant.1 c.rows.invariant.2 c.rows.invariant.3 told.kept told.survives c.in_err-number.field-0.0
     (subst (λ n. Moved g.S.Store c.args.table n c.rows.last c.rows.rows.conn.now last (Err c.in_err-number.field-0.0)) held told.moves)))

@@ -12,4 +12,4 @@ pub returns-clause-sees : goal.returns-clause-sees
 returns-clause-sees g c =
     let new = c.prepare-prepared.new.self in
     prepared_sees _ (state g.S.Store c.args.conn.now) (state g.S.Store new) _ (clean_if_open (g.S.Store.view new.store) (g.met.S.Store.shut_if_dirty new.store)) c.prepare-prepared.result
-    c.prepare-prepared.ensures.ok c.prepare-prepared.ensures.err c.seen_by.result c.seen_by.ensures.opened c.seen_by.ensures.shut
+    c.prepare-prepared.ensures.ok c.prepare-prepared.ensures.err c.open_state_of.result c.open_state_of.ensures.opened c.open_state_of.ensures.shut

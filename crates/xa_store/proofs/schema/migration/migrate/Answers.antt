@@ -1,23 +1,14 @@
-use Rattle.std.proofs.Common.{◌≡◌, Err, Ok, refl, subst, rules}
+use Rattle.std.proofs.Common.{◌≡◌, refl, subst, rules}
 use Rattle.xa_store.proofs.Common.{state}
 use Rattle.xa_store.specs.Check.{Migrated}
-use Rattle.xa_store.proofs.MadeLemmas.{migrated, unmigrated}
+use Rattle.xa_store.proofs.MadeLemmas.{migrated_or_not}
 use Rattle.xa_store.proofs.schema.migration.migrate.Goals as goal
 
-pub returns-in-Ok : goal.returns-in-Ok
-returns-in-Ok g c =
+pub returns : goal.returns
+returns g c =
     let begun = c.transaction-tx.ensures.begun in
     let last = c.commit.new.self.0 in
     let same : last ≡ c.conn-2-1.given.0 = search rules in
-    subst (λ h. Migrated {X = Unit {0}} (state g.S.Store c.args.conn.now) (state g.S.Store h) (Ok tt)) same
-    (migrated g.S.Store c.args.conn.now c.take_all.new.tx.conn.now last (rw begun at c.in_ok-take_all.ensures.stays.survives) (rw begun at c.in_ok-take_all.ensures.stays.kept) c.commit.ensures.survives (rw begun at c.in_ok-take_all.ensures.moves) tt
-    c.in-Ok.ensures.ok)
-
-pub returns-in-Err : goal.returns-in-Err
-returns-in-Err g c =
-    let begun = c.transaction-tx.ensures.begun in
-    let last = c.commit.new.self.0 in
-    let same : last ≡ c.conn-2-1.given.0 = search rules in
-    subst (λ h. Migrated {X = Unit {0}} (state g.S.Store c.args.conn.now) (state g.S.Store h) (Err c.error_of_statement.result)) same
-    (unmigrated g.S.Store c.args.conn.now c.take_all.new.tx.conn.now last (rw begun at c.in_ok-take_all.ensures.stays.survives) (rw begun at c.in_ok-take_all.ensures.stays.kept) c.commit.ensures.survives (rw begun at c.in_ok-take_all.ensures.moves)
-    c.error_of_statement.result c.in-Err.error c.error_of_statement.ensures (λ clean. (rw begun at c.in_ok-take_all.ensures.stays.inside) clean refl) c.commit.ensures.ended c.in-Err.ensures.err)
+    subst (λ h. Migrated {X = Unit {0}} (state g.S.Store c.args.conn.now) (state g.S.Store h) c.map_err.result) same
+    (migrated_or_not g.S.Store c.args.conn.now c.take_all.new.tx.conn.now last (rw begun at c.in_ok-take_all.ensures.stays.survives) (rw begun at c.in_ok-take_all.ensures.stays.kept) c.commit.ensures.survives (rw begun at c.in_ok-take_all.ensures.moves)
+    _ (λ e f h. search rules) c.commit.result c.map_err.result c.map_err.ensures.cases (λ clean. (rw begun at c.in_ok-take_all.ensures.stays.inside) clean refl) c.commit.ensures.ended c.commit.ensures.ok c.commit.ensures.err)

@@ -5,15 +5,15 @@ use Rattle.xa_store.proofs.keeper.records.SqlRecordsRecords.upload.Goals as goal
 
 pub invariant_of-self : goal.invariant_of-self
 invariant_of-self g c =
-    keeper_after g.S.Store g.met.S.Store.shut_if_dirty g.met.S.Store.settled c.self.inside.conn c.upload_in-done.new.conn c.after_change.new.conn c.self.inside.ours c.self.inside.health.is_open c.after_change.new.health.is_open c.self.inside.health.faults c.after_change.new.health.faults
-    c.self.invariant (within (uploaded c.args.key c.args.text.now)) c.args.name.now c.upload_in-done.result c.after_change.result c.upload_in-done.ensures.turns c.after_change.ensures
+    keeper_after g.S.Store g.met.S.Store.shut_if_dirty g.met.S.Store.settled c.self.inside.conn c.upload-done.new.conn c.after_change.new.conn c.self.inside.ours c.self.inside.health.is_open c.after_change.new.self.is_open c.self.inside.health.faults c.after_change.new.self.faults
+    c.self.invariant (within (uploaded c.args.key c.args.text.now)) c.args.name.now c.upload-done.result c.after_change.result c.upload-done.ensures.turns c.after_change.ensures
 
 pub returns : goal.returns
 returns g c = record {
   does =
-      is_changing_of g.S.Store g.met.S.Store.shut_if_dirty g.met.S.Store.settled c.self.inside.conn c.upload_in-done.new.conn c.after_change.new.conn c.self.inside.ours c.self.inside.health.is_open c.after_change.new.health.is_open c.self.inside.health.faults c.after_change.new.health.faults
-      c.self.invariant (within (uploaded c.args.key c.args.text.now)) c.args.name.now c.upload_in-done.result c.after_change.result c.upload_in-done.ensures.turns c.after_change.ensures c.args.self.now c.self.view_is;
+      is_changing_of g.S.Store g.met.S.Store.shut_if_dirty g.met.S.Store.settled c.self.inside.conn c.upload-done.new.conn c.after_change.new.conn c.self.inside.ours c.self.inside.health.is_open c.after_change.new.self.is_open c.self.inside.health.faults c.after_change.new.self.faults
+      c.self.invariant (within (uploaded c.args.key c.args.text.now)) c.args.name.now c.upload-done.result c.after_change.result c.upload-done.ensures.turns c.after_change.ensures c.args.self.now c.self.view_is;
   which =
-      said_of g.S.Store g.met.S.Store.shut_if_dirty g.met.S.Store.settled c.self.inside.conn c.upload_in-done.new.conn c.after_change.new.conn c.self.inside.ours c.self.inside.health.is_open c.after_change.new.health.is_open c.self.inside.health.faults c.after_change.new.health.faults
-      c.self.invariant (within (uploaded c.args.key c.args.text.now)) c.args.name.now c.upload_in-done.result c.after_change.result c.upload_in-done.ensures.turns c.after_change.ensures c.args.self.now c.self.view_is (λ kept u. u ≡ upload_of c.args.key (state_of c.args.name.now kept)) c.upload_in-done.ensures.which;
+      said_of g.S.Store g.met.S.Store.shut_if_dirty g.met.S.Store.settled c.self.inside.conn c.upload-done.new.conn c.after_change.new.conn c.self.inside.ours c.self.inside.health.is_open c.after_change.new.self.is_open c.self.inside.health.faults c.after_change.new.self.faults
+      c.self.invariant (within (uploaded c.args.key c.args.text.now)) c.args.name.now c.upload-done.result c.after_change.result c.upload-done.ensures.turns c.after_change.ensures c.args.self.now c.self.view_is (λ kept u. u ≡ upload_of c.args.key (state_of c.args.name.now kept)) c.upload-done.ensures.which;
 }

@@ -1,0 +1,11 @@
+use Rattle.xa_store.proofs.Common.{deleted, within}
+use Rattle.xa_store.proofs.TurnLemmas.{carried}
+use Rattle.xa_store.proofs.change.document.delete.Goals as goal
+
+pub returns : goal.returns
+returns g c =
+    let plan = c.plan_delete-planned in
+    record {
+      turns = carried g.S.Store (within (deleted c.args.key.now)) c.args.name.now c.args.conn.now plan.new.conn c.carry_out.new.conn plan.ensures.only_reads.quiet plan.result plan.ensures.only_reads.opens plan.ensures.plans
+          c.carry_out.result c.carry_out.ensures.runs c.carry_out.ensures.keeps;
+    }
