@@ -1,4 +1,4 @@
--- A decision that is held, and one that is worked out, as the machine tells it.
+-- A decision that is cached, and one that is evaluated, as the machine tells it.
 use Rattle.std.proofs.Common.{◌≡◌, ℕ, ℤ, List, refl, sym, ap, ◌∙◌, subst, cond, true, false}
 use Rattle.std.specs.Option.{ok_or}
 use Rattle.std.specs.Prelude.{Bool, ◌&&◌, nat_le, length, Option, Some, None, option_map, Result, Ok, Err, IfSome, OnErr}
@@ -25,7 +25,7 @@ use Rattle.xa_server.specs.declared.revision.Revision.{Revision}
 use Rattle.xa_server.specs.declared.unsuccessful.Unsuccessful.{Unsuccessful}
 use Rattle.xa_server.specs.declared.unsuccessful.Unsuccessful.TheVariants.{Error, Failed}
 use Rattle.xa_server.specs.Gates.{revision_by, revision_of}
-use Rattle.xa_server.specs.handling.Asking.{IsFresh, IsNoted, IsResponse, IsResponseReply, key_of_revision, key_within, reply_told, response_told, view_told, worked_in}
+use Rattle.xa_server.specs.handling.Asking.{IsFresh, IsNoted, IsResponse, IsResponseReply, evaluated_in, key_of_revision, key_within, reply_told, response_told, view_told}
 use Rattle.xa_server.specs.handling.Replying.{Answers, OnlyReads, Shows}
 use Rattle.xa_server.specs.Machine.{response_to, told}
 use Rattle.xa_server.specs.Replies.{decision_reply}
@@ -33,14 +33,14 @@ use Rattle.xa_server.specs.Tally.{Tally}
 use Rattle.xa_server.specs.ValidCache.{AreValid, response_body_at}
 use Rattle.xa_server.specs.View.{view_of}
 use Rattle.xa_server.specs.handling.Viewing.{nothing_viewed}
-use Rattle.xa_server.specs.Work.{IsBodyHeld, IsWorkedOut, body_held, response_of}
+use Rattle.xa_server.specs.Work.{IsBodyCached, IsEvaluated, cached_body, response_of}
 use Rattle.xa_server.proofs.GrowthLemmas.{stays}
 use Rattle.xa_server.proofs.ValidLemmas.{found_right}
 use Rattle.xa_server.proofs.WorkLemmas.{domain_of_revision}
 
 -- ---- what was responded
 
--- a response with its mark is what is worked out
+-- a response with its mark is what is evaluated
 response_is : (view : Viewed) (body : List ℕ) (moment : ℤ) (sent : Option Responded) → option_map (λ r. r.body) sent ≡ option_map decision.body_of (decision.answer view body moment)
     → IfSome sent (λ r. r.timeless ≡ is_timeless_answer view body) → response_of view body moment ≡ option_map (λ r. (r.body, r.timeless)) sent
 unfolding response_of
@@ -95,22 +95,22 @@ replied old new name body moment view result is meant same =
       by_response None (Err (Error code)) (none, no_json) = (ap Err (sym no_json), same)
       by_response response (Err (Failed failure)) meant = same
 
--- what the view gives is what is worked out in the domain
-worked_by : (state : Option DomainState) (view : Viewed) (body : List ℕ) (moment : ℤ) → view_told state ≡ Ok view → response_of view body moment ≡ worked_in state body moment
+-- what the view gives is what is evaluated in the domain
+worked_by : (state : Option DomainState) (view : Viewed) (body : List ℕ) (moment : ℤ) → view_told state ≡ Ok view → response_of view body moment ≡ evaluated_in state body moment
 worked_by None view body moment is = absurd cc
 worked_by (Some state) view body moment is =
     let same : view_of state ≡ view = let it : Ok (view_of state) ≡ Ok view = is in cc in ap (λ v. response_of v body moment) (sym same)
 
 pub works_by : (state : Option DomainState) (view : Viewed) (body : List ℕ) (moment : ℤ) (key : Key) (result : Result (List ℕ) Unsuccessful) (old new : Tally) → view_told state ≡ Ok view
-    → IsFresh key (response_of view body moment) result old new → IsFresh key (worked_in state body moment) result old new
+    → IsFresh key (response_of view body moment) result old new → IsFresh key (evaluated_in state body moment) result old new
 works_by state view body moment key result old new is works = subst (λ worked. IsFresh key worked result old new) (worked_by state view body moment is) works
 
--- an absent domain has no reply, and nothing is worked out for it
+-- an absent domain has no reply, and nothing is evaluated for it
 pub absent_reply : (state : Option DomainState) (body : List ℕ) (moment : ℤ) (code : ErrorCode) → view_told state ≡ Err code → reply_told body moment state ≡ Err code
 absent_reply None body moment code is = let e : error.Refused Absent ≡ code = cc in ap Err e
 absent_reply (Some state) body moment code is = absurd cc
 
-pub absent_worked : (state : Option DomainState) (body : List ℕ) (moment : ℤ) (code : ErrorCode) → view_told state ≡ Err code → worked_in state body moment ≡ None
+pub absent_worked : (state : Option DomainState) (body : List ℕ) (moment : ℤ) (code : ErrorCode) → view_told state ≡ Err code → evaluated_in state body moment ≡ None
 absent_worked None body moment code is = refl
 absent_worked (Some state) body moment code is = absurd cc
 
@@ -155,46 +155,46 @@ and_false : (a other : Bool) → (a && (false && other)) ≡ false
 and_false true other = refl
 and_false false other = refl
 
--- a decision that was worked out is held under the key of its body, if that isn't too large
+-- a decision that was evaluated is cached under the key of its body, if that isn't too large
 pub noted : (key : Key) (given : Option Key) (body : List ℕ) (timeless : Bool) (old new : Tally) → given ≡ key_within key → IsNoted given body timeless old new
-    → IsWorkedOut key (Some (body, timeless)) old new
-noted key given body timeless old new is = subst (λ (g : Option Key). IsNoted g body timeless old new → IsWorkedOut key (Some (body, timeless)) old new) (sym is) (by_size (nat_le (length key.body) 16_384) refl) where
-  by_size : (small : Bool) → nat_le (length key.body) 16_384 ≡ small → IsNoted (cond small (Some key) None) body timeless old new → IsWorkedOut key (Some (body, timeless)) old new
+    → IsEvaluated key (Some (body, timeless)) old new
+noted key given body timeless old new is = subst (λ (g : Option Key). IsNoted g body timeless old new → IsEvaluated key (Some (body, timeless)) old new) (sym is) (by_size (nat_le (length key.body) 16_384) refl) where
+  by_size : (small : Bool) → nat_le (length key.body) 16_384 ≡ small → IsNoted (cond small (Some key) None) body timeless old new → IsEvaluated key (Some (body, timeless)) old new
   by_size true e work = work
   by_size false e (more, held, unkept) =
-      (more, subst (λ (b : Bool). IsBodyHeld b key body old new) (sym (ap (λ (b : Bool). timeless && (b && nat_le (length body) 16_384)) e ∙ and_false timeless (nat_le (length body) 16_384))) (held, unkept))
+      (more, subst (λ (b : Bool). IsBodyCached b key body old new) (sym (ap (λ (b : Bool). timeless && (b && nat_le (length body) 16_384)) e ∙ and_false timeless (nat_le (length body) 16_384))) (held, unkept))
 
--- the key is the one that was given, and what is held under it is found
+-- the key is the one that was given, and what is cached under it is found
 pub key_is : (key small : Key) → Some small ≡ key_within key → small ≡ key
 key_is key small is = by_size (nat_le (length key.body) 16_384) is where
   by_size : (b : Bool) → Some small ≡ cond b (Some key) None → small ≡ key
   by_size true e = cc
   by_size false e = absurd cc
 
-pub held_within : (key small : Key) (tally : Tally) → Some small ≡ key_within key → body_held key key.body tally ≡ found small tally.held
+pub held_within : (key small : Key) (tally : Tally) → Some small ≡ key_within key → cached_body key key.body tally ≡ found small tally.cached
 held_within key small tally is = by_size (nat_le (length key.body) 16_384) is where
-  by_size : (b : Bool) → Some small ≡ cond b (Some key) None → cond b (found key tally.held) None ≡ found small tally.held
-  by_size true e = let same : small ≡ key = cc in ap (λ k. found k tally.held) (sym same)
+  by_size : (b : Bool) → Some small ≡ cond b (Some key) None → cond b (found key tally.cached) None ≡ found small tally.cached
+  by_size true e = let same : small ≡ key = cc in ap (λ k. found k tally.cached) (sym same)
   by_size false e = absurd cc
 
 -- without a key nothing is
-pub held_beyond : (key : Key) (tally : Tally) → None ≡ key_within key → body_held key key.body tally ≡ None
+pub held_beyond : (key : Key) (tally : Tally) → None ≡ key_within key → cached_body key key.body tally ≡ None
 held_beyond key tally is = by_size (nat_le (length key.body) 16_384) is where
-  by_size : (b : Bool) → None ≡ cond b (Some key) None → cond b (found key tally.held) None ≡ None
+  by_size : (b : Bool) → None ≡ cond b (Some key) None → cond b (found key tally.cached) None ≡ None
   by_size true e = absurd cc
   by_size false e = refl
 
--- ---- a decision that is held
+-- ---- a decision that is cached
 
-held_is : (key : Key) (body decided : List ℕ) (tally : Tally) → body_held key body tally ≡ Some decided → found key tally.held ≡ Some decided
+held_is : (key : Key) (body decided : List ℕ) (tally : Tally) → cached_body key body tally ≡ Some decided → found key tally.cached ≡ Some decided
 held_is key body decided tally is = by_size (nat_le (length body) 16_384) is where
-  by_size : (small : Bool) → cond small (found key tally.held) None ≡ Some decided → found key tally.held ≡ Some decided
+  by_size : (small : Bool) → cond small (found key tally.cached) None ≡ Some decided → found key tally.cached ≡ Some decided
   by_size true is = is
   by_size false is = absurd cc
 
 -- the machine tells it
-pub hit : (kept : Kept) (name body decided : List ℕ) (moment : ℤ) (revision : Revision) (tally : Tally) → revision_of name kept ≡ Some revision → AreValid kept tally.held
-    → body_held (key_of_revision revision body) body tally ≡ Some decided → reply_told body moment (state_of name kept) ≡ Ok (decision_reply decided)
+pub hit : (kept : Kept) (name body decided : List ℕ) (moment : ℤ) (revision : Revision) (tally : Tally) → revision_of name kept ≡ Some revision → AreValid kept tally.cached
+    → cached_body (key_of_revision revision body) body tally ≡ Some decided → reply_told body moment (state_of name kept) ≡ Ok (decision_reply decided)
 unfolding response_body_at response_of
 hit kept name body decided moment revision tally opens valid held = by_gate (domain_of_revision kept name revision opens) where
   by_answer : (state : DomainState) → response_body_at state body moment ≡ Some decided → (answered : Option decision.Answered) → decision.answer (view_of state) body moment ≡ answered
@@ -206,17 +206,17 @@ hit kept name body decided moment revision tally opens valid held = by_gate (dom
 
   by_gate : ((d : Domain) × (get kept.domains name ≡ Some d) × (revision_by (gate_of_domain d) ≡ revision)) → reply_told body moment (state_of name kept) ≡ Ok (decision_reply decided)
   by_gate (d, there, is) =
-      let key : found (key_of_revision (revision_by (gate_of_domain d)) body) tally.held ≡ Some decided =
-      subst (λ o. found (key_of_revision o body) tally.held ≡ Some decided) (sym is) (held_is (key_of_revision revision body) body decided tally held) in
-      let right = found_right kept name d tally.held body decided moment valid there key in
+      let key : found (key_of_revision (revision_by (gate_of_domain d)) body) tally.cached ≡ Some decided =
+      subst (λ o. found (key_of_revision o body) tally.cached ≡ Some decided) (sym is) (held_is (key_of_revision revision body) body decided tally held) in
+      let right = found_right kept name d tally.cached body decided moment valid there key in
       rw there (by_answer d.state right (decision.answer (view_of d.state) body moment) refl)
 
 -- the reply by it is the machine's
-pub hit_reply : (kept : Kept) (name body : List ℕ) (moment : ℤ) (revision : Revision) (tally : Tally) (reply : List ℕ) → revision_of name kept ≡ Some revision → AreValid kept tally.held
-    → Some reply ≡ option_map decision_reply (body_held (key_of_revision revision body) body tally)
+pub hit_reply : (kept : Kept) (name body : List ℕ) (moment : ℤ) (revision : Revision) (tally : Tally) (reply : List ℕ) → revision_of name kept ≡ Some revision → AreValid kept tally.cached
+    → Some reply ≡ option_map decision_reply (cached_body (key_of_revision revision body) body tally)
     → Answers kept kept name (Ok reply) (told (response_to body moment) (state_of name kept))
-hit_reply kept name body moment revision tally reply opens valid is = by_held (body_held (key_of_revision revision body) body tally) refl is where
-  by_held : (held : Option (List ℕ)) → body_held (key_of_revision revision body) body tally ≡ held → Some reply ≡ option_map decision_reply held
+hit_reply kept name body moment revision tally reply opens valid is = by_held (cached_body (key_of_revision revision body) body tally) refl is where
+  by_held : (held : Option (List ℕ)) → cached_body (key_of_revision revision body) body tally ≡ held → Some reply ≡ option_map decision_reply held
       → Answers kept kept name (Ok reply) (told (response_to body moment) (state_of name kept))
   by_held None e is = absurd cc
   by_held (Some decided) e is =
@@ -243,8 +243,8 @@ module _ (kept : Kept) (name body : List ℕ) (moment : ℤ) (revision : Revisio
 
   -- and so is the work
   pub unasked_works : (key : Key) (result : Result (List ℕ) Unsuccessful) (old new : Tally) → IsFresh key (response_of nothing_viewed body moment) result old new
-      → IsFresh key (worked_in (state_of name kept) body moment) result old new
+      → IsFresh key (evaluated_in (state_of name kept) body moment) result old new
   unasked_works key result old new works = by_domain (domain_of_revision kept name revision opens) where
-    by_domain : ((d : Domain) × (get kept.domains name ≡ Some d) × (revision_by (gate_of_domain d) ≡ revision)) → IsFresh key (worked_in (state_of name kept) body moment) result old new
+    by_domain : ((d : Domain) × (get kept.domains name ≡ Some d) × (revision_by (gate_of_domain d) ≡ revision)) → IsFresh key (evaluated_in (state_of name kept) body moment) result old new
     by_domain (d, there, is) =
         works_by (state_of name kept) (view_of d.state) body moment key result old new (rw there refl) (subst (λ r. IsFresh key r result old new) (unasked (view_of d.state) body moment none) works)

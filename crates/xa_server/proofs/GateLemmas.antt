@@ -78,11 +78,11 @@ known_opens kept name digest message stock revision shown stand is =
 -- ---- what stands
 
 pub used_stands : (kept : Kept) (name : List ℕ) (stock : Stock) → AllStand kept stock → AllStand kept (using_gate name stock)
-used_stands kept name stock stand = record { held = stand.held; views = stand.views; gates = all_promoted (IsGate kept) (bytes_eq name) stock.gates stand.gates }
+used_stands kept name stock stand = record { decisions = stand.decisions; views = stand.views; gates = all_promoted (IsGate kept) (bytes_eq name) stock.gates stand.gates }
 
 pub remembered_stands : (kept : Kept) (name : List ℕ) (gate : Gate) (stock : Stock) → gate_of name kept ≡ Some gate → AllStand kept stock → AllStand kept (remembering name gate stock)
 remembered_stands kept name gate stock opens stand = record {
-  held = stand.held;
+  decisions = stand.decisions;
   views = stand.views;
   gates = all_put (IsGate kept) bytes_eq (lru_cache stock.gates 512) name gate (λ j same. subst (λ n. gate_of n kept ≡ Some gate) (one_name name j same) opens) opens stand.gates;
 }
@@ -91,7 +91,7 @@ pub same_stands : (old new : Kept) (stock : Stock) → new ≡ old → AllStand 
 same_stands old new stock same stand = subst (λ k. AllStand k stock) (sym same) stand
 
 forgotten_stands : (kept : Kept) (name : List ℕ) (stock : Stock) → AllStand kept stock → AllStand kept (forgetting name stock)
-forgotten_stands kept name stock stand = record { held = stand.held; views = stand.views; gates = all_removed (IsGate kept) (bytes_eq name) stock.gates stand.gates }
+forgotten_stands kept name stock stand = record { decisions = stand.decisions; views = stand.views; gates = all_removed (IsGate kept) (bytes_eq name) stock.gates stand.gates }
 
 -- none stands under a name whose gate was forgotten
 pub gone : (name : List ℕ) (gates : List (List ℕ × Gate)) → IsDistinct bytes_eq (keys_of gates) → lookup (bytes_eq name) (without_gate name gates) ≡ None
@@ -113,7 +113,7 @@ gates_left old new name others (entry ∷ gates) none are = (elim (bytes_eq name
 pub changed_stands : (old new : Kept) (name : List ℕ) (result : Result (List ℕ) Unsuccessful) (meant : Answer) (stock : Stock) → Answers old new name result meant → AllStand old stock
     → lookup (bytes_eq name) (without_gate name stock.gates) ≡ None → AllStand new (forgetting name stock)
 changed_stands old new name (Ok bytes) meant stock (after, is, changed) stand none = record {
-  held = valid_grown old new (grows old new name after changed) stock.tally.held stand.held;
+  decisions = valid_grown old new (grows old new name after changed) stock.tally.cached stand.decisions;
   views = ready_grown old new (grows old new name after changed) stock.room.views stand.views;
   gates = gates_left old new name changed.others (without_gate name stock.gates) none (all_removed (IsGate old) (bytes_eq name) stock.gates stand.gates);
 }

@@ -13,7 +13,7 @@ use Rattle.xa_records.specs.declared.kept_view.KeptView.{KeptView}
 use Rattle.xa_records.specs.DomainState.{DomainState, StoredDocument, key_of}
 use Rattle.xa_records.specs.Kept.{Domain, Kept, state_of}
 use Rattle.xa_records.specs.Keyed.{KeepsDocuments, key_if, key_in}
-use Rattle.xa_records.specs.Readings.{active_text, active_texts, view_of, view_of_state}
+use Rattle.xa_records.specs.Readings.{active_text, active_texts, kept_view_of, view_of_state}
 use Rattle.xa_records.proofs.FinMapLemmas.{all_entries}
 use Rattle.xa_records.proofs.OrderLemmas.{keys_total}
 use Rattle.xa_server.specs.View.{active_document, active_if}
@@ -52,7 +52,7 @@ texts_keyed [] all = tt
 texts_keyed (e ∷ es) all = one_keyed e.1.active e es all.0 (texts_keyed es all.1)
 
 -- what decides in a domain has documents of their keys alone
-pub keyed_view : (kept : Kept) (name : List ℕ) (view : KeptView) → KeepsDocuments kept → Some view ≡ view_of name kept → AreKeyed view.texts
+pub keyed_view : (kept : Kept) (name : List ℕ) (view : KeptView) → KeepsDocuments kept → Some view ≡ kept_view_of name kept → AreKeyed view.texts
 keyed_view kept name view keeps is = by_domain (get kept.domains name) refl where
   by_domain : (o : Option Domain) → get kept.domains name ≡ o → AreKeyed view.texts
   by_domain None there = absurd (let f : Some view ≡ None = is ∙ ap (λ o. option_map view_of_state (option_map (λ (d : Domain). d.state) o)) there in cc)

@@ -1,4 +1,4 @@
--- Views that are kept ready decide as what is kept does.
+-- Cached views decide as what is kept does.
 use Rattle.std.proofs.Common.{◌≡◌, ℕ, Bool, true, false, nat_eq, List, refl, sym, ap, ◌∙◌, subst, cond}
 use Rattle.std.specs.Prelude.{Option, Some, None, Ok, IfSome, length}
 use Rattle.std.specs.FinMap.{get}
@@ -17,7 +17,7 @@ use Rattle.xa_server.specs.handling.Asking.{view_told}
 use Rattle.xa_server.specs.Standing.{StandsUnder}
 use Rattle.xa_server.specs.Stock.{AreReady, IsReady}
 use Rattle.xa_server.specs.View.{view_of}
-use Rattle.xa_server.specs.Views.{Room, added, bytes_of_tree, bytes_of_view, fitting, in_front, touched, view_ready, with_view, without}
+use Rattle.xa_server.specs.Views.{Room, added, bytes_of_tree, bytes_of_view, fitting_count, in_front, touched, view_ready, with_view, without}
 use Rattle.xa_server.proofs.GrowthLemmas.{HasGrown}
 use Rattle.xa_server.proofs.StandingLemmas.{all_implied, made_stands, stands_on}
 use Rattle.xa_server.proofs.WorkLemmas.{domain_of_revision}
@@ -93,7 +93,7 @@ ready_without kept number room ready = all_removed (IsReady kept) (nat_eq number
 pub ready_with : (kept : Kept) (number : ℕ) (view : Ready) (room : Room) → IsReady kept (number, view) → AreReady kept room.views → AreReady kept (with_view number view room).views
 ready_with kept number view room this ready =
     let all = in_front number view room.views in
-    all_taken (IsReady kept) (fitting room.max_count room.max_bytes all) all (this, all_removed (IsReady kept) (nat_eq number) room.views ready)
+    all_taken (IsReady kept) (fitting_count room.max_count room.max_bytes all) all (this, all_removed (IsReady kept) (nat_eq number) room.views ready)
 
 -- by how much memory a view is counted that was made of what is kept
 pub estimated : (there : Option KeptView) (kept : KeptView) (ready : Ready) (read : ℕ) → Some kept ≡ there

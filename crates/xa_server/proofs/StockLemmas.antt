@@ -7,7 +7,7 @@ use Rattle.xa_server.specs.declared.revision.Revision.{Revision}
 use Rattle.xa_server.specs.declared.ready.Ready.{Ready}
 use Rattle.xa_server.specs.declared.unsuccessful.Unsuccessful.{Unsuccessful}
 use Rattle.xa_server.specs.Gates.{revision_of}
-use Rattle.xa_server.specs.handling.Asking.{IsFresh, IsLookedUp, key_of_revision, view_told, worked_in}
+use Rattle.xa_server.specs.handling.Asking.{IsFresh, IsLookedUp, evaluated_in, key_of_revision, view_told}
 use Rattle.xa_server.specs.Stock.{AllStand, AreGates, AreReady, Stock}
 use Rattle.xa_server.specs.Views.{touched, with_view, without}
 use Rattle.xa_server.proofs.ReadyLemmas.{made_ready, ready_touched, ready_with, ready_without}
@@ -16,29 +16,29 @@ use Rattle.xa_server.proofs.ValidLemmas.{fresh_valid, looked_valid}
 -- after a look-up of a decision
 pub looked_stands : (kept : Kept) (held : Option (List ℕ)) (key : Key) (old new : Stock) → IsLookedUp held key old.tally new.tally → new.room ≡ old.room → new.gates ≡ old.gates → AllStand kept old → AllStand kept new
 looked_stands kept held key old new moved room gates stand =
-    record { held = looked_valid kept held key old.tally new.tally moved stand.held; views = subst (λ r. AreReady kept r.views) (sym room) stand.views; gates = subst (AreGates kept) (sym gates) stand.gates }
+    record { decisions = looked_valid kept held key old.tally new.tally moved stand.decisions; views = subst (λ r. AreReady kept r.views) (sym room) stand.views; gates = subst (AreGates kept) (sym gates) stand.gates }
 
 module _ (kept : Kept) (name body : List ℕ) (moment : ℤ) (revision : Revision) (numbered : IsNumbered kept) (opens : revision_of name kept ≡ Some revision) where
-  -- after a decision was worked out, where the views stand
-  fresh_stands : (result : Result (List ℕ) Unsuccessful) (old new : Stock) → IsFresh (key_of_revision revision body) (worked_in (state_of name kept) body moment) result old.tally new.tally
+  -- after a decision was evaluated, if the views stand
+  fresh_stands : (result : Result (List ℕ) Unsuccessful) (old new : Stock) → IsFresh (key_of_revision revision body) (evaluated_in (state_of name kept) body moment) result old.tally new.tally
       → AreReady kept new.room.views → new.gates ≡ old.gates → AllStand kept old → AllStand kept new
   fresh_stands result old new work views gates stand =
-      record { held = fresh_valid kept name body moment revision result old.tally new.tally numbered opens work stand.held; views = views; gates = subst (AreGates kept) (sym gates) stand.gates }
+      record { decisions = fresh_valid kept name body moment revision result old.tally new.tally numbered opens work stand.decisions; views = views; gates = subst (AreGates kept) (sym gates) stand.gates }
 
   -- the views are as they were
-  pub left_stands : (result : Result (List ℕ) Unsuccessful) (old new : Stock) → IsFresh (key_of_revision revision body) (worked_in (state_of name kept) body moment) result old.tally new.tally
+  pub left_stands : (result : Result (List ℕ) Unsuccessful) (old new : Stock) → IsFresh (key_of_revision revision body) (evaluated_in (state_of name kept) body moment) result old.tally new.tally
       → new.room ≡ old.room → new.gates ≡ old.gates → AllStand kept old → AllStand kept new
   left_stands result old new work room gates stand = fresh_stands result old new work (subst (λ r. AreReady kept r.views) (sym room) stand.views) gates stand
 
   -- one of them was used
-  pub touched_stands : (result : Result (List ℕ) Unsuccessful) (old new : Stock) → IsFresh (key_of_revision revision body) (worked_in (state_of name kept) body moment) result old.tally new.tally
+  pub touched_stands : (result : Result (List ℕ) Unsuccessful) (old new : Stock) → IsFresh (key_of_revision revision body) (evaluated_in (state_of name kept) body moment) result old.tally new.tally
       → new.room ≡ touched revision.number old.room → new.gates ≡ old.gates → AllStand kept old → AllStand kept new
   touched_stands result old new work room gates stand =
       fresh_stands result old new work (subst (λ r. AreReady kept r.views) (sym room) (ready_touched kept revision.number old.room stand.views)) gates stand
 
   -- one was made, and kept or not
   pub kept_stands : (result : Result (List ℕ) Unsuccessful) (ready : Ready) (is_kept : Bool) (old new : Stock)
-      → IsFresh (key_of_revision revision body) (worked_in (state_of name kept) body moment) result old.tally new.tally → view_told (state_of name kept) ≡ Ok ready.view → ready.revision ≡ revision
+      → IsFresh (key_of_revision revision body) (evaluated_in (state_of name kept) body moment) result old.tally new.tally → view_told (state_of name kept) ≡ Ok ready.view → ready.revision ≡ revision
       → (is_kept ≡ true → new.room ≡ with_view ready.revision.number ready old.room) → (is_kept ≡ false → new.room ≡ without ready.revision.number old.room) → new.gates ≡ old.gates → AllStand kept old → AllStand kept new
   kept_stands result ready true old new work told is was wasnt gates stand =
       fresh_stands result old new work

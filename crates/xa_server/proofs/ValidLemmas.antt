@@ -1,4 +1,4 @@
--- What is held of decisions stays right.
+-- Cached decisions stay right.
 use Rattle.std.proofs.Common.{◌≡◌, ℕ, ℤ, List, refl, sym, ap, ◌∙◌, subst, inl, inr}
 use Rattle.std.specs.Prelude.{Bool, true, false, ◌&&◌, Option, Some, None, option_map, Result, Ok, Err}
 use Rattle.std.specs.FinMap.{get}
@@ -15,11 +15,11 @@ use Rattle.xa_server.specs.declared.revision.Revision.{Revision}
 use Rattle.xa_server.specs.declared.unsuccessful.Unsuccessful.{Unsuccessful}
 use Rattle.xa_server.specs.declared.unsuccessful.Unsuccessful.TheVariants.{Error, Failed}
 use Rattle.xa_server.specs.Gates.{revision_by, revision_of}
-use Rattle.xa_server.specs.handling.Asking.{IsFresh, IsLookedUp, key_of_revision, worked_in}
+use Rattle.xa_server.specs.handling.Asking.{IsFresh, IsLookedUp, evaluated_in, key_of_revision}
 use Rattle.xa_server.specs.Tally.{Tally}
 use Rattle.xa_server.specs.ValidCache.{AreValid, GivesBody, IsValid, response_body_at}
 use Rattle.xa_server.specs.View.{view_of}
-use Rattle.xa_server.specs.Work.{IsBodyHeld, IsWorkedOut, key_in, response_of, worked_out}
+use Rattle.xa_server.specs.Work.{IsBodyCached, IsEvaluated, cache_key, evaluated_response, response_of}
 use Rattle.xa_server.proofs.GrowthLemmas.{HasGrown}
 use Rattle.xa_server.proofs.StandingLemmas.{all_implied, found_holds, made_stands, stands_on}
 use Rattle.xa_server.proofs.WorkLemmas.{domain_of_revision}
@@ -36,20 +36,20 @@ pub valid_grown : (old new : Kept) → HasGrown old new → (held : List (Key ×
 valid_grown old new grows held valid =
     all_implied (IsValid old) (IsValid new) (λ entry. stands_on (GivesBody entry) (alike_gives entry) old new grows entry.0.number entry.0.epoch) held valid
 
--- ---- a decision that is held
+-- ---- a decision that is cached
 
 pub found_right : (kept : Kept) (name : List ℕ) (domain : Domain) (held : List (Key × List ℕ)) (body decided : List ℕ) (moment : ℤ) → AreValid kept held
-    → get kept.domains name ≡ Some domain → found (key_in domain body) held ≡ Some decided → response_body_at domain.state body moment ≡ Some decided
+    → get kept.domains name ≡ Some domain → found (cache_key domain body) held ≡ Some decided → response_body_at domain.state body moment ≡ Some decided
 found_right kept name domain held body decided moment valid there is =
-    found_holds (GivesBody (key_in domain body, decided)) kept name domain there (all_found (IsValid kept) (key_in domain body) held decided valid is) moment
+    found_holds (GivesBody (cache_key domain body, decided)) kept name domain there (all_found (IsValid kept) (cache_key domain body) held decided valid is) moment
 
--- ---- a decision that was worked out
+-- ---- a decision that was evaluated
 
 one_pair : (a b : List ℕ × Bool) → Some a ≡ Some b → a ≡ b
 one_pair a b e = cc
 
 -- the body is that of the response
-is_body : (state : DomainState) (body decided : List ℕ) (timeless : Bool) (moment : ℤ) → worked_out state body moment ≡ Some (decided, timeless)
+is_body : (state : DomainState) (body decided : List ℕ) (timeless : Bool) (moment : ℤ) → evaluated_response state body moment ≡ Some (decided, timeless)
     → (response_body_at state body moment ≡ Some decided) × (is_timeless_answer (view_of state) body ≡ timeless)
 unfolding response_body_at response_of
 is_body state body decided timeless moment worked = by_answer (decision.answer (view_of state) body moment) refl where
@@ -61,7 +61,7 @@ is_body state body decided timeless moment worked = by_answer (decision.answer (
       (rw e (ap (λ p. Some p.0) pair), ap (λ p. p.1) pair)
 
 -- one that stays is right at every moment
-stays_right : (state : DomainState) (body decided : List ℕ) (moment other : ℤ) → worked_out state body moment ≡ Some (decided, true)
+stays_right : (state : DomainState) (body decided : List ℕ) (moment other : ℤ) → evaluated_response state body moment ≡ Some (decided, true)
     → response_body_at state body other ≡ Some decided
 unfolding response_body_at
 stays_right state body decided moment other worked =
@@ -69,49 +69,49 @@ stays_right state body decided moment other worked =
     ap (option_map decision.body_of) (timeless_answers_stay (view_of state) body is.1 other moment) ∙ is.0
 
 worked_valid : (kept : Kept) (name : List ℕ) (domain : Domain) (body decided : List ℕ) (moment : ℤ) → IsNumbered kept → get kept.domains name ≡ Some domain
-    → worked_out domain.state body moment ≡ Some (decided, true) → IsValid kept (key_in domain body, decided)
+    → evaluated_response domain.state body moment ≡ Some (decided, true) → IsValid kept (cache_key domain body, decided)
 worked_valid kept name domain body decided moment numbered there worked =
-    made_stands (GivesBody (key_in domain body, decided)) kept name domain numbered there (λ at. stays_right domain.state body decided moment at worked)
+    made_stands (GivesBody (cache_key domain body, decided)) kept name domain numbered there (λ at. stays_right domain.state body decided moment at worked)
 
--- ---- what is held after a message
+-- ---- what is cached after a message
 
 module _ (kept' : Kept) (numbered : IsNumbered kept') (name : List ℕ) (domain' : Domain) (there : get kept'.domains name ≡ Some domain') (body : List ℕ) (moment : ℤ) where
-  valid_held : (decided : List ℕ) (timeless holds : Bool) → (holds ≡ true → timeless ≡ true) → (old new : Tally) → worked_out domain'.state body moment ≡ Some (decided, timeless)
-      → IsBodyHeld holds (key_in domain' body) decided old new → AreValid kept' old.held → AreValid kept' new.held
+  valid_held : (decided : List ℕ) (timeless holds : Bool) → (holds ≡ true → timeless ≡ true) → (old new : Tally) → evaluated_response domain'.state body moment ≡ Some (decided, timeless)
+      → IsBodyCached holds (cache_key domain' body) decided old new → AreValid kept' old.cached → AreValid kept' new.cached
   valid_held decided timeless false so old new worked (held, unkept) valid = subst (AreValid kept') (sym held) valid
   valid_held decided timeless true so old new worked (inr (held, unkept)) valid = subst (AreValid kept') (sym held) valid
   valid_held decided timeless true so old new worked (inl (held, unkept)) valid =
       subst (AreValid kept') (sym held)
-      (all_kept (IsValid kept') (key_in domain' body) decided old.held
+      (all_kept (IsValid kept') (cache_key domain' body) decided old.cached
       (worked_valid kept' name domain' body decided moment numbered there (worked ∙ ap (λ t. Some (decided, t)) (so refl))) valid)
 
   first : (a b : Bool) → (a && b) ≡ true → a ≡ true
   first true b h = refl
   first false b h = absurd cc
 
-  valid_worked : (worked : Option (List ℕ × Bool)) (old new : Tally) → worked_out domain'.state body moment ≡ worked → IsWorkedOut (key_in domain' body) worked old new
-      → AreValid kept' old.held → AreValid kept' new.held
-  valid_worked None old new e same valid = subst (λ t. AreValid kept' t.held) (sym same) valid
+  valid_worked : (worked : Option (List ℕ × Bool)) (old new : Tally) → evaluated_response domain'.state body moment ≡ worked → IsEvaluated (cache_key domain' body) worked old new
+      → AreValid kept' old.cached → AreValid kept' new.cached
+  valid_worked None old new e same valid = subst (λ t. AreValid kept' t.cached) (sym same) valid
   valid_worked (Some (decided, timeless)) old new e (counted, held) valid =
-      valid_held decided timeless (timeless && fits (key_in domain' body) decided) (first timeless (fits (key_in domain' body) decided)) old new e held valid
+      valid_held decided timeless (timeless && fits (cache_key domain' body) decided) (first timeless (fits (cache_key domain' body) decided)) old new e held valid
 
-  valid_fresh : (result : Result (List ℕ) Unsuccessful) (old new : Tally) → IsFresh (key_in domain' body) (worked_out domain'.state body moment) result old new
-      → AreValid kept' old.held → AreValid kept' new.held
-  valid_fresh (Ok bytes) old new work valid = valid_worked (worked_out domain'.state body moment) old new refl work valid
-  valid_fresh (Err (Error code)) old new (none, same) valid = subst (λ t. AreValid kept' t.held) (sym same) valid
-  valid_fresh (Err (Failed failure)) old new same valid = subst (λ t. AreValid kept' t.held) (sym same) valid
+  valid_fresh : (result : Result (List ℕ) Unsuccessful) (old new : Tally) → IsFresh (cache_key domain' body) (evaluated_response domain'.state body moment) result old new
+      → AreValid kept' old.cached → AreValid kept' new.cached
+  valid_fresh (Ok bytes) old new work valid = valid_worked (evaluated_response domain'.state body moment) old new refl work valid
+  valid_fresh (Err (Error code)) old new (none, same) valid = subst (λ t. AreValid kept' t.cached) (sym same) valid
+  valid_fresh (Err (Failed failure)) old new same valid = subst (λ t. AreValid kept' t.cached) (sym same) valid
 
 -- after a look-up
-pub looked_valid : (kept : Kept) (held : Option (List ℕ)) (key : Key) (old new : Tally) → IsLookedUp held key old new → AreValid kept old.held → AreValid kept new.held
-looked_valid kept None key old new same valid = subst (λ t. AreValid kept t.held) (sym same) valid
-looked_valid kept (Some body) key old new moved valid = subst (λ t. AreValid kept t.held) (sym moved) (all_looked (IsValid kept) key old.held valid)
+pub looked_valid : (kept : Kept) (held : Option (List ℕ)) (key : Key) (old new : Tally) → IsLookedUp held key old new → AreValid kept old.cached → AreValid kept new.cached
+looked_valid kept None key old new same valid = subst (λ t. AreValid kept t.cached) (sym same) valid
+looked_valid kept (Some body) key old new moved valid = subst (λ t. AreValid kept t.cached) (sym moved) (all_looked (IsValid kept) key old.cached valid)
 
--- after a decision was worked out in the domain of that revision
+-- after a decision was evaluated in the domain of that revision
 pub fresh_valid : (kept : Kept) (name body : List ℕ) (moment : ℤ) (revision : Revision) (result : Result (List ℕ) Unsuccessful) (old new : Tally) → IsNumbered kept → revision_of name kept ≡ Some revision
-    → IsFresh (key_of_revision revision body) (worked_in (state_of name kept) body moment) result old new → AreValid kept old.held → AreValid kept new.held
+    → IsFresh (key_of_revision revision body) (evaluated_in (state_of name kept) body moment) result old new → AreValid kept old.cached → AreValid kept new.cached
 fresh_valid kept name body moment revision result old new numbered opens work valid = by_gate (domain_of_revision kept name revision opens) where
-  by_gate : ((d : Domain) × (get kept.domains name ≡ Some d) × (revision_by (gate_of_domain d) ≡ revision)) → AreValid kept new.held
+  by_gate : ((d : Domain) × (get kept.domains name ≡ Some d) × (revision_by (gate_of_domain d) ≡ revision)) → AreValid kept new.cached
   by_gate (d, there, is) =
-      let of_domain : IsFresh (key_in d body) (worked_in (state_of name kept) body moment) result old new =
-      subst (λ o. IsFresh (key_of_revision o body) (worked_in (state_of name kept) body moment) result old new) (sym is) work in
+      let of_domain : IsFresh (cache_key d body) (evaluated_in (state_of name kept) body moment) result old new =
+      subst (λ o. IsFresh (key_of_revision o body) (evaluated_in (state_of name kept) body moment) result old new) (sym is) work in
       valid_fresh kept numbered name d there body moment result old new (rw there at of_domain) valid

@@ -1,4 +1,4 @@
--- Views that are kept ready, as a list.
+-- Cached views, as a list.
 use Rattle.std.proofs.Common.{◌≡◌, ℕ, ◌-◌, ◌≤◌, true, false, nat_eq, List, [], ◌∷◌, length, take, take_all, Option, Some, None, refl, sym, ap, ◌∙◌}
 use Rattle.std.specs.Map.{lookup_entry, remove_entry}
 use Rattle.std.specs.Option.{option_map_or}

@@ -1,4 +1,4 @@
--- What was done for a message to what is held of decisions.
+-- What was done for a message to cached decisions.
 use Rattle.std.proofs.Common.{◌≡◌, ℕ, ℤ, List, [], ◌∷◌, ◌++◌, refl, sym, subst, inl, inr}
 use Rattle.std.specs.Prelude.{Bool, Option, Some, None, Result, Ok, Err}
 use Rattle.std.specs.FinMap.{get}
@@ -26,7 +26,7 @@ use Rattle.xa_server.specs.handling.Replying.{IsReplyOf}
 use Rattle.xa_server.specs.handling.Unsuccessful.{unsuccessful_of_route}
 use Rattle.xa_server.specs.Served.{IsServed}
 use Rattle.xa_server.specs.Tally.{Tally}
-use Rattle.xa_server.specs.Work.{IsAskWork, IsWork, IsWorkOf, IsWorkOfRun, IsWorkedOut, body_held, domain_of_message, key_in, worked_out}
+use Rattle.xa_server.specs.Work.{IsAskWork, IsEvaluated, IsWork, IsWorkOf, IsWorkOfRun, cache_key, cached_body, domain_of_message, evaluated_response}
 use Rattle.xa_server.specs.World.{World}
 
 -- ---- a message that failed, or was turned away, before anything was done
@@ -38,7 +38,7 @@ failed_ask key (Some body) worked failure tally = inl refl
 pub failed : (asked : Option Domain) (body : List ℕ) (moment : ℤ) (failure : Failure) (tally : Tally) → WorksOf asked body moment (Err (Failed failure)) tally tally
 failed None body moment failure tally = refl
 failed (Some domain) body moment failure tally =
-    failed_ask (key_in domain body) (body_held (key_in domain body) body tally) (worked_out domain.state body moment) failure tally
+    failed_ask (cache_key domain body) (cached_body (cache_key domain body) body tally) (evaluated_response domain.state body moment) failure tally
 
 -- ---- a message that was let in
 
@@ -77,7 +77,7 @@ fresh_work : (key : Key) (worked : Option (List ℕ × Bool)) (result : Result (
 fresh_work key worked (Ok bytes) reply old new work is = subst (λ r. IsAskWork key None worked r old new) (sym is) work
 fresh_work key worked (Err (Failed failure)) reply old new work is = subst (λ r. IsAskWork key None worked r old new) (sym is) (inl work)
 fresh_work key worked (Err (Error code)) reply old new (none, same) (inl is) =
-    subst (λ r. IsAskWork key None worked r old new) (sym is) (subst (λ w. IsWorkedOut key w old new) (sym none) same)
+    subst (λ r. IsAskWork key None worked r old new) (sym is) (subst (λ w. IsEvaluated key w old new) (sym none) same)
 fresh_work key worked (Err (Error code)) reply old new (none, same) (inr is) = subst (λ r. IsAskWork key None worked r old new) (sym is) (inl same)
 
 ask_work : (key : Key) (held : Option (List ℕ)) (worked : Option (List ℕ × Bool)) (result : Result (List ℕ) Unsuccessful) (reply : Reply) (old new : Tally)
@@ -91,7 +91,7 @@ pub work_of : (asked : Option Domain) (body : List ℕ) (moment : ℤ) (result :
     → WorksOf asked body moment result old new → IsReplyOf result reply → IsWorkOf asked body moment reply old new
 work_of None body moment result reply old new work is = work
 work_of (Some domain) body moment result reply old new work is =
-    ask_work (key_in domain body) (body_held (key_in domain body) body old) (worked_out domain.state body moment) result reply old new work is
+    ask_work (cache_key domain body) (cached_body (cache_key domain body) body old) (evaluated_response domain.state body moment) result reply old new work is
 
 -- a run goes on by one message
 pub run_more : (old mid new : World) (held between left : Tally) (events : List Event) (replies : List Reply) (event : Event) (reply : Reply)

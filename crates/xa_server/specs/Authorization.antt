@@ -11,7 +11,7 @@ abbrev pub after_spaces : List ℕ → List ℕ
 after_spaces [] = []
 after_spaces (c ∷ cs) = if c == 32 then after_spaces cs else c ∷ cs
 
--- what follows the scheme `Bearer`, written in any case, and at least one space
+-- what follows the scheme `Bearer`, written in any case (RFC 9110, section 11.1), and at least one space
 unfoldable pub credentials_of : List ℕ → Option (List ℕ)
 credentials_of value =
     if str_eq_ignore_ascii_case (take 7 value) (codes "Bearer ") then Some (after_spaces (drop 7 value)) else None

@@ -12,7 +12,7 @@ abbrev pub version_if : Result (List ℕ) VersionError → Option (List ℕ)
 version_if (Ok version) = Some version
 version_if (Err _) = None
 
--- the second step, where the first gave a value
+-- the second step, if the first gave a value
 infixl 10 ◌>>=◌
 abbrev pub ◌>>=◌ : {A B : Type 0} → Option A → (A → Option B) → Option B
 Some x >>= f = f x

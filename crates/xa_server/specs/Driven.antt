@@ -81,8 +81,8 @@ pub record AreMade (calls : Calls) (before now : Known) : Type 0 where
 
 -- ---- what each end of a connection says of them
 
--- the reads: each that gave bytes had room for 65,536. The last gave none where the stream has ended, and failed at a
--- failed read, which no interrupted one is; there were 1,000,000 where those are too many
+-- the reads: each that gave bytes had room for 65,536. The last gave none if the stream has ended, and failed at a
+-- failed read, which no interrupted one is; there were 1,000,000 if those are too many
 abbrev pub HaveRead : Driven → List ReadEnd → Stream → Option (List ℕ) → Type 0
 HaveRead Ended reads after left =
     (All IsReadOn reads × (after.ended ≡ true))
@@ -93,14 +93,15 @@ HaveRead ReadFault reads after left =
 HaveRead TooManyReads reads after left = All IsReadOn reads × (length reads ≡ 1_000_000)
 HaveRead _ reads after left = All IsReadOn reads
 
--- the clock told the moments of the messages, and was asked for no others; after them it told none where there was no
--- clock, and maybe one more where memory was wanted
+-- the clock told the moments of the messages, and was asked for no others; after them it told none if there was no
+-- clock, and maybe one more if memory was wanted
 abbrev pub HasTold : Driven → List ℤ → List (Option ℤ) → Type 0
 HasTold NoClock moments told = told ≡ map Some moments ++ None ∷ []
 HasTold Memory moments told = (told ≡ map Some moments) ⊎ ((moment : ℤ) × (told ≡ map Some moments ++ Some moment ∷ []))
 HasTold _ moments told = told ≡ map Some moments
 
--- the replies were written, each whole and once, in order, and each was flushed before the next
+-- the replies were written, each whole and once, in order (RFC 9112, section 9.3.2), and each was flushed before the
+-- next
 abbrev pub AreSent : List (List ℕ) → List WriteEnd → Type 0
 AreSent [] writes = writes ≡ []
 AreSent (reply ∷ replies) writes =
@@ -117,7 +118,7 @@ pub record IsCutShort (replies : List (List ℕ)) (writes : List WriteEnd) : Typ
   pub cut : IsBrokenOff last part
   pub in_order : writes ≡ before ++ part
 
--- the replies were written, but for the last where a write failed
+-- the replies were written, but for the last if a write failed
 abbrev pub AreWritten : Driven → List (List ℕ) → List WriteEnd → Type 0
 AreWritten WriteFault replies writes = IsCutShort replies writes
 AreWritten _ replies writes = AreSent replies writes
@@ -126,7 +127,7 @@ AreWritten _ replies writes = AreSent replies writes
 abbrev pub HadMemory : Bool → Type 0
 HadMemory had = had ≡ true
 
--- each did, but for the last where memory was wanted
+-- each did, but for the last if memory was wanted
 abbrev pub HaveMemory : Driven → List Bool → Type 0
 HaveMemory Memory calls = (before : List Bool) × All HadMemory before × (calls ≡ before ++ false ∷ [])
 HaveMemory _ calls = All HadMemory calls
@@ -137,8 +138,8 @@ goes_on_after [] = []
 goes_on_after (Refused Store ∷ replies) = true ∷ goes_on_after replies
 goes_on_after (_ ∷ replies) = goes_on_after replies
 
--- what the front said: after each such message whose reply was written, that its keeper can go on; but for the last,
--- where it can't, and that ended the connection
+-- what the front said: after each such message whose reply was written, that its keeper can go on. At `Shut` it said
+-- after the last that it can't, and that ended the connection
 abbrev pub HaveSaid : Driven → Option SessionFault → List Reply → List Bool → Type 0
 HaveSaid Shut fault run said =
     (before : List Reply) × (run ≡ before ++ Refused Store ∷ []) × (said ≡ goes_on_after before ++ false ∷ [])

@@ -1,4 +1,5 @@
--- The error answers: each code with its status (RFC 9110, section 15), and the bytes of its reply.
+-- The error answers: each code with its status (RFC 9110, section 15; 431: RFC 6585, section 5), and the bytes of its
+-- reply.
 use Rattle.std.specs.Prelude.{ℕ, List, ◌++◌, codes}
 use Rattle.xa_http.specs.declared.replies.Media.TheVariants.{Json}
 use Rattle.xa_http.specs.declared.replies.Extra.{Extra}
@@ -61,7 +62,7 @@ row_of (Body fault) = row_of_body fault
 row_of (Refused refusal) = row_of_refusal refusal
 row_of (Session fault) = row_of_session fault
 
--- a 401 names the scheme, and a 405 the methods that the path has
+-- a 401 names the scheme (RFC 9110, section 11.6.1), and a 405 the methods that the path has (section 10.2.1)
 abbrev pub extra_of : ErrorCode → Extra
 extra_of Unauthorized = Challenge
 extra_of (BadMethod place) = Allow place

@@ -29,7 +29,7 @@ pub record Fronted (R : Type 0) : Type 0 where
   pub server : Serving R
   pub lines : Lines
 
--- what is known of a server: its world, and what it holds of decisions with its counts
+-- what is known of a server: its world, and its cached decisions with their counts
 pub record ServerState : Type 0 where
   pub world : World
   pub tally : Tally
@@ -60,7 +60,7 @@ IsGiven moment old next.Ended after None new = new ≡ old
 IsGiven moment old _ after _ new = ⊥
 
 -- the next of a connection's stream is answered, and no other connection changes; or nothing is done. `given` is what
--- its session gave, where it was asked
+-- its session gave, if it was asked
 abbrev pub IsAnswered : Conn → ℤ → FrontState → Option Next → Result (Option Answer) FrontError → FrontState → Type 0
 IsAnswered conn moment old (Some given) (Ok answer) new =
     (stream after : Stream) × IsOpen conn old.lines stream × IsNext stream given after

@@ -16,7 +16,7 @@ use Rattle.xa_server.specs.declared.replies.Reply.{Reply}
 use Rattle.xa_server.specs.Front.{FrontState, Plays}
 use Rattle.xa_server.specs.Lines.{IsOpen}
 
--- what is done to a connection's session where an event is one of its own
+-- what is done to a connection's session if an event is one of its own
 abbrev pub own_step : Conn → Conn → Step → List Step
 own_step conn other step = if nat_eq other.number conn.number then step ∷ [] else []
 
@@ -54,7 +54,7 @@ abbrev pub LeaveOpen : Conn → List Event → Type 0
 LeaveOpen conn [] = Unit {0}
 LeaveOpen conn (event ∷ events) = LeavesOpen conn event × LeaveOpen conn events
 
--- the law: from where a connection is open, the messages that are answered on it are the first of all the bytes that
+-- the law: while a connection is open, the messages that are answered on it are the first of all the bytes that
 -- it has, and takes, so that its k-th reply is that to the k-th message of its stream; and it holds the rest. Events
 -- of other connections in between make no difference
 abbrev pub LinesAreStreams : Type 0

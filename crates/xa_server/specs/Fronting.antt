@@ -27,7 +27,7 @@ use Rattle.xa_server.specs.World.{World}
 abbrev pub AnswersLine : Conn → ℤ → FrontState → FrontState → Result (Option Answer) FrontError → Type 0
 AnswersLine conn moment old new result = (given : Option Next) × IsAnswered conn moment old given result new
 
--- what a session's next is answered, where the reply to a message may be any
+-- what a session's next is answered; the reply to a message may be any
 abbrev pub IsNextGiven : Next → Stream → Option Answer → Type 0
 IsNextGiven (next.Message message) after (Some answer) = answer.last ≡ after.ended
 IsNextGiven (next.Fault fault) after (Some answer) =
@@ -74,7 +74,7 @@ abbrev pub IfAnswerSent : Result (Option Answer) FrontError → Type 0 → Type 
 IfAnswerSent (Ok (Some answer)) claim = IfSent answer.reply claim
 IfAnswerSent _ claim = claim
 
--- the keeper has counted one more failure where a message was refused for want of storage, and else none
+-- the keeper has counted one more failure if a message was refused for want of storage, and else none
 abbrev pub CountsAnswer : ℕ → ℕ → Result (Option Answer) FrontError → Type 0
 CountsAnswer old new (Ok (Some answer)) = CountsReply old new answer.reply
 CountsAnswer old new _ = new ≡ old

@@ -24,7 +24,7 @@ abbrev pub role_in : List ℕ → List Token → Option Role
 role_in digest [] = None
 role_in digest (token ∷ tokens) = if bytes_eq token.digest digest then Some token.role else role_in digest tokens
 
--- the revision of a gate's domain, where one of its tokens has that digest
+-- the revision of a gate's domain, if one of its tokens has that digest
 abbrev pub revision_with : List ℕ → Gate → Option Revision
 revision_with digest gate = option_map (λ _. revision_by gate) (role_in digest gate.tokens)
 

@@ -39,14 +39,13 @@ first_free (Some _ ∷ lines) = option_map suc (first_free lines)
 abbrev pub empty_stream : Stream
 empty_stream = record { held = []; ended = false }
 
--- a connection is opened by the least number of which none is open, and holds nothing; none can be where all 64 are
--- open
+-- a connection is opened by the least number of which none is open, and holds nothing; none can be if all 64 are open
 abbrev pub IsOpened : Lines → Result Conn FrontError → Lines → Type 0
 IsOpened old (Ok conn) new = (first_free old ≡ Some conn.number) × (new ≡ with_line conn (Some empty_stream) old)
 IsOpened old (Err TooManyConnections) new = (first_free old ≡ None) × (new ≡ old)
 IsOpened old (Err _) new = ⊥
 
--- a piece comes to what the connection holds, whole, where both together are at most 1,048,576 bytes; or nothing of it
+-- a piece comes to what the connection holds, whole, if both together are at most 1,048,576 bytes; or nothing of it
 -- does
 abbrev pub IsHeld : Conn → List ℕ → Lines → Result (Unit {0}) FrontError → Lines → Type 0
 IsHeld conn piece old (Ok _) new =
@@ -69,7 +68,7 @@ IsClosed conn old (Err _) new = ⊥
 abbrev pub held_at : Conn → Lines → Option ℕ
 held_at conn lines = option_map (λ (stream : Stream). length stream.held) (line_at conn lines)
 
--- what stands at the front of a stream, where there is one
+-- what stands at the front of a stream, if there is one
 abbrev pub IsLookedIn : Option Stream → Result Look FrontError → Type 0
 IsLookedIn line (Ok look) = (stream : Stream) × (line ≡ Some stream) × IsLook stream look
 IsLookedIn line (Err NoSuchConnection) = line ≡ None

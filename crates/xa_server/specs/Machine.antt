@@ -61,13 +61,13 @@ abbrev pub digest_shown : Message → Option (List ℕ)
 digest_shown message = option_map sha256 (token_in message.fields)
 
 -- whether that is the operator's
-abbrev pub is_digest : List ℕ → Option (List ℕ) → Bool
-is_digest operator None = false
-is_digest operator (Some digest) = bytes_eq digest operator
+abbrev pub is_operators : List ℕ → Option (List ℕ) → Bool
+is_operators operator None = false
+is_operators operator (Some digest) = bytes_eq digest operator
 
 -- the message shows the operator's token
 abbrev pub by_operator : List ℕ → Message → Result (Unit {0}) ErrorCode
-by_operator operator message = if is_digest operator (digest_shown message) then Ok tt else Err Unauthorized
+by_operator operator message = if is_operators operator (digest_shown message) then Ok tt else Err Unauthorized
 
 -- each role may ask for decisions, and `admin` alone for anything else
 abbrev pub permitted : Role → Bool → Result (Unit {0}) ErrorCode
@@ -147,7 +147,7 @@ by_domain_command domain.SetRoot body state =
     or_body_fault (root_of body) >>= (λ root. changed done_reply (within (root_set root)) state)
 by_domain_command domain.SetSource body state =
     or_body_fault (rows_of body) >>= (λ rows. changed done_reply (within (source_set rows)) state)
-by_domain_command domain.Source body state = told (λ kept. Ok (json_reply (rows_body kept.source))) state
+by_domain_command domain.ShowSource body state = told (λ kept. Ok (json_reply (rows_body kept.source))) state
 
 -- ---- what is asked for of one document
 

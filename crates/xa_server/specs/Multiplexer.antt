@@ -7,11 +7,11 @@ use Rattle.xa_server.specs.declared.front_error.FrontError.{FrontError}
 use Rattle.xa_server.specs.declared.front_error.FrontError.TheVariants.{Memory}
 use Rattle.xa_server.specs.Front.{Fronted}
 
--- a front is sound where its keeper is
+-- a front is sound if its keeper is
 abbrev pub front_is_sound : {R : Type 0} → (R → Custody) → Fronted R → Type 0
 front_is_sound custody front = (custody front.server.records).sound
 
--- and goes on where that can
+-- and goes on if that can
 abbrev pub front_goes_on : {R : Type 0} → (R → Custody) → Fronted R → Bool
 front_goes_on custody front = (custody front.server.records).is_open
 
@@ -20,7 +20,7 @@ abbrev pub found_memory : {X : Type 0} → Result X FrontError → Bool
 found_memory (Err Memory) = false
 found_memory _ = true
 
--- whether it has, by its outcome where it was played
+-- whether a call that was played has, by its outcome
 abbrev pub outcome_found_memory : Outcome → Bool
 outcome_found_memory (outcome.Begun result) = found_memory result
 outcome_found_memory (outcome.Held result) = found_memory result

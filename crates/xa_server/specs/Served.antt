@@ -39,7 +39,7 @@ abbrev pub IsServed : World → World → ℤ → Message → Reply → Type 0
 IsServed old new moment message (Sent bytes) = IsSent old new moment message bytes (owner message)
 IsServed old new moment message (Refused _) = new ≡ old
 
--- the keeper has counted one more failure where a message was refused for want of storage, and else none
+-- the keeper has counted one more failure if a message was refused for want of storage, and else none
 abbrev pub CountsReply : ℕ → ℕ → Reply → Type 0
 CountsReply old new (Sent bytes) = new ≡ old
 CountsReply old new (Refused Memory) = new ≡ old

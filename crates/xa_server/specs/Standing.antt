@@ -8,7 +8,7 @@ use Rattle.xa_records.specs.Kept.{Domain, Kept}
 abbrev pub StandsFor : ℕ → (DomainState → Type 0) → Domain → Type 0
 StandsFor epoch Holds domain = (epoch ≤ domain.epoch) × (epoch ≡ domain.epoch → Holds domain.state)
 
--- the number was given to a domain, and where that domain is still there, this stands for it
+-- the number was given to a domain, and if that domain is still there, this stands for it
 abbrev pub StandsUnder : Kept → ℕ → ℕ → (DomainState → Type 0) → Type 0
 StandsUnder kept number epoch Holds =
     (number < kept.next)

@@ -1,4 +1,4 @@
--- What a server holds for all domains, and that it still stands: words that only private functions and the server's
+-- What a server caches for all domains, and that it still stands: words that only private functions and the server's
 -- invariant cite.
 use Rattle.std.specs.Prelude.{◌≡◌, ℕ, List, [], Some}
 use Rattle.std.specs.List.{AllByRecursion}
@@ -8,12 +8,12 @@ use Rattle.xa_records.specs.Readings.{gate_of}
 use Rattle.xa_server.specs.declared.ready.Ready.{Ready}
 use Rattle.xa_server.specs.Gates.{used, with_gate, without_gate}
 use Rattle.xa_server.specs.Standing.{StandsUnder}
-use Rattle.xa_server.specs.Tally.{Tally, nothing_held}
+use Rattle.xa_server.specs.Tally.{Tally, nothing_cached}
 use Rattle.xa_server.specs.ValidCache.{AreValid}
 use Rattle.xa_server.specs.View.{view_of}
 use Rattle.xa_server.specs.Views.{Room}
 
--- decisions with their counts, views that are kept ready, and gates that are remembered
+-- cached decisions with their counts, cached views, and gates that are remembered
 pub record Stock : Type 0 where
   pub tally : Tally
   pub room : Room
@@ -22,12 +22,12 @@ pub record Stock : Type 0 where
 -- as a server begins
 abbrev pub empty_stock : Stock
 empty_stock = record {
-  tally = nothing_held;
+  tally = nothing_cached;
   room = record { views = []; max_count = 128; max_bytes = 268_435_456 };
   gates = [];
 }
 
--- the view is that of the domain of that number, wherever it is still there and of the view's epoch
+-- the view is that of the domain of that number, if this is still there and at the view's epoch
 abbrev pub IsReady : Kept → ℕ × Ready → Type 0
 IsReady kept entry = StandsUnder kept entry.0 entry.1.revision.epoch (λ state. view_of state ≡ entry.1.view)
 
@@ -41,10 +41,10 @@ IsGate kept entry = gate_of entry.0 kept ≡ Some entry.1
 abbrev pub AreGates : Kept → List (List ℕ × Gate) → Type 0
 AreGates kept gates = AllByRecursion (IsGate kept) gates
 
--- each decision that is held may be given again, each view that is kept ready may decide, and each gate that is
--- remembered is its domain's
+-- each cached decision may be given again, each cached view may decide, and each gate that is remembered is its
+-- domain's
 pub record AllStand (kept : Kept) (stock : Stock) : Type 0 where
-  pub held : AreValid kept stock.tally.held
+  pub decisions : AreValid kept stock.tally.cached
   pub views : AreReady kept stock.room.views
   pub gates : AreGates kept stock.gates
 

@@ -1,4 +1,4 @@
--- How the calls of a reader and of a writer end, one after another, where that is known.
+-- How the calls of a reader and of a writer end, one after another, if that is known.
 use Rattle.std.specs.Prelude.{◌≡◌, ◌≢◌, ◌<◌, ◌≤◌, ◌⊎◌, ◌^◌, ◌-◌, ℕ, List, [], ◌∷◌, ◌++◌, length, take, ⊤, Option, Some}
 use Rattle.std.specs.Prelude.{None, Result, Ok, Err}
 use Rattle.std.specs.List.{All}

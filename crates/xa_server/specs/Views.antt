@@ -1,11 +1,11 @@
--- Views that are kept ready, each under its domain's number, the one that was used last first: words that only private
--- functions and the server's invariant cite.
+-- Cached views, each under its domain's number, the one that was used last first: words that only private functions and
+-- the server's invariant cite.
 use Rattle.std.specs.Prelude.{◌+◌, ◌*◌, ◌-◌, ◌&&◌, ℕ, List, [], ◌∷◌, Option, Some, None, min, nat_eq, nat_le, nat_lt}
 use Rattle.std.specs.Prelude.{option_and_then, take, ◌^◌, if◌then◌else◌}
 use Rattle.std.specs.Map.{lookup, remove_entry}
 use Rattle.lru.specs.LruCache.{promoted}
 use Rattle.xa_decide.specs.Decision.{Viewed}
-use Rattle.xa_decide.specs.Places.{places_of_tree}
+use Rattle.xa_decide.specs.Nodes.{nodes_of_tree}
 use Rattle.xa_server.specs.declared.ready.Ready.{Ready}
 
 -- the views, how many of them there may be, and how many bytes they may take together
@@ -30,11 +30,12 @@ touched number room = record room { views = promoted (nat_eq number) room.views 
 abbrev pub without : ℕ → Room → Room
 without number room = record room { views = remove_entry (nat_eq number) room.views }
 
--- how many of the first find room, where there is room for so many views of so many bytes
-abbrev pub fitting : ℕ → ℕ → List (ℕ × Ready) → ℕ
-fitting most bytes [] = 0
-fitting most bytes (entry ∷ entries) =
-    if nat_lt 0 most && nat_le entry.1.bytes bytes then fitting (most - 1) (bytes - entry.1.bytes) entries + 1 else 0
+-- how many of the first find room, if there is room for so many views of so many bytes
+abbrev pub fitting_count : ℕ → ℕ → List (ℕ × Ready) → ℕ
+fitting_count most bytes [] = 0
+fitting_count most bytes (entry ∷ entries) =
+    if nat_lt 0 most && nat_le entry.1.bytes bytes then fitting_count (most - 1) (bytes - entry.1.bytes) entries + 1
+    else 0
 
 -- that view first, and nothing else under its number
 abbrev pub in_front : ℕ → Ready → List (ℕ × Ready) → List (ℕ × Ready)
@@ -42,7 +43,7 @@ in_front number ready views = (number, ready) ∷ remove_entry (nat_eq number) v
 
 -- the first, as many as find room
 abbrev pub shortened : ℕ → ℕ → List (ℕ × Ready) → List (ℕ × Ready)
-shortened most bytes views = take (fitting most bytes views) views
+shortened most bytes views = take (fitting_count most bytes views) views
 
 -- with that view under that number
 abbrev pub with_view : ℕ → Ready → Room → Room
@@ -61,6 +62,6 @@ times a b = min (a * b) (2 ^ 64 - 1)
 abbrev pub bytes_of_view : ℕ → ℕ → ℕ
 bytes_of_view read rows = added (added (times read 8) (times rows 512)) 524_288
 
--- by how much its tree is: 24 bytes for each place
+-- by how much its tree is: 24 bytes for each node
 abbrev pub bytes_of_tree : Viewed → ℕ
-bytes_of_tree view = times (places_of_tree view.tree) 24
+bytes_of_tree view = times (nodes_of_tree view.tree) 24

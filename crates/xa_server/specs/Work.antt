@@ -1,4 +1,4 @@
--- The work of answering: what is held is given again, and all else is worked out and held, where it stays true.
+-- The work of answering: a cached decision is given again; any other is evaluated, and cached if it stays true.
 use Rattle.std.specs.Prelude.{◌≡◌, ◌⊎◌, ◌&&◌, ℕ, ℤ, Bool, true, false, List, [], ◌∷◌, Option, Some, None}
 use Rattle.std.specs.Prelude.{option_and_then, option_map, Result, Ok, Err, length, nat_le, if◌then◌else◌}
 use Rattle.std.specs.FinMap.{get}
@@ -32,7 +32,7 @@ abbrev pub domain_if : Domain → Result (Unit {0}) ErrorCode → Option Domain
 domain_if domain (Ok _) = Some domain
 domain_if domain (Err code) = None
 
--- the domain of that name, where it lets the message ask for decisions
+-- the domain of that name, if it lets the message ask for decisions
 abbrev pub domain_asked : Kept → Message → List ℕ → Option Domain
 domain_asked kept message name =
     option_and_then (λ d. domain_if d (admitted true (Some d.state) message)) (get kept.domains name)
@@ -46,57 +46,58 @@ abbrev pub domain_of_message : Kept → Message → Result Route RouteFault → 
 domain_of_message kept message (Ok route) = domain_of_route kept message route
 domain_of_message kept message (Err fault) = None
 
--- under which key its decision on that body is held
-abbrev pub key_in : Domain → List ℕ → Key
-key_in domain body = record { number = domain.number; epoch = domain.epoch; body = body }
+-- the key under which its decision on that body is cached
+abbrev pub cache_key : Domain → List ℕ → Key
+cache_key domain body = record { number = domain.number; epoch = domain.epoch; body = body }
 
--- the body of the response that is worked out, and whether it is the same at every moment; nothing where the body is
--- no JSON
+-- the body of the response that is evaluated, and whether it is the same at every moment; nothing if the request's body
+-- is no JSON
 unfoldable pub response_of : Viewed → List ℕ → ℤ → Option (List ℕ × Bool)
 response_of view body moment =
     option_map (λ answered. (decision.body_of answered, is_timeless_answer view body))
     (decision.answer view body moment)
 
-abbrev pub worked_out : DomainState → List ℕ → ℤ → Option (List ℕ × Bool)
-worked_out state body moment = response_of (view_of state) body moment
+-- the same, by what decides in a domain of that state
+abbrev pub evaluated_response : DomainState → List ℕ → ℤ → Option (List ℕ × Bool)
+evaluated_response state body moment = response_of (view_of state) body moment
 
--- ---- what becomes of what is held, and of the counts
+-- ---- what becomes of the cached decisions, and of the counts
 
--- a body of a request of more than 16,384 bytes isn't looked up
-abbrev pub body_held : Key → List ℕ → Tally → Option (List ℕ)
-body_held key body tally = if nat_le (length body) 16_384 then found key tally.held else None
+-- the cached body of the response to that body of a request; one of more than 16,384 bytes isn't looked up
+abbrev pub cached_body : Key → List ℕ → Tally → Option (List ℕ)
+cached_body key body tally = if nat_le (length body) 16_384 then found key tally.cached else None
 
 -- a look-up makes that decision the newest use
 abbrev pub looked_up : Key → Tally → Tally
-looked_up key tally = record tally { held = looked key tally.held }
+looked_up key tally = record tally { cached = looked key tally.cached }
 
--- a body that is to be held is held, or is counted as not held
-abbrev pub IsBodyHeld : Bool → Key → List ℕ → Tally → Tally → Type 0
-IsBodyHeld true key body old new =
-    ((new.held ≡ kept key body old.held) × (new.unkept ≡ old.unkept))
-    ⊎ ((new.held ≡ old.held) × IsOneMore old.unkept new.unkept)
-IsBodyHeld false key body old new = (new.held ≡ old.held) × (new.unkept ≡ old.unkept)
+-- a body that is to be cached is cached, or is counted as not cached
+abbrev pub IsBodyCached : Bool → Key → List ℕ → Tally → Tally → Type 0
+IsBodyCached true key body old new =
+    ((new.cached ≡ kept key body old.cached) × (new.unkept ≡ old.unkept))
+    ⊎ ((new.cached ≡ old.cached) × IsOneMore old.unkept new.unkept)
+IsBodyCached false key body old new = (new.cached ≡ old.cached) × (new.unkept ≡ old.unkept)
 
--- a decision was worked out: it is counted, and held where it is the same at every moment and neither body is too
--- large. Of no JSON nothing is worked out
-abbrev pub IsWorkedOut : Key → Option (List ℕ × Bool) → Tally → Tally → Type 0
-IsWorkedOut key None old new = new ≡ old
-IsWorkedOut key (Some (body, timeless)) old new =
-    IsOneMore old.evaluations new.evaluations × IsBodyHeld (timeless && fits key body) key body old new
+-- a decision was evaluated: it is counted, and cached if it is the same at every moment and neither body is too large.
+-- Of no JSON nothing is evaluated
+abbrev pub IsEvaluated : Key → Option (List ℕ × Bool) → Tally → Tally → Type 0
+IsEvaluated key None old new = new ≡ old
+IsEvaluated key (Some (body, timeless)) old new =
+    IsOneMore old.evaluations new.evaluations × IsBodyCached (timeless && fits key body) key body old new
 
--- an ask by a body that is held, or isn't. One that is refused may have done as much, or nothing
+-- an ask whose decision is cached, or isn't. One that is refused may have done as much, or nothing
 abbrev pub IsAskWork : Key → Option (List ℕ) → Option (List ℕ × Bool) → Reply → Tally → Tally → Type 0
 IsAskWork key (Some body) worked (Sent _) old new = new ≡ looked_up key old
 IsAskWork key (Some body) worked (Refused _) old new = (new ≡ old) ⊎ (new ≡ looked_up key old)
-IsAskWork key None worked (Sent _) old new = IsWorkedOut key worked old new
-IsAskWork key None worked (Refused _) old new = (new ≡ old) ⊎ IsWorkedOut key worked old new
+IsAskWork key None worked (Sent _) old new = IsEvaluated key worked old new
+IsAskWork key None worked (Refused _) old new = (new ≡ old) ⊎ IsEvaluated key worked old new
 
 -- an ask of a domain; any other message moves nothing
 abbrev pub IsWorkOf : Option Domain → List ℕ → ℤ → Reply → Tally → Tally → Type 0
 IsWorkOf None body moment reply old new = new ≡ old
 IsWorkOf (Some domain) body moment reply old new =
-    IsAskWork (key_in domain body) (body_held (key_in domain body) body old)
-    (worked_out domain.state body moment) reply old new
+    IsAskWork (cache_key domain body) (cached_body (cache_key domain body) body old)
+    (evaluated_response domain.state body moment) reply old new
 
 -- the work of one message
 abbrev pub IsWork : Kept → ℤ → Message → Reply → Tally → Tally → Type 0
@@ -105,10 +106,10 @@ IsWork kept moment message reply old new =
 
 -- the work of one message after another
 abbrev pub IsWorkOfRun : World → Tally → List Event → List Reply → World → Tally → Type 0
-IsWorkOfRun old held [] [] new left = (new ≡ old) × (left ≡ held)
-IsWorkOfRun old held (event ∷ events) (reply ∷ replies) new left =
+IsWorkOfRun old tally [] [] new left = (new ≡ old) × (left ≡ tally)
+IsWorkOfRun old tally (event ∷ events) (reply ∷ replies) new left =
     (mid : World) × (between : Tally) × IsServed old mid event.0 event.1 reply
-    × IsWork old.kept event.0 event.1 reply held between
+    × IsWork old.kept event.0 event.1 reply tally between
     × IsWorkOfRun mid between events replies new left
-IsWorkOfRun old held [] (_ ∷ _) new left = ⊥
-IsWorkOfRun old held (_ ∷ _) [] new left = ⊥
+IsWorkOfRun old tally [] (_ ∷ _) new left = ⊥
+IsWorkOfRun old tally (_ ∷ _) [] new left = ⊥

@@ -9,8 +9,8 @@ pub record World : Type 0 where
   pub operator : List ℕ
   pub kept : Kept
 
--- a server as contracts see it: the digest of the operator's token, its keeper, and what it holds of decisions with
--- its counts
+-- a server as contracts see it: the digest of the operator's token, its keeper, and its cached decisions with their
+-- counts
 pub record Serving (R : Type 0) : Type 0 where
   pub operator : List ℕ
   pub records : R

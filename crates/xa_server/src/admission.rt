@@ -49,7 +49,7 @@ fn permission(role: Role, for_decisions: bool) -> Result<(), ErrorCode>
 /// The domain's gate, if the digest is that of one of the domain's tokens, whose role may ask for that.
 /// An absent domain and a wrong token are both `Unauthorized`, and both take one call of the keeper.
 #[tactic(auto, using(crate::proofs::AdmissionLemmas::role_is))]
-fn gate_opened<R: Records>(
+fn gate_for<R: Records>(
     alloc: Global,
     records: &mut R,
     name: &Text,
@@ -80,7 +80,7 @@ pub(crate) fn admit<R: Records>(
     ensures keeper { OnlyReads (R.custody records.old) (R.custody records.new) result }
 {
     let digest = digest_shown(message).ok_or(ErrorCode::Unauthorized)?;
-    gate_opened(alloc, records, name, false, &digest)?;
+    gate_for(alloc, records, name, false, &digest)?;
     Ok(())
 }
 
@@ -110,7 +110,7 @@ pub(crate) fn admit_ask<R: Records>(
     if let Some(revision) = resources.revision_by_gate(name, &digest) {
         return Ok(revision);
     }
-    let gate = gate_opened(alloc, records, name, true, &digest)?;
+    let gate = gate_for(alloc, records, name, true, &digest)?;
     let revision = Revision::of(&gate);
     resources.remember(name, gate);
     Ok(revision)

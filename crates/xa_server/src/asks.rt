@@ -7,17 +7,17 @@ ghost use Rattle.std.specs.Option.{ok_or};
 ghost use Rattle.xa_decide.specs.Asked.{asks_policies};
 ghost use Rattle.xa_records.specs.declared.refusal.Refusal.TheVariants.{Absent};
 ghost use Rattle.xa_records.specs.Kept.{state_of};
-ghost use Rattle.xa_records.specs.Readings.{view_of};
+ghost use Rattle.xa_records.specs.Readings.{kept_view_of};
 ghost use Rattle.xa_server.specs.declared.error_code.ErrorCode.TheVariants.{Refused};
-ghost use Rattle.xa_server.specs.handling.Asking.{FreshReply, IfLetIn, IsAsked, IsFresh, IsResponse};
-ghost use Rattle.xa_server.specs.handling.Asking.{IsResponseReply, MakesReady, key_asked, key_within};
-ghost use Rattle.xa_server.specs.handling.Asking.{reply_asked, response_asked, worked_asked};
+ghost use Rattle.xa_server.specs.handling.Asking.{FreshReply, HasItsKey, IfLetIn, IsAsked, IsFresh};
+ghost use Rattle.xa_server.specs.handling.Asking.{IsResponse, IsResponseReply, MakesReady, evaluated_asked};
+ghost use Rattle.xa_server.specs.handling.Asking.{key_asked, key_within, reply_asked, response_asked};
 ghost use Rattle.xa_server.specs.handling.Replying.{Answers, OnlyReads, Tells};
 ghost use Rattle.xa_server.specs.Machine.{response_to, told};
 ghost use Rattle.xa_server.specs.Stock.{AllStand};
 ghost use Rattle.xa_server.specs.handling.Viewing.{AreKeyed, nothing_viewed};
 ghost use Rattle.xa_server.specs.Views.{added, bytes_of_tree, bytes_of_view};
-ghost use Rattle.xa_server.specs.Work.{body_held, response_of};
+ghost use Rattle.xa_server.specs.Work.{cached_body, response_of};
 
 use crate::decisions::{Decisions, key_within};
 use crate::error_code::{ABSENT, ErrorCode};
@@ -50,6 +50,17 @@ pub(crate) struct Ask<'a> {
     pub(crate) moment: Moment,
 }
 
+/// A request for a decision whose body is read, with the key under which its decision is cached.
+#[derive(Drop)]
+struct ReadAsk<'a> {
+    /// The request, but for its body.
+    ask: &'a Ask<'a>,
+    /// The key; none if the body is too large for one.
+    key: Option<Key>,
+    /// The body.
+    body: RequestBody<'a>,
+}
+
 /// What the keeper has for the domain's view: its root, its rows, and texts that are documents of their
 /// keys.
 fn kept_view<R: Records>(
@@ -58,7 +69,7 @@ fn kept_view<R: Records>(
     name: &Text,
 ) -> Result<KeptView, Unsuccessful>
     ensures tells { Tells (R.custody records.old) (R.custody records.new) result
-        (ok_or (view_of name.now (R.custody records.old).kept) (Refused Absent)) }
+        (ok_or (kept_view_of name.now (R.custody records.old).kept) (Refused Absent)) }
     ensures keyed { (R.custody records.new).sound → IfOk result (λ kept. AreKeyed kept.texts) }
     ensures keeper { OnlyReads (R.custody records.old) (R.custody records.new) result }
 {
@@ -82,7 +93,7 @@ fn ready_view<R: Records>(
 ) -> Result<Ready, Unsuccessful>
     ensures tells { MakesReady (R.custody records.old) (R.custody records.new) ask.now result }
     ensures estimate { (R.custody records.new).sound
-        → IfOk result (λ ready. IfSome (view_of ask.now.name.now (R.custody records.old).kept)
+        → IfOk result (λ ready. IfSome (kept_view_of ask.now.name.now (R.custody records.old).kept)
         (λ kept. ready.bytes ≡ added (bytes_of_view (reader.old.left - reader.new.left) (length kept.source))
         (bytes_of_tree ready.view))) }
     ensures keeper { OnlyReads (R.custody records.old) (R.custody records.new) result }
@@ -137,17 +148,16 @@ fn response_by(
 fn reply_by_view(
     alloc: Global,
     decisions: &mut Decisions,
-    ask: &Ask<'_>,
-    key: Option<Key>,
     view: &View,
-    body: &RequestBody<'_>,
+    read: ReadAsk<'_>,
 ) -> Result<Items<u8>, Unsuccessful>
-    requires { key ≡ key_within (key_asked ask.now body.now) }
-    ensures tells { IsResponseReply (response_asked view.now ask.now body.now) result }
-    ensures works { IsFresh (key_asked ask.now body.now)
-        (response_asked view.now ask.now body.now) result decisions.old decisions.new }
+    requires { HasItsKey read }
+    ensures tells { IsResponseReply (response_asked view.now read.entry.ask.now read.entry.body) result }
+    ensures works { IsFresh (key_asked read.entry.ask.now read.entry.body)
+        (response_asked view.now read.entry.ask.now read.entry.body) result decisions.old decisions.new }
 {
-    let responded = response_by(alloc, view, body, ask.moment)?;
+    let ReadAsk { ask, key, body } = read;
+    let responded = response_by(alloc, view, &body, ask.moment)?;
     let reply = decision_reply(alloc, responded.body.as_slice())?;
     decisions.note(key, responded);
     Ok(reply)
@@ -157,32 +167,31 @@ fn reply_by_view(
 /// without success it isn't. If it is known that the domain's policies take too much to read, they aren't
 /// read again.
 #[tactic(auto, using(crate::proofs::AskLemmas::replied, crate::proofs::AskLemmas::works_by, crate::proofs::AskLemmas::absent_reply, crate::proofs::AskLemmas::absent_worked))]
-fn reply_by_kept<R: Records>(
+fn reply_by_new_view<R: Records>(
     alloc: Global,
     resources: &mut Resources,
     records: &mut R,
-    ask: &Ask<'_>,
-    key: Option<Key>,
-    body: &RequestBody<'_>,
+    read: ReadAsk<'_>,
 ) -> Result<Items<u8>, Unsuccessful>
-    requires { key ≡ key_within (key_asked ask.now body.now) }
+    requires { HasItsKey read }
     ensures tells { Tells (R.custody records.old) (R.custody records.new) result
-        (reply_asked (R.custody records.old).kept ask.now body.now) }
+        (reply_asked (R.custody records.old).kept read.entry.ask.now read.entry.body) }
     ensures works { (R.custody records.new).sound
-        → IsFresh (key_asked ask.now body.now) (worked_asked (R.custody records.old).kept ask.now body.now)
+        → IsFresh (key_asked read.entry.ask.now read.entry.body)
+        (evaluated_asked (R.custody records.old).kept read.entry.ask.now read.entry.body)
         result resources.old.tally resources.new.tally }
-    ensures stands { IfLetIn (R.custody records.old) (R.custody records.new) ask.now resources.old
+    ensures stands { IfLetIn (R.custody records.old) (R.custody records.new) read.entry.ask.now resources.old
         (AllStand (R.custody records.old).kept resources.new) }
     ensures room { OnErr result (resources.new.room ≡ resources.old.room) }
     ensures keeper { OnlyReads (R.custody records.old) (R.custody records.new) result }
 {
-    if resources.texts.oversized.has(ask.revision) {
+    if resources.texts.oversized.has(read.ask.revision) {
         // Over the limit of reading: refused as `Limits` says.
         return Err(Unsuccessful::Failed(Failure::Memory));
     }
     let limits = resources.limits;
-    let ready = ready_within(alloc, &mut resources.texts, limits, records, ask)?;
-    let reply = reply_by_view(alloc, &mut resources.decisions, ask, key, &ready.view, body)?;
+    let ready = ready_within(alloc, &mut resources.texts, limits, records, read.ask)?;
+    let reply = reply_by_view(alloc, &mut resources.decisions, &ready.view, read)?;
     resources.views.keep(ready);
     Ok(reply)
 }
@@ -193,38 +202,36 @@ fn reply_without_policies(
     alloc: Global,
     decisions: &mut Decisions,
     limits: Limits,
-    ask: &Ask<'_>,
-    key: Option<Key>,
-    body: &RequestBody<'_>,
+    read: ReadAsk<'_>,
 ) -> Result<Items<u8>, Unsuccessful>
-    requires { key ≡ key_within (key_asked ask.now body.now) }
-    ensures tells { IsResponseReply (response_asked nothing_viewed ask.now body.now) result }
-    ensures works { IsFresh (key_asked ask.now body.now)
-        (response_asked nothing_viewed ask.now body.now) result decisions.old decisions.new }
+    requires { HasItsKey read }
+    ensures tells { IsResponseReply
+        (response_asked nothing_viewed read.entry.ask.now read.entry.body) result }
+    ensures works { IsFresh (key_asked read.entry.ask.now read.entry.body)
+        (response_asked nothing_viewed read.entry.ask.now read.entry.body)
+        result decisions.old decisions.new }
 {
     let nothing = limits.apply_to(View::of_nothing(alloc)?);
-    reply_by_view(alloc, decisions, ask, key, &nothing, body)
+    reply_by_view(alloc, decisions, &nothing, read)
 }
 
-/// The reply where no view is cached: the body's own questions come first, and the keeper is asked only
-/// for a body that asks the policies.
+/// The reply if no view is cached: the body's own questions come first, and the keeper is asked only for a
+/// body that asks the policies.
 fn reply_without_view<R: Records>(
     alloc: Global,
     resources: &mut Resources,
     records: &mut R,
-    ask: &Ask<'_>,
-    key: Option<Key>,
-    body: &RequestBody<'_>,
+    read: ReadAsk<'_>,
 ) -> Result<Items<u8>, Unsuccessful>
-    requires { key ≡ key_within (key_asked ask.now body.now) }
-    ensures { FreshReply (R.custody records.old) (R.custody records.new) ask.now body.now
+    requires { HasItsKey read }
+    ensures { FreshReply (R.custody records.old) (R.custody records.new) read.entry.ask.now read.entry.body
         resources.old resources.new result }
 {
-    if asks_policies(alloc, body)? {
-        return reply_by_kept(alloc, resources, records, ask, key, body);
+    if asks_policies(alloc, &read.body)? {
+        return reply_by_new_view(alloc, resources, records, read);
     }
     let limits = resources.limits;
-    reply_without_policies(alloc, &mut resources.decisions, limits, ask, key, body)
+    reply_without_policies(alloc, &mut resources.decisions, limits, read)
 }
 
 /// The reply by a decision that is evaluated: by the cached view, if there is one, for which no text is
@@ -233,20 +240,19 @@ fn reply_by_evaluation<R: Records>(
     alloc: Global,
     resources: &mut Resources,
     records: &mut R,
-    ask: &Ask<'_>,
-    key: Option<Key>,
-    body: &RequestBody<'_>,
+    read: ReadAsk<'_>,
 ) -> Result<Items<u8>, Unsuccessful>
-    requires { key ≡ key_within (key_asked ask.now body.now) }
-    ensures { FreshReply (R.custody records.old) (R.custody records.new) ask.now body.now
+    requires { HasItsKey read }
+    ensures { FreshReply (R.custody records.old) (R.custody records.new) read.entry.ask.now read.entry.body
         resources.old resources.new result }
 {
+    let ask = read.ask;
     if let Some(view) = resources.views.find(ask.revision) {
-        let reply = reply_by_view(alloc, &mut resources.decisions, ask, key, view, body)?;
+        let reply = reply_by_view(alloc, &mut resources.decisions, view, read)?;
         resources.views.touch(ask.revision.number);
         return Ok(reply);
     }
-    reply_without_view(alloc, resources, records, ask, key, body)
+    reply_without_view(alloc, resources, records, read)
 }
 
 /// The reply by a decision that is evaluated, for a body that isn't read yet: it is read once, whatever is
@@ -263,8 +269,8 @@ fn reply_to_unread<R: Records>(
     ensures { FreshReply (R.custody records.old) (R.custody records.new) ask.now body.now
         resources.old resources.new result }
 {
-    let read = RequestBody::read(alloc, body)?;
-    reply_by_evaluation(alloc, resources, records, ask, key, &read)
+    let body = RequestBody::read(alloc, body)?;
+    reply_by_evaluation(alloc, resources, records, ReadAsk { ask, key, body })
 }
 
 /// The reply to the request of the body by the domain's policies: by the cached decision, if there is one,
@@ -285,8 +291,8 @@ pub(crate) fn reply_to_ask<R: Records>(
         ((R.custody records.new).kept ≡ (R.custody records.old).kept) }
     ensures works { IfLetIn (R.custody records.old) (R.custody records.new) ask.now resources.old
         (IsAsked (key_asked ask.now body.now)
-        (body_held (key_asked ask.now body.now) body.now resources.old.tally)
-        (worked_asked (R.custody records.old).kept ask.now body.now) result
+        (cached_body (key_asked ask.now body.now) body.now resources.old.tally)
+        (evaluated_asked (R.custody records.old).kept ask.now body.now) result
         resources.old.tally resources.new.tally) }
     ensures stands { IfLetIn (R.custody records.old) (R.custody records.new) ask.now resources.old
         (AllStand (R.custody records.old).kept resources.new) }
@@ -297,7 +303,7 @@ pub(crate) fn reply_to_ask<R: Records>(
         return reply_to_unread(alloc, resources, records, ask, None, body);
     };
     let most = resources.limits.reply;
-    if let Some(reply) = resources.decisions.held_reply(alloc, &key, most)? {
+    if let Some(reply) = resources.decisions.cached_reply(alloc, &key, most)? {
         return Ok(reply);
     }
     reply_to_unread(alloc, resources, records, ask, Some(key), body)

@@ -20,7 +20,8 @@ fn after_spaces(text: &[u8]) -> &[u8]
     rest
 }
 
-/// What follows the scheme `Bearer` (RFC 6750, section 2.1), written in any case, and at least one space.
+/// What follows the scheme `Bearer` (RFC 6750, section 2.1), written in any case (RFC 9110, section 11.1),
+/// and at least one space.
 #[tactic(auto, unfolding(crate::specs::Authorization::credentials_of))]
 fn credentials_of(value: &[u8]) -> Option<&[u8]>
     ensures { option_map (λ text. text.now) result ≡ credentials_of value.now }

@@ -24,7 +24,7 @@ use xa_records::{Digest, Records, Upload};
 use xa_value::{Items, Text};
 
 /// Makes a domain in which nothing has been put yet.
-pub(crate) fn create<R: Records>(
+pub(crate) fn create_domain<R: Records>(
     alloc: Global,
     records: &mut R,
     name: &Text,
@@ -39,7 +39,7 @@ pub(crate) fn create<R: Records>(
 }
 
 /// Removes the domain with all that is in it.
-pub(crate) fn remove<R: Records>(
+pub(crate) fn remove_domain<R: Records>(
     alloc: Global,
     records: &mut R,
     name: &Text,
@@ -140,7 +140,7 @@ pub(crate) fn set_source<R: Records>(
 }
 
 /// Deletes a document.
-pub(crate) fn delete<R: Records>(
+pub(crate) fn delete_document<R: Records>(
     alloc: Global,
     records: &mut R,
     name: &Text,

@@ -6,10 +6,10 @@ use xa_value::Moment;
 
 /// A clock. Nothing is promised of its moments: it may stand, and may go back.
 pub trait Clock {
-    /// What it has told, each time that it was asked, where that is known: a moment, or none.
+    /// What it has told, each time that it was asked, if that is known: a moment, or none.
     ghost told: { Self → Option (List (Option ℤ)) } = { λ _. None };
 
-    /// The present moment; none where it can't be told.
+    /// The present moment; none if it can't be told.
     fn now(&mut self) -> Option<Moment>
         ensures { Grows (told self.old) (told self.new) (result ∷ []) };
 }

@@ -2,8 +2,8 @@
 ghost use Rattle.std.specs.Prelude.{◌≡◌, true, option_map, IfOk};
 ghost use Rattle.xa_cache.specs.Bodies.{found};
 ghost use Rattle.xa_server.specs.handling.Asking.{IsLookedUp, IsNoted, key_of_revision, key_within};
-ghost use Rattle.xa_server.specs.Tally.{nothing_held};
-ghost use Rattle.xa_server.specs.Work.{IsBodyHeld};
+ghost use Rattle.xa_server.specs.Tally.{nothing_cached};
+ghost use Rattle.xa_server.specs.Work.{IsBodyCached};
 ghost use Rattle.xa_server.specs.Replies.{decision_reply};
 
 use crate::replies::decision_reply;
@@ -15,7 +15,7 @@ use xa_decide::Responded;
 use xa_records::Digest;
 use xa_value::Items;
 
-/// The most bytes of a request whose decision is looked up and cached: of a longer one none is kept
+/// The most bytes of a request whose decision is looked up and cached: of a longer one none is cached
 /// (`xa_cache::fits`), so no key is made for it.
 const MAX_REQUEST_BYTES: usize = 16_384;
 
@@ -39,14 +39,14 @@ impl Model for Decisions {
 
     ghost coded = { Prim.hlevel (codes, bodies.the_row.coded) };
 
-    ghost view = { λ d. record { held = d.cache; evaluations = d.evaluations; unkept = d.unkept } };
+    ghost view = { λ d. record { cached = d.cache; evaluations = d.evaluations; unkept = d.unkept } };
 }
 
 impl Decisions {
     /// Nothing is cached yet. The operator's token, of which tenants know nothing, makes the places in the
     /// cache unknown to them.
     pub(crate) fn new(alloc: Global, operator: Digest) -> Result<Decisions, AllocError>
-        ensures { IfOk result (λ d. d ≡ nothing_held) }
+        ensures { IfOk result (λ d. d ≡ nothing_cached) }
     {
         Ok(Decisions {
             cache: Cache::new(alloc, operator.as_bytes())?,
@@ -70,16 +70,16 @@ impl Decisions {
     }
 
     /// The reply by the decision that is cached under the key, which is its newest use then. A body of
-    /// more bytes than `most` is `AllocError`, as where it is evaluated.
-    pub(crate) fn held_reply(
+    /// more bytes than `most` is `AllocError`, as when it is evaluated.
+    pub(crate) fn cached_reply(
         &mut self,
         alloc: Global,
         key: &Key,
         most: u64,
     ) -> Result<Option<Items<u8>>, AllocError>
         ensures found { IfOk result (λ reply.
-            reply ≡ option_map decision_reply (found key.now self.old.held)) }
-        ensures moves { IsLookedUp (found key.now self.old.held) key.now self.old self.new }
+            reply ≡ option_map decision_reply (found key.now self.old.cached)) }
+        ensures moves { IsLookedUp (found key.now self.old.cached) key.now self.old self.new }
     {
         match self.cache.look(key) {
             // Over the limit of the response: refused as `Limits` says.
@@ -90,8 +90,8 @@ impl Decisions {
     }
 
     /// Caches a decision, or counts that it couldn't.
-    fn hold(&mut self, key: Key, body: Items<u8>)
-        ensures held { IsBodyHeld true key body self.old self.new }
+    fn keep(&mut self, key: Key, body: Items<u8>)
+        ensures cached { IsBodyCached true key body self.old self.new }
         ensures evaluations { self.new.evaluations ≡ self.old.evaluations }
     {
         if !self.cache.keep(key, body) {
@@ -109,7 +109,7 @@ impl Decisions {
             return;
         };
         if responded.timeless && fits(&key, &responded.body) {
-            self.hold(key, responded.body);
+            self.keep(key, responded.body);
         }
     }
 }

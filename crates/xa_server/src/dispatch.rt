@@ -13,12 +13,13 @@ ghost use Rattle.xa_server.specs.Owner.{name_if};
 use crate::admission::{admit, admit_ask, admit_operator};
 use crate::asks::{Ask, reply_to_ask};
 use crate::changes::{
-    create, delete, drop_token, put_token, remove, set_active, set_root, set_source, upload,
+    create_domain, delete_document, drop_token, put_token, remove_domain, set_active, set_root,
+    set_source, upload,
 };
 use crate::document_key::key_of_parts;
 use crate::error_code::{ABSENT, ErrorCode};
 use crate::name::name_if;
-use crate::readings::{domains, list, show, source};
+use crate::readings::{list_documents, list_domains, show_document, show_source};
 use crate::received::Received;
 use crate::resources::Resources;
 use crate::unsuccessful::Unsuccessful;
@@ -41,8 +42,8 @@ fn by_operator_command<R: Records>(
         (by_operator_command command body.now) }
 {
     match command {
-        OperatorCommand::Create => create(alloc, records, name),
-        OperatorCommand::Remove => remove(alloc, records, name),
+        OperatorCommand::Create => create_domain(alloc, records, name),
+        OperatorCommand::Remove => remove_domain(alloc, records, name),
         OperatorCommand::PutToken => put_token(alloc, records, name, body),
         OperatorCommand::DropToken => drop_token(alloc, records, name, body),
     }
@@ -61,10 +62,10 @@ fn by_domain_command<R: Records>(
 {
     match command {
         DomainCommand::Upload => upload(alloc, records, name, body),
-        DomainCommand::List => list(alloc, records, name),
+        DomainCommand::List => list_documents(alloc, records, name),
         DomainCommand::SetRoot => set_root(alloc, records, name, body),
         DomainCommand::SetSource => set_source(alloc, records, name, body),
-        DomainCommand::Source => source(alloc, records, name),
+        DomainCommand::ShowSource => show_source(alloc, records, name),
     }
 }
 
@@ -80,8 +81,8 @@ fn by_document_command<R: Records>(
         (by_document_command command key.now) }
 {
     match command {
-        DocumentCommand::Show => show(alloc, records, name, key),
-        DocumentCommand::Delete => delete(alloc, records, name, key),
+        DocumentCommand::Show => show_document(alloc, records, name, key),
+        DocumentCommand::Delete => delete_document(alloc, records, name, key),
         DocumentCommand::Activate => set_active(alloc, records, name, key, true),
         DocumentCommand::Deactivate => set_active(alloc, records, name, key, false),
     }
@@ -194,7 +195,7 @@ fn reply_to_route<R: Records>(
     match route {
         Route::Domains => {
             admit_operator(received.operator, received.message)?;
-            domains(alloc, records)
+            list_domains(alloc, records)
         }
         Route::Operator { domain, command } => {
             reply_on_operator_route(alloc, resources, records, received, domain, command)

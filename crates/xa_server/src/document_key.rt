@@ -6,7 +6,7 @@ use xa_http::DocumentParts;
 use xa_policy::{DocumentKey, DocumentKind, Version};
 use xa_value::Text;
 
-/// The key that these parts write; nothing where the kind is another, the id is no text or the version
+/// The key that these parts write; nothing if the kind is another, the id is no text or the version
 /// doesn't read.
 #[tactic(auto, unfolding(crate::specs::DocumentKey::key_of_parts))]
 pub(crate) fn key_of_parts(parts: DocumentParts) -> Option<DocumentKey>

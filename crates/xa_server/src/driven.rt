@@ -1,10 +1,10 @@
-//! How a connection ended that was driven.
+//! The ends of a driven connection.
 
-/// How a connection ended that `drive` has driven.
+/// How `drive` ended.
 #[derive(Clone, Copy, Debug, PartialEq, Eq)]
 pub enum Driven {
-    /// Its stream has ended, or its session: by a message that closes it, or by a fault, which was
-    /// answered. Or it wasn't open.
+    /// Its stream has ended, or its session: by a message that closes it (RFC 9112, section 9.6), or by a
+    /// fault, which was answered. Or it wasn't open.
     Ended,
     /// A read failed; an interrupted one hasn't. All messages that were whole by then are answered.
     ReadFault,

@@ -21,8 +21,9 @@ use std::io::ErrorKind;
 /// them stands on the stack.
 const PIECE_BYTES: usize = 65_536;
 
-/// How often a connection is read from at most; then it ends by `TooManyReads`. So each ends, whatever its
-/// peer sends.
+/// How often a connection is read from at most; then it ends by `TooManyReads`. No time is bounded here: a
+/// peer that sends a byte now and then holds its connection for so many reads. What bounds a message's time
+/// stands before the program.
 const MAX_READS: u32 = 1_000_000;
 
 /// Puts a piece to an open connection.
@@ -77,9 +78,10 @@ fn read_on<F: Multiplexer, I: Reader, W: Writer, C: Clock>(
 
 /// Answers the messages of a connection, each at the clock's moment, until it ends: first those that it
 /// holds already, then those that are read. Each reply is sent whole and once, before the next message
-/// is answered: a message is done only after the reply to the one before it was sent. At most 65,536
-/// bytes are read at once, and at most 1,000,000 times. An interrupted read is one of these, and the
-/// next follows it. A connection that isn't open has ended: nothing is read, and nothing changes.
+/// is answered (RFC 9112, section 9.3.2): a message is done only after the reply to the one before it was
+/// sent. At most 65,536 bytes are read at once, and at most 1,000,000 times. An interrupted read is one of
+/// these, and the next follows it. A connection that isn't open has ended: nothing is read, and nothing
+/// changes.
 #[tactic(auto, using(crate::proofs::OpenLemmas::open_kept, crate::proofs::OpenLemmas::open_trans))]
 pub fn drive<F: Multiplexer, I: Reader, W: Writer, C: Clock>(
     front: &mut F,

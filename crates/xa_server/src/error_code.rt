@@ -13,8 +13,11 @@ use xa_notation::NotationError;
 use xa_records::Refusal;
 use xa_value::Items;
 
-/// Why a message is turned away: the code that the body of the reply names (RFC 9110, section 15, has
-/// the statuses).
+/// 404: what is asked for isn't there.
+pub(crate) const ABSENT: ErrorCode = ErrorCode::Refused(Refusal::Absent);
+
+/// Why a message is turned away: the code that the body of the reply names (statuses: RFC 9110, section 15;
+/// 431: RFC 6585, section 5).
 #[derive(Clone, Copy, Debug, PartialEq, Eq, Error)]
 pub enum ErrorCode {
     /// 404: nothing is served at the path.
@@ -46,9 +49,6 @@ pub enum ErrorCode {
     Session(SessionFault),
 }
 
-/// 404: what is asked for isn't there.
-pub(crate) const ABSENT: ErrorCode = ErrorCode::Refused(Refusal::Absent);
-
 impl ErrorCode {
     /// The status of the error answer.
     fn status(self) -> StatusCode
@@ -68,7 +68,8 @@ impl ErrorCode {
         }
     }
 
-    /// The field that the error answer has beside Content-Type and Content-Length.
+    /// The field that the error answer has beside Content-Type and Content-Length (RFC 9110, sections
+    /// 10.2.1 and 11.6.1).
     fn extra(self) -> Extra
         ensures { result ≡ extra_of self }
     {
@@ -103,6 +104,26 @@ impl ErrorCode {
         ensures { IfOk result (λ bytes. bytes ≡ error_reply self) }
     {
         items_of_reply(alloc, self.status(), Media::Json, self.extra(), self.body())
+    }
+}
+
+impl From<RouteFault> for ErrorCode {
+    ghost from_gives = { λ fault code. code ≡ code_of_route_fault fault };
+
+    fn from(fault: RouteFault) -> ErrorCode {
+        match fault {
+            RouteFault::NoRoute => ErrorCode::NoRoute,
+            RouteFault::BadMethod(place) => ErrorCode::BadMethod(place),
+            RouteFault::BadMediaType => ErrorCode::BadMediaType,
+        }
+    }
+}
+
+impl From<SessionFault> for ErrorCode {
+    ghost from_gives = { λ fault code. code ≡ code_of_session_fault fault };
+
+    fn from(fault: SessionFault) -> ErrorCode {
+        ErrorCode::Session(fault)
     }
 }
 
@@ -154,24 +175,4 @@ pub fn fault_reply(alloc: Global, fault: SessionFault) -> Result<Items<u8>, Allo
     ensures { IfOk result (λ bytes. bytes ≡ error_reply (code_of_session_fault fault)) }
 {
     ErrorCode::from(fault).reply(alloc)
-}
-
-impl From<RouteFault> for ErrorCode {
-    ghost from_gives = { λ fault code. code ≡ code_of_route_fault fault };
-
-    fn from(fault: RouteFault) -> ErrorCode {
-        match fault {
-            RouteFault::NoRoute => ErrorCode::NoRoute,
-            RouteFault::BadMethod(place) => ErrorCode::BadMethod(place),
-            RouteFault::BadMediaType => ErrorCode::BadMediaType,
-        }
-    }
-}
-
-impl From<SessionFault> for ErrorCode {
-    ghost from_gives = { λ fault code. code ≡ code_of_session_fault fault };
-
-    fn from(fault: SessionFault) -> ErrorCode {
-        ErrorCode::Session(fault)
-    }
 }

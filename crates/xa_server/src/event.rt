@@ -9,7 +9,7 @@ use xa_value::Moment;
 pub struct Answer {
     /// The reply.
     pub reply: Reply,
-    /// Whether it is the last of its connection: its session has ended with it.
+    /// Whether it is the last of its connection: its session has ended with it (RFC 9112, section 9.6).
     pub last: bool,
 }
 

@@ -78,10 +78,9 @@ impl<R: Records> Front<R> {
         self.lines.open(self.alloc)
     }
 
-    /// Takes a piece of the connection's stream, whole; or nothing of it, where the connection would
-    /// hold more than 1,048,576 bytes (`Full`), where there is no memory (`Memory`), or where it isn't
-    /// open (`NoSuchConnection`). A connection whose session has ended takes it too, and answers nothing
-    /// to it.
+    /// Takes a piece of the connection's stream, whole; or nothing of it, if the connection would hold
+    /// more than 1,048,576 bytes (`Full`), if there is no memory (`Memory`), or if it isn't open
+    /// (`NoSuchConnection`). A connection whose session has ended takes it too, and answers nothing to it.
     pub fn piece(&mut self, conn: Conn, piece: &[u8]) -> Result<(), FrontError>
         ensures held { IsHeld conn piece.now self.old.lines result self.new.lines }
         ensures server { self.new.server ≡ self.old.server }
@@ -90,7 +89,7 @@ impl<R: Records> Front<R> {
     }
 
     /// Answers the first whole message of the connection's bytes, or the fault by which its stream ends;
-    /// nothing where there is neither. No other connection's bytes change. Without memory before the
+    /// nothing if there is neither. No other connection's bytes change. Without memory before the
     /// message is cut off, or for the reply to the fault, nothing has changed. The reply to a fault is
     /// the same at every moment. Refused with `NoSuchConnection`, if it isn't open; else with `Memory`
     /// alone.
@@ -204,47 +203,22 @@ impl<R: Records> Front<R> {
     }
 }
 
-/// Answers the next of a connection, if it is open.
-fn answer_line<R: Records>(
+/// Answers the fault by which a stream ends. The session has ended then; without memory for the reply it
+/// hasn't.
+fn answer_fault(
     alloc: Global,
-    server: &mut Server<R>,
-    line: &mut Option<Session>,
-    moment: Moment,
-) -> Result<Option<Answer>, FrontError>
-    ensures answered { (R.custody server.new.records).sound
-        → AnswersIn moment
-        (server_state R.custody server.old) (server_state R.custody server.new) line.old line.new result }
-    ensures line { TakesIn line.old line.new result }
-    ensures err { OnErr result ((server.new ≡ server.old) × (line.new ≡ line.old)) }
-    ensures handed { HandsOn R.custody server.old server.new moment line.old result }
-{
-    match line {
-        Some(session) => answer_next(alloc, server, session, moment),
-        None => Err(FrontError::NoSuchConnection),
-    }
-}
-
-/// Answers the next of a stream: its first message, or the fault by which it ends.
-#[tactic(auto, using(crate::proofs::NextLemmas::fault_answered, crate::proofs::NextLemmas::fault_taken, crate::proofs::NextLemmas::fault_handed))]
-fn answer_next<R: Records>(
-    alloc: Global,
-    server: &mut Server<R>,
     session: &mut Session,
-    moment: Moment,
+    fault: SessionFault,
 ) -> Result<Option<Answer>, FrontError>
-    ensures answered { (R.custody server.new.records).sound
-        → AnswersNext moment (server_state R.custody server.old) (server_state R.custody server.new)
-        session.old session.new result }
-    ensures stream { TakesNext session.old session.new result }
-    ensures err { OnErr result ((server.new ≡ server.old) × (session.new ≡ session.old)) }
-    ensures handed { HandsOn R.custody server.old server.new moment (Some session.old) result }
+    requires { IsLook session.old (look.Fault fault) }
+    ensures { IsFaultGiven fault session.old session.new result }
 {
-    match session.look()? {
-        Look::Message => answer_message(server, session, moment),
-        Look::Fault(fault) => answer_fault(alloc, session, fault),
-        Look::More => Ok(None),
-        Look::Ended => Ok(None),
-    }
+    let reply = fault_reply(alloc, fault)?;
+    session.end();
+    Ok(Some(Answer {
+        reply: Reply::Sent(reply),
+        last: true,
+    }))
 }
 
 /// Answers the first message of a stream.
@@ -269,22 +243,46 @@ fn answer_message<R: Records>(
     Ok(Some(Answer { reply, last }))
 }
 
-/// Answers the fault by which a stream ends. The session has ended then; without memory for the reply it
-/// hasn't.
-fn answer_fault(
+/// Answers the next of a stream: its first message, or the fault by which it ends.
+#[tactic(auto, using(crate::proofs::NextLemmas::fault_answered, crate::proofs::NextLemmas::fault_taken, crate::proofs::NextLemmas::fault_handed))]
+fn answer_next<R: Records>(
     alloc: Global,
+    server: &mut Server<R>,
     session: &mut Session,
-    fault: SessionFault,
+    moment: Moment,
 ) -> Result<Option<Answer>, FrontError>
-    requires { IsLook session.old (look.Fault fault) }
-    ensures { IsFaultGiven fault session.old session.new result }
+    ensures answered { (R.custody server.new.records).sound
+        → AnswersNext moment (server_state R.custody server.old) (server_state R.custody server.new)
+        session.old session.new result }
+    ensures stream { TakesNext session.old session.new result }
+    ensures err { OnErr result ((server.new ≡ server.old) × (session.new ≡ session.old)) }
+    ensures handed { HandsOn R.custody server.old server.new moment (Some session.old) result }
 {
-    let reply = fault_reply(alloc, fault)?;
-    session.end();
-    Ok(Some(Answer {
-        reply: Reply::Sent(reply),
-        last: true,
-    }))
+    match session.look()? {
+        Look::Message => answer_message(server, session, moment),
+        Look::Fault(fault) => answer_fault(alloc, session, fault),
+        Look::More | Look::Ended => Ok(None),
+    }
+}
+
+/// Answers the next of a connection, if it is open.
+fn answer_line<R: Records>(
+    alloc: Global,
+    server: &mut Server<R>,
+    line: &mut Option<Session>,
+    moment: Moment,
+) -> Result<Option<Answer>, FrontError>
+    ensures answered { (R.custody server.new.records).sound
+        → AnswersIn moment
+        (server_state R.custody server.old) (server_state R.custody server.new) line.old line.new result }
+    ensures line { TakesIn line.old line.new result }
+    ensures err { OnErr result ((server.new ≡ server.old) × (line.new ≡ line.old)) }
+    ensures handed { HandsOn R.custody server.old server.new moment line.old result }
+{
+    match line {
+        Some(session) => answer_next(alloc, server, session, moment),
+        None => Err(FrontError::NoSuchConnection),
+    }
 }
 
 /// Law: while a connection is open, the messages that are answered on it are the first of the bytes that

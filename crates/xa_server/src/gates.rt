@@ -49,8 +49,8 @@ impl Gates {
         })
     }
 
-    /// The revision of the domain of that name, where its gate is remembered and one of its tokens has
-    /// that digest: one look-up.
+    /// The revision of the domain of that name, if its gate is remembered and one of its tokens has that
+    /// digest: one look-up.
     pub(crate) fn find(&self, name: &Text, digest: &Digest) -> Option<Revision>
         ensures { result ≡ revision_in name.now digest.now self.now }
     {
@@ -66,8 +66,8 @@ impl Gates {
         self.gates.promote(name);
     }
 
-    /// Remembers the gate under a copy of that name, as the one that was used last, where there is
-    /// memory. The 513th goes.
+    /// Remembers the gate under a copy of that name, as the one that was used last, if there is memory.
+    /// The 513th goes.
     pub(crate) fn remember(&mut self, name: &Text, gate: Gate)
         ensures { (self.new ≡ with_gate name.now gate self.old) ⊎ (self.new ≡ self.old) }
     {

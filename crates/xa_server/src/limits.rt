@@ -30,6 +30,6 @@ impl Limits {
     pub(crate) fn apply_to(self, view: View) -> View
         ensures { result ≡ view }
     {
-        view.with_limit(self.work).with_reply_limit(self.reply)
+        view.with_work_limit(self.work).with_reply_limit(self.reply)
     }
 }

@@ -19,19 +19,19 @@ use xa_records::Records;
 /// What a connection is driven on: a `Front`. Beside what a front says of its calls, it may say which of
 /// them have found memory.
 pub trait Multiplexer {
-    /// Whether it does what its clauses say: a front does where its keeper is sound.
+    /// Whether it does what its clauses say: a front does if its keeper is sound.
     ghost is_sound: { Self → Type 0 };
 
     /// What is known of its server and of its connections.
     ghost state: { Self → FrontState };
 
-    /// Whether its calls have found memory, one after another, where that is known.
+    /// Whether its calls have found memory, one after another, if that is known.
     ghost had_memory: { Self → Option (List Bool) } = { λ _. None };
 
     /// Whether its keeper can go on.
     ghost goes_on: { Self → Bool };
 
-    /// What it has said of that, each time that it was asked, where that is known.
+    /// What it has said of that, each time that it was asked, if that is known.
     ghost said: { Self → Option (List Bool) } = { λ _. None };
 
     /// How many bytes the connection holds, if it is open.

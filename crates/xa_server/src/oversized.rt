@@ -37,7 +37,7 @@ impl Oversized {
         matches!(self.epochs.peek(&revision.number), Some(epoch) if *epoch == revision.epoch)
     }
 
-    /// Remembers the domain of that revision, at its epoch, where there is memory.
+    /// Remembers the domain of that revision, at its epoch, if there is memory.
     pub(crate) fn remember(&mut self, revision: Revision) {
         let _put = self.epochs.put(revision.number, revision.epoch);
     }

@@ -18,9 +18,9 @@ use xa_policy::DocumentKey;
 use xa_records::{Records, write_listing, write_names};
 use xa_value::{Items, Text};
 
-/// The domain's documents.
+/// The domain's documents. Over tables what this costs grows with all texts of the domain, active or not.
 #[tactic(auto, using(crate::proofs::GrowthLemmas::reads))]
-pub(crate) fn list<R: Records>(
+pub(crate) fn list_documents<R: Records>(
     alloc: Global,
     records: &mut R,
     name: &Text,
@@ -33,10 +33,10 @@ pub(crate) fn list<R: Records>(
     Ok(json_reply(alloc, &body)?)
 }
 
-/// The rows of the domain's source of attributes. What this costs grows with the texts of the active
-/// documents, too, which the keeper copies.
+/// The rows of the domain's source of attributes. The keeper gives them with the whole view: what this
+/// costs grows with all active texts of the domain, too, and over tables with the others.
 #[tactic(auto, using(crate::proofs::GrowthLemmas::reads))]
-pub(crate) fn source<R: Records>(
+pub(crate) fn show_source<R: Records>(
     alloc: Global,
     records: &mut R,
     name: &Text,
@@ -51,7 +51,7 @@ pub(crate) fn source<R: Records>(
 
 /// The text of a document, as it was uploaded.
 #[tactic(auto, using(crate::proofs::GrowthLemmas::reads))]
-pub(crate) fn show<R: Records>(
+pub(crate) fn show_document<R: Records>(
     alloc: Global,
     records: &mut R,
     name: &Text,
@@ -65,7 +65,10 @@ pub(crate) fn show<R: Records>(
 }
 
 /// The names of all domains. What this costs grows with their number.
-pub(crate) fn domains<R: Records>(alloc: Global, records: &mut R) -> Result<Items<u8>, Unsuccessful>
+pub(crate) fn list_domains<R: Records>(
+    alloc: Global,
+    records: &mut R,
+) -> Result<Items<u8>, Unsuccessful>
     ensures tells { Tells (R.custody records.old) (R.custody records.new) result
         (Ok (json_reply (names_body (names_of (R.custody records.old).kept)))) }
     ensures keeper { OnlyReads (R.custody records.old) (R.custody records.new) result }

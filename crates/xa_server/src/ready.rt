@@ -17,8 +17,8 @@ const ROW_BYTES: usize = 512;
 /// measured (`bench/views.py`).
 const BYTES_OF_A_TEXT_BYTE: usize = 8;
 
-/// The bytes that a place of the linked tree takes: a set's list has room for its children and no more.
-const PLACE_BYTES: usize = 24;
+/// The bytes that a node of the linked tree takes: a set's list has room for its children and no more.
+const NODE_BYTES: usize = 24;
 
 /// The view of a domain at a revision of it.
 #[derive(Drop)]
@@ -41,10 +41,10 @@ pub(crate) fn bytes_of_view(read: usize, rows: usize) -> usize
     documents.saturating_add(rows).saturating_add(VIEW_BYTES)
 }
 
-/// An estimate of the memory that the view's linked tree takes, which may have far more places than the
+/// An estimate of the memory that the view's linked tree takes, which may have far more nodes than the
 /// documents have bytes.
 pub(crate) fn bytes_of_tree(view: &View) -> usize
     ensures { result ≡ bytes_of_tree view.now }
 {
-    view.places().saturating_mul(PLACE_BYTES)
+    view.nodes().saturating_mul(NODE_BYTES)
 }

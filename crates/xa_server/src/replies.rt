@@ -20,12 +20,13 @@ pub enum Reply {
     /// The bytes of the reply.
     Sent(Items<u8>),
     /// No answer of its own; nothing has changed. `Store`: the storage failed. `Memory`: there was none, or a
-    /// limit of the server's was reached (`Server::with_limit`, `with_reply_limit`, `with_reading`).
+    /// limit of the server's was reached (`Server::with_work_limit`, `with_reply_limit`,
+    /// `with_reading_limit`).
     Refused(Failure),
 }
 
 impl Reply {
-    /// The bytes that are sent: of a refused message the fixed 503.
+    /// The bytes that are sent: of a refused message the fixed 503 (RFC 9110, section 15.6.4).
     pub fn bytes(&self) -> &[u8]
         ensures { result.now ≡ bytes_of self.now }
     {

@@ -73,7 +73,7 @@ impl Resources {
         })
     }
 
-    /// From now on with these limits. The views that were kept had others; none is kept yet.
+    /// From now on with these limits. The cached views had others; none is cached any longer.
     pub(crate) fn set_limits(&mut self, limits: Limits)
         ensures { self.new ≡ record {
           tally = self.old.tally;
@@ -90,8 +90,8 @@ impl Resources {
         self.limits = limits;
     }
 
-    /// The revision of the domain of that name, where its gate is remembered and one of its tokens has
-    /// that digest. That is the gate's newest use then; where it has no such token it is none.
+    /// The revision of the domain of that name, if its gate is remembered and one of its tokens has that
+    /// digest. Then this is the gate's newest use, else it is no use.
     pub(crate) fn revision_by_gate(&mut self, name: &Text, digest: &Digest) -> Option<Revision>
         ensures revision { result ≡ revision_in name.now digest.now self.old.gates }
         ensures uses { IsSome result → self.new ≡ using_gate name.now self.old }
@@ -102,7 +102,7 @@ impl Resources {
         Some(revision)
     }
 
-    /// Remembers the gate under that name, where there is memory.
+    /// Remembers the gate under that name, if there is memory.
     pub(crate) fn remember(&mut self, name: &Text, gate: Gate)
         ensures { (self.new ≡ remembering name.now gate self.old) ⊎ (self.new ≡ self.old) }
     {

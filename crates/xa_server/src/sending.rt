@@ -5,8 +5,8 @@ ghost use Rattle.xa_server.specs.handling.Sending.{IsFlushed, IsWritten, SendsNo
 use crate::writer::Writer;
 use std::io::ErrorKind;
 
-/// Sends some of the bytes, from their front, and says how many; nothing where that failed, or where
-/// none are taken any more.
+/// Sends some of the bytes, from their front, and says how many; nothing if that failed, or if none are
+/// taken any more.
 #[tactic(auto, using(crate::proofs::SendingLemmas::took_none, crate::proofs::SendingLemmas::took_some, crate::proofs::SendingLemmas::interrupted, crate::proofs::SendingLemmas::failed))]
 fn send_some<W: Writer>(writer: &mut W, bytes: &[u8]) -> Option<usize>
     requires { 0 < length bytes.now }

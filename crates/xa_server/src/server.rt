@@ -49,7 +49,7 @@ impl<R: Records> Server<R> {
     ghost use Rattle.xa_server.specs.Crash.{IfSent, LeavesStep};
     ghost use Rattle.xa_server.specs.Isolation.{IsIsolated, IsIsolatedBesideRefusals};
     ghost use Rattle.xa_server.specs.Served.{CountsReply, IsRun, IsServed};
-    ghost use Rattle.xa_server.specs.Tally.{nothing_held};
+    ghost use Rattle.xa_server.specs.Tally.{nothing_cached};
     ghost use Rattle.xa_server.specs.Work.{IsWork, IsWorkOfRun};
     ghost use Rattle.xa_server.specs.World.{world};
 
@@ -58,7 +58,7 @@ impl<R: Records> Server<R> {
     pub fn new(alloc: Global, records: R, operator: Digest) -> Result<Server<R>, AllocFailed<R>>
         ensures { MatchResult result
             (λ server.
-            (server.records ≡ records) × (server.operator ≡ operator) × (server.tally ≡ nothing_held))
+            (server.records ≡ records) × (server.operator ≡ operator) × (server.tally ≡ nothing_cached))
             (λ failed. failed.value ≡ records) }
     {
         let Ok(routes) = Routes::new(alloc) else {
@@ -76,12 +76,11 @@ impl<R: Records> Server<R> {
         })
     }
 
-    /// Answers one message: by the machine of the domain that its path names, and no other domain's
-    /// state moves; after a refusal none has moved. It is refused for want of storage only where the
-    /// keeper has counted a failure. Where the keeper was sound before and the disk gave back what was
-    /// written, a crash after the message leaves what one before it might have left, or that domain as
-    /// its machine leaves it and all others as they were, whatever became of it; once a reply of its own
-    /// is there, the keeper is sound as before.
+    /// Answers one message, by the machine of the domain that its path names. No other domain's state
+    /// changes; after a refusal none has. It is refused for storage only if the keeper has counted a
+    /// failure. If the keeper was sound before and the disk gave back what was written, a crash afterwards
+    /// leaves what a crash before could leave, or all with this one step made. After a reply the keeper is
+    /// then sound.
     pub fn serve(&mut self, moment: Moment, message: &Message) -> Reply
         ensures served { (R.custody self.new.records).sound
             → IsServed (world R.custody self.old) (world R.custody self.new) moment message.now result }
@@ -153,35 +152,35 @@ impl<R: Records> Server<R> {
         self.records.is_open()
     }
 
-    /// How many decisions were evaluated; at the greatest number it stays.
+    /// How many decisions were evaluated; it stops at `u64::MAX`.
     pub fn evaluations(&self) -> u64
         ensures { result ≡ self.now.tally.evaluations }
     {
         self.resources.decisions.evaluations()
     }
 
-    /// How many decisions were to be cached, and weren't for want of memory; at the greatest number it stays.
+    /// How many decisions were to be cached, and weren't for want of memory; it stops at `u64::MAX`.
     pub fn unkept(&self) -> u64
         ensures { result ≡ self.now.tally.unkept }
     {
         self.resources.decisions.unkept()
     }
 
-    /// How many texts of policies were read that weren't on the shelf; at the greatest number it stays. No
-    /// clause speaks of it.
+    /// How many texts of policies were read that weren't on the shelf; it stops at `u64::MAX`. No clause
+    /// speaks of it.
     pub fn readings(&self) -> u64 {
         self.resources.texts.shelf.readings()
     }
 
-    /// The same server, which from now on refuses each message whose decision asks for more work than so
-    /// many units. A unit is a byte of a text or of a value that is made, copied or compared; a step, such
-    /// as an expression or a match, is 32, and a rule that is looked at 80 (`xa_expr::Budget`). Work is
-    /// counted and not timed, and each message begins anew. So the same message on the same state is
-    /// refused, or is not, on every machine, whatever other domains ask. Reading (`with_reading`) and
-    /// linking policies, administration, and cached decisions aren't counted. A refusal is
-    /// `Reply::Refused` as for want of memory: nothing has changed, and the reply is the fixed 503. A
-    /// server that is new has no limit.
-    pub fn with_limit(self, units: u64) -> Server<R>
+    /// The same server, which from now on refuses each message whose decision asks for more than `units` of
+    /// work. A unit is a byte of a text or of a value that is made, copied or compared; a step, such as an
+    /// expression or a match, is 32, and a rule that is looked at 80 (`xa_expr::Budget`). Work is counted
+    /// and not timed, and each message begins anew. So the same message on the same state is refused, or is
+    /// not, on every machine, whatever other domains ask. Reading (`with_reading_limit`) and linking
+    /// policies, administration, and cached decisions aren't counted. A refusal is `Reply::Refused` as for
+    /// want of memory: nothing has changed, and the reply is the fixed 503. A server that is new has no
+    /// limit.
+    pub fn with_work_limit(self, units: u64) -> Server<R>
         ensures { result ≡ self }
     {
         let limits = Limits {
@@ -191,12 +190,12 @@ impl<R: Records> Server<R> {
         self.with_limits(limits)
     }
 
-    /// The same server, which from now on refuses each message whose decision has a response of more
-    /// than so many bytes. These are the bytes of the body, with the escapes of its JSON; they are
-    /// counted before they are written. The body follows from the domain's state, the message's body and
-    /// the moment, and so does the refusal, whatever is cached and whatever other domains ask; it is that
-    /// of `with_limit`. Documents and lists are shown whatever this is: how large they are is bounded by
-    /// what a domain may be given. A server that is new has no limit.
+    /// The same server, which from now on refuses each message whose decision has a response of more than
+    /// `bytes`. These are the bytes of the body, with the escapes of its JSON; they are counted before they
+    /// are written. The body follows from the domain's state, the message's body and the moment, and so does
+    /// the refusal, whatever is cached and whatever other domains ask; it is that of `with_work_limit`.
+    /// Documents and lists are shown whatever this is: how large they are is bounded by what a domain may be
+    /// given. A server that is new has no limit.
     pub fn with_reply_limit(self, bytes: u64) -> Server<R>
         ensures { result ≡ self }
     {
@@ -208,13 +207,13 @@ impl<R: Records> Server<R> {
     }
 
     /// The same server, which from now on refuses each message that asks policies whose texts have more
-    /// than so many bytes together. These are the policies to which the domain's root leads, each once.
+    /// than `bytes` together. These are the policies to which the domain's root leads, each once.
     /// Their texts are counted whether their documents are on the shelf or not, and each message begins
     /// anew. So whether it is refused depends on the domain's documents and its root alone. A body that
     /// doesn't ask the policies, a domain without a root, and a cached decision have nothing read. A
     /// refusal is `Reply::Refused` as for want of memory: nothing has changed, and the reply is the fixed
     /// 503. A server that is new has no limit.
-    pub fn with_reading(self, bytes: u64) -> Server<R>
+    pub fn with_reading_limit(self, bytes: u64) -> Server<R>
         ensures { result ≡ self }
     {
         let limits = Limits {
@@ -224,7 +223,7 @@ impl<R: Records> Server<R> {
         self.with_limits(limits)
     }
 
-    /// The same server, whose decisions may cost so much from now on.
+    /// The same server, whose decisions are under these limits from now on.
     fn with_limits(mut self, limits: Limits) -> Server<R>
         ensures { result ≡ self }
     {
@@ -232,19 +231,19 @@ impl<R: Records> Server<R> {
         self
     }
 
-    /// The same server with room for at most so many cached views, or for 128, whichever is less; none is
+    /// The same server with room for at most `most` cached views, or for 128, whichever is less; none is
     /// cached yet. What it answers doesn't depend on them.
-    pub fn with_views(mut self, most: usize) -> Server<R>
+    pub fn with_max_views(mut self, most: usize) -> Server<R>
         ensures { result ≡ self }
     {
         self.resources.views.limit_count(most);
         self
     }
 
-    /// The same server with room for cached views of so many bytes together, by an estimate of the memory
+    /// The same server with room for cached views of at most `bytes` together, by an estimate of the memory
     /// that each takes. None is cached yet. One of them may take all. A server that is new has room for
     /// 256 MiB. What it answers doesn't depend on them.
-    pub fn with_room(mut self, bytes: usize) -> Server<R>
+    pub fn with_view_bytes(mut self, bytes: usize) -> Server<R>
         ensures { result ≡ self }
     {
         self.resources.views.limit_bytes(bytes);

@@ -89,8 +89,7 @@ fn is_shut<F: Multiplexer>(front: &mut F, reply: &Reply) -> bool
 {
     match reply {
         Reply::Refused(Failure::Store) => !front.can_go_on(),
-        Reply::Refused(Failure::Memory) => false,
-        Reply::Sent(_) => false,
+        Reply::Refused(Failure::Memory) | Reply::Sent(_) => false,
     }
 }
 
@@ -178,7 +177,7 @@ fn fault_turn<F: Multiplexer, W: Writer>(front: &mut F, conn: Conn, writer: &mut
 }
 
 /// Answers the next whole message that the connection holds, or the fault by which its stream ends. No
-/// clock is asked where there is no message.
+/// clock is asked if there is no message.
 #[tactic(auto, using(crate::proofs::OpenLemmas::open_kept, crate::proofs::OpenLemmas::open_trans))]
 fn next_turn<F: Multiplexer, W: Writer, C: Clock>(
     front: &mut F,

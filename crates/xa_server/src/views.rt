@@ -2,7 +2,7 @@
 ghost use Rattle.std.specs.Prelude.{◌≡◌, ◌≤◌, ◌-◌, ◌^◌, true, false, [], take};
 ghost use Rattle.std.specs.Prelude.{min, nat_eq, nat_le, option_map, IfOk};
 ghost use Rattle.std.specs.Map.{remove_entry};
-ghost use Rattle.xa_server.specs.Views.{fitting, in_front, shortened, touched};
+ghost use Rattle.xa_server.specs.Views.{fitting_count, in_front, shortened, touched};
 ghost use Rattle.xa_server.specs.Views.{view_ready, with_view, without};
 
 use crate::ready::Ready;
@@ -13,14 +13,14 @@ use std::cmp;
 use std::marker::Model;
 use xa_decide::View;
 
-/// The most views that are kept: when one more is, each of them is looked at.
+/// The most cached views: when one more is cached, each of them is looked at.
 const MAX_VIEWS: usize = 128;
 
 /// The most bytes that they take together, by their estimates, unless another limit is set: 256 MiB.
 const DEFAULT_TOTAL_BYTES: usize = 268_435_456;
 
-/// Cached views, each under its domain's number. The map would hold any number of them: how
-/// many stay is said here.
+/// Cached views, each under its domain's number. The map would hold any number of them: how many stay is
+/// said here.
 #[derive(Drop)]
 pub(crate) struct Views {
     /// The views, the one that was used last first.
@@ -60,7 +60,7 @@ impl Views {
         })
     }
 
-    /// None is kept any longer.
+    /// None is cached any longer.
     pub(crate) fn clear(&mut self)
         ensures { self.new
             ≡ record { views = []; max_count = self.old.max_count; max_bytes = self.old.max_bytes } }
@@ -68,7 +68,7 @@ impl Views {
         self.ready.clear();
     }
 
-    /// None is kept any longer, and there is room for so many, or for 128, whichever is less.
+    /// None is cached any longer, and there is room for `most`, or for 128, whichever is less.
     pub(crate) fn limit_count(&mut self, most: usize)
         ensures { self.new ≡ record { views = []; max_count = min most 128; max_bytes = self.old.max_bytes } }
     {
@@ -76,7 +76,7 @@ impl Views {
         self.clear();
     }
 
-    /// None is kept any longer, and there is room for so many bytes.
+    /// None is cached any longer, and there is room for so many bytes.
     pub(crate) fn limit_bytes(&mut self, bytes: usize)
         ensures { self.new ≡ record { views = []; max_count = self.old.max_count; max_bytes = bytes } }
     {
@@ -102,10 +102,11 @@ impl Views {
         self.ready.promote(&number);
     }
 
-    /// Keeps the view under its domain's number, in the place of any that was there, as the one that was
-    /// used last, and answers whether it was kept: not where it is too large, nor where there is no memory
-    /// for it. The one that was not used for longest goes, until there is room for all. What this costs
-    /// grows with the views that are kept, of which each is looked at once, and with those that go.
+    /// Caches the view under its domain's number, in the place of any that was there, as the one that was
+    /// used last; not if it is too large, nor if there is no memory for it. The one that was not used for
+    /// longest goes, until there is room for all. What this costs grows with the cached views, each of which
+    /// is looked at once, and with those that go. The answer, whether it was cached, is for the contract
+    /// alone.
     pub(crate) fn keep(&mut self, ready: Ready) -> bool
         ensures kept { result ≡ true → self.new ≡ with_view ready.revision.number ready self.old }
         ensures left { result ≡ false → self.new ≡ without ready.revision.number self.old }
@@ -125,7 +126,7 @@ impl Views {
     }
 }
 
-/// Puts the view first, where there is memory.
+/// Puts the view first, if there is memory.
 fn put(views: &mut LruCache<u64, Ready>, number: u64, ready: Ready) -> bool
     requires { views.old.cap ≡ 2 ^ 64 - 1 }
     ensures cap { views.new.cap ≡ 2 ^ 64 - 1 }
@@ -142,8 +143,8 @@ fn put(views: &mut LruCache<u64, Ready>, number: u64, ready: Ready) -> bool
 }
 
 /// How many of the views that were used last find room.
-fn fitting(views: &LruCache<u64, Ready>, most: usize, bytes: usize) -> usize
-    ensures { result ≡ fitting most bytes views.now.entries }
+fn fitting_count(views: &LruCache<u64, Ready>, most: usize, bytes: usize) -> usize
+    ensures { result ≡ fitting_count most bytes views.now.entries }
 {
     let mut count = 0usize;
     let mut left = bytes;
@@ -162,7 +163,7 @@ fn shorten(views: &mut LruCache<u64, Ready>, most: usize, bytes: usize)
     ensures cap { views.new.cap ≡ views.old.cap }
     ensures entries { views.new.entries ≡ shortened most bytes views.old.entries }
 {
-    let count = fitting(views, most, bytes);
+    let count = fitting_count(views, most, bytes);
     while views.len() > count {
         views.pop_lru();
     }

@@ -9,10 +9,10 @@ use std::io::{self, Write};
 /// What the bytes of a connection are written to: every `Write`. Beside what that says of its bytes, it
 /// may say how each of its writes and flushes has ended, and why one failed.
 pub trait Writer {
-    /// The bytes that it holds, where they are known.
+    /// The bytes that it holds, if they are known.
     ghost contents: { Self → Option (List ℕ) } = { λ _. None };
 
-    /// How its writes and flushes have ended, one after another, where that is known.
+    /// How its writes and flushes have ended, one after another, if that is known.
     ghost writes: { Self → Option (List WriteEnd) } = { λ _. None };
 
     /// Takes some bytes from the front of these, and says how many.

@@ -15,6 +15,7 @@ use Rattle.xa_decide.specs.Decision.{Viewed}
 use Rattle.xa_http.specs.declared.route.Route.{Route}
 use Rattle.xa_http.specs.Routes.{route_of}
 use Rattle.xa_server.specs.declared.asks.Ask.{Ask}
+use Rattle.xa_server.specs.declared.asks.ReadAsk.{ReadAsk}
 use Rattle.xa_server.specs.declared.error_code.ErrorCode.{ErrorCode}
 use Rattle.xa_server.specs.declared.error_code.ErrorCode.TheVariants as error
 use Rattle.xa_server.specs.declared.ready.Ready.{Ready}
@@ -28,30 +29,30 @@ use Rattle.xa_server.specs.Replies.{decision_reply}
 use Rattle.xa_server.specs.Stock.{AllStand, Stock}
 use Rattle.xa_server.specs.Tally.{Tally}
 use Rattle.xa_server.specs.View.{view_of}
-use Rattle.xa_server.specs.Work.{IsWorkedOut, body_held, domain_of_message, domain_of_route, key_in, looked_up}
-use Rattle.xa_server.specs.Work.{response_of, worked_out}
+use Rattle.xa_server.specs.Work.{IsEvaluated, cache_key, cached_body, domain_of_message, domain_of_route, looked_up}
+use Rattle.xa_server.specs.Work.{evaluated_response, response_of}
 
--- the body of the response, and whether it is the same at every moment; nothing of an absent domain, and where the
--- body is no JSON
-abbrev pub worked_in : Option DomainState → List ℕ → ℤ → Option (List ℕ × Bool)
-worked_in state body moment = option_and_then (λ s. worked_out s body moment) state
+-- the body of the response, and whether it is the same at every moment; nothing of an absent domain, or if the
+-- request's body is no JSON
+abbrev pub evaluated_in : Option DomainState → List ℕ → ℤ → Option (List ℕ × Bool)
+evaluated_in state body moment = option_and_then (λ s. evaluated_response s body moment) state
 
 -- the same, or why there is none
 abbrev pub response_told : List ℕ → ℤ → Option DomainState → Result (List ℕ × Bool) ErrorCode
 response_told body moment state =
-    ok_or state (error.Refused Absent) >>= (λ s. ok_or (worked_out s body moment) (error.Body NotJson))
+    ok_or state (error.Refused Absent) >>= (λ s. ok_or (evaluated_response s body moment) (error.Body NotJson))
 
 -- what decides in a domain; nothing in an absent one
 abbrev pub view_told : Option DomainState → Result Viewed ErrorCode
 view_told state = ok_or (option_map view_of state) (error.Refused Absent)
 
--- it was worked out by what decides; or the body is no JSON; or there was no memory
+-- it was evaluated by what decides; or the body is no JSON; or there was no memory
 abbrev pub IsResponse : Option (List ℕ × Bool) → Result Responded Unsuccessful → Type 0
 IsResponse meant (Ok responded) = meant ≡ Some (responded.body, responded.timeless)
 IsResponse meant (Err (Error code)) = (meant ≡ None) × (code ≡ error.Body NotJson)
 IsResponse meant (Err (Failed failure)) = failure ≡ Memory
 
--- the reply to what was worked out, or the body is no JSON, or there was no memory
+-- the reply to what was evaluated; or the body is no JSON; or there was no memory
 abbrev pub IsResponseReply : Option (List ℕ × Bool) → Result (List ℕ) Unsuccessful → Type 0
 IsResponseReply meant (Ok bytes) = option_map (λ response. decision_reply response.0) meant ≡ Some bytes
 IsResponseReply meant (Err (Error code)) = (meant ≡ None) × (code ≡ error.Body NotJson)
@@ -64,7 +65,7 @@ IsMadeReady old new revision (Ok ready) meant = (meant ≡ Ok ready.view) × (re
 IsMadeReady old new revision (Err (Error code)) meant = (meant ≡ Err code) × (new ≡ old)
 IsMadeReady old new revision (Err (Failed failure)) meant = new ≡ old
 
--- the same of the domain that has let an ask in, where the keeper is sound
+-- the same of the domain that has let an ask in, if the keeper is sound
 abbrev pub MakesReady : Custody → Custody → Ask → Result Ready Unsuccessful → Type 0
 MakesReady old new ask result =
     new.sound → IsMadeReady old.kept new.kept ask.revision result (view_told (state_of ask.name.now old.kept))
@@ -73,56 +74,59 @@ MakesReady old new ask result =
 abbrev pub reply_told : List ℕ → ℤ → Option DomainState → Result (List ℕ) ErrorCode
 reply_told body moment state = response_told body moment state >>= (λ response. Ok (decision_reply response.0))
 
--- under which key a decision is held, by the revision of the domain that lets the message in
+-- the key under which a decision is cached, by the revision of the domain that lets the message in
 abbrev pub key_of_revision : Revision → List ℕ → Key
 key_of_revision revision body = record { number = revision.number; epoch = revision.epoch; body = body }
 
--- the same, where the body isn't too large: it has at most 16,384 bytes
+-- the same, if the body isn't too large: it has at most 16,384 bytes
 abbrev pub key_within : Key → Option Key
 key_within key = if nat_le (length key.body) 16_384 then Some key else None
 
--- a decision was worked out, and counted; without a key it isn't held
+-- a decision was evaluated, and counted; without a key it isn't cached
 abbrev pub IsNoted : Option Key → List ℕ → Bool → Tally → Tally → Type 0
-IsNoted (Some key) body timeless old new = IsWorkedOut key (Some (body, timeless)) old new
+IsNoted (Some key) body timeless old new = IsEvaluated key (Some (body, timeless)) old new
 IsNoted None body timeless old new =
-    IsOneMore old.evaluations new.evaluations × (new.held ≡ old.held) × (new.unkept ≡ old.unkept)
+    IsOneMore old.evaluations new.evaluations × (new.cached ≡ old.cached) × (new.unkept ≡ old.unkept)
 
 -- the domain that has let it in is there, at that revision
 abbrev pub IsLetIn : Kept → Ask → Type 0
 IsLetIn kept ask = revision_of ask.name.now kept ≡ Some ask.revision
 
--- this holds where a domain has let it in, and where all that the server shares stood before and the keeper is sound
--- after
+-- this holds if a domain has let it in, if all that the server shares stood before, and if the keeper is sound after
 abbrev pub IfLetIn : Custody → Custody → Ask → Stock → Type 0 → Type 0
 IfLetIn old new ask before claim = IsLetIn old.kept ask → AllStand old.kept before → new.sound → claim
 
--- under which key the decision on the body is held
+-- the key under which the decision on the body is cached
 abbrev pub key_asked : Ask → List ℕ → Key
 key_asked ask body = key_of_revision ask.revision body
+
+-- the key of a read ask is that of its body, if the body isn't too large
+abbrev pub HasItsKey : ReadAsk → Type 0
+HasItsKey read = read.key ≡ key_within (key_asked read.ask.now read.body)
 
 -- what its response comes to, by what decides; by what decides in its domain; and the reply
 abbrev pub response_asked : Viewed → Ask → List ℕ → Option (List ℕ × Bool)
 response_asked view ask body = response_of view body ask.moment
 
-abbrev pub worked_asked : Kept → Ask → List ℕ → Option (List ℕ × Bool)
-worked_asked kept ask body = worked_in (state_of ask.name.now kept) body ask.moment
+abbrev pub evaluated_asked : Kept → Ask → List ℕ → Option (List ℕ × Bool)
+evaluated_asked kept ask body = evaluated_in (state_of ask.name.now kept) body ask.moment
 
 abbrev pub reply_asked : Kept → Ask → List ℕ → Result (List ℕ) ErrorCode
 reply_asked kept ask body = reply_told body ask.moment (state_of ask.name.now kept)
 
--- the decision was worked out, with success; by an error answer nothing was there to be worked out, and a failure has
+-- the decision was evaluated, with success; by an error answer nothing was there to be evaluated, and a failure has
 -- left all
 abbrev pub IsFresh : Key → Option (List ℕ × Bool) → Result (List ℕ) Unsuccessful → Tally → Tally → Type 0
-IsFresh key worked (Ok bytes) old new = IsWorkedOut key worked old new
+IsFresh key worked (Ok bytes) old new = IsEvaluated key worked old new
 IsFresh key worked (Err (Error code)) old new = (worked ≡ None) × (new ≡ old)
 IsFresh key worked (Err (Failed failure)) old new = new ≡ old
 
--- a look-up where a decision is held, or isn't
+-- a look-up of a decision that is cached, or isn't
 abbrev pub IsLookedUp : Option (List ℕ) → Key → Tally → Tally → Type 0
 IsLookedUp None key old new = new ≡ old
 IsLookedUp (Some body) key old new = new ≡ looked_up key old
 
--- an ask that was let in, where a decision is held, or isn't
+-- an ask that was let in, whose decision is cached, or isn't
 abbrev pub IsAsked : Key → Option (List ℕ) → Option (List ℕ × Bool) → Result (List ℕ) Unsuccessful
     → Tally → Tally → Type 0
 IsAsked key (Some body) worked (Ok bytes) old new = new ≡ looked_up key old
@@ -130,24 +134,24 @@ IsAsked key (Some body) worked (Err (Error code)) old new = ⊥
 IsAsked key (Some body) worked (Err (Failed failure)) old new = (new ≡ old) ⊎ (new ≡ looked_up key old)
 IsAsked key None worked result old new = IsFresh key worked result old new
 
--- an ask that was let in was answered by a decision that is worked out
+-- an ask that was let in was answered by a decision that is evaluated
 pub record FreshReply (old new : Custody) (ask : Ask) (body : List ℕ) (before after : Stock)
     (result : Result (List ℕ) Unsuccessful) : Type 0 where
   pub tells : IfLetIn old new ask before (Shows old.kept new.kept result (reply_asked old.kept ask body))
   pub works : IfLetIn old new ask before
-      (IsFresh (key_asked ask body) (worked_asked old.kept ask body) result before.tally after.tally)
+      (IsFresh (key_asked ask body) (evaluated_asked old.kept ask body) result before.tally after.tally)
   pub stands : IfLetIn old new ask before (AllStand old.kept after)
   pub room : OnErr result (after.room ≡ before.room)
   pub keeper : OnlyReads old new result
 
--- ---- what was done to what is held of decisions
+-- ---- what was done to cached decisions
 
 -- by a message, by the domain that it asks
 abbrev pub WorksOf : Option Domain → List ℕ → ℤ → Result (List ℕ) Unsuccessful → Tally → Tally → Type 0
 WorksOf None body moment result old new = new ≡ old
 WorksOf (Some domain) body moment result old new =
-    IsAsked (key_in domain body) (body_held (key_in domain body) body old)
-    (worked_out domain.state body moment) result old new
+    IsAsked (cache_key domain body) (cached_body (cache_key domain body) body old)
+    (evaluated_response domain.state body moment) result old new
 
 abbrev pub WorksRoute : Received → Kept → Route → Result (List ℕ) Unsuccessful → Tally → Tally → Type 0
 WorksRoute received kept route result old new =

@@ -68,8 +68,8 @@ turn_after true true last = Ends driven.Shut
 turn_after true false true = Ends driven.Ended
 turn_after true false false = Answered
 
--- what the front is asked after a reply that was written whole, and says: whether its keeper can go on, where the
--- message was refused for want of storage
+-- what the front is asked after a reply that was written whole, and says: whether its keeper can go on, if the message
+-- was refused for want of storage
 abbrev pub IsAskedAfter : Bool → Reply → Bool → Option (List Bool) → Option (List Bool) → Type 0
 IsAskedAfter true (Refused Store) true said saying = Grows said saying (false ∷ [])
 IsAskedAfter true (Refused Store) false said saying = Grows said saying (true ∷ [])
@@ -96,7 +96,7 @@ IsAnsweredAt turn conn moment old new before now =
     × (now.contents ≡ before.contents) × (now.writes ≡ before.writes) × (now.said ≡ before.said))
     ⊎ (line_at conn old.lines ≡ None))
 
--- so it was at the clock's moment, where there was one
+-- so it was at the clock's moment, if there was one
 abbrev pub IsAnsweredNow : Turn → Conn → FrontState → FrontState → Known → Known → Type 0
 IsAnsweredNow turn conn old new before now =
     ((moment : ℤ) × Grows before.told now.told (Some moment ∷ [])

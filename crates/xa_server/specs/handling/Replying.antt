@@ -42,7 +42,7 @@ Shows old new (Ok x) meant = (meant ≡ Ok x) × (new ≡ old)
 Shows old new (Err (Error code)) meant = (meant ≡ Err code) × (new ≡ old)
 Shows old new (Err (Failed failure)) meant = new ≡ old
 
--- the same, where the keeper is sound
+-- the same, if the keeper is sound
 abbrev pub Tells : {X : Type 0} → Custody → Custody → Result X Unsuccessful → Result X ErrorCode → Type 0
 Tells old new result meant = new.sound → Shows old.kept new.kept result meant
 
@@ -78,7 +78,7 @@ AnswersMessage received old new None result =
 AnswersMessage received old new (Some name) result =
     Answers old new name result (answer received.operator (state_of name old) received.message.now received.moment)
 
--- the same, where all that the server shares stood before and the keeper is sound after
+-- the same, if all that the server shares stood before and the keeper is sound after
 abbrev pub TellsRoute : Custody → Custody → Received → Stock → Option (List ℕ) → Route → Result (List ℕ) Unsuccessful
     → Type 0
 TellsRoute old new received before name route result =
@@ -89,7 +89,7 @@ TellsMessage old new received before result =
     AllStand old.kept before → new.sound
     → AnswersMessage received old.kept new.kept (owner received.message.now) result
 
--- the keeper has counted one more failure for want of storage, where that is why, and else none
+-- the keeper has counted one more failure for want of storage, if that is why, and else none
 abbrev pub Counts : {X : Type 0} → ℕ → ℕ → Result X Unsuccessful → Type 0
 Counts old new (Ok x) = new ≡ old
 Counts old new (Err (Error code)) = new ≡ old
@@ -140,12 +140,12 @@ LeavesMessage before after received old (Some name) =
 
 -- ---- what is done for a message
 
--- what is told of the keeper after a part of a message was handled, where this a crash may leave
+-- what is told of the keeper after a part of a message was handled; `leaves_so` is what a crash may leave
 pub record Keeping {X : Type 0} (old new : Custody) (result : Result X Unsuccessful) (leaves_so : Type 0) : Type 0 where
-  -- where it is sound it was, and where the disk has given back what was written it had before
+  -- if it is sound, it was; if the disk has given back what was written, it had before
   pub sound : new.sound → old.sound
   pub clean : new.clean → old.clean
-  -- and there it stays sound, unless that failed
+  -- then it stays sound, unless that failed
   pub stays : new.clean → old.sound → IfTold result new.sound
   pub leaves : new.clean → old.sound → leaves_so
   -- its calls that failed for want of storage are counted
@@ -165,8 +165,8 @@ KeepsMessage old new received result =
     Keeping old new result
     (LeavesMessage old.may_leave new.may_leave received old.kept (owner received.message.now))
 
--- what is told of all that a server shares, after a part of a message was handled before which all of it stood: of
--- what is held of decisions this was done, and all still stands; without success the views are as they were
+-- what is told of all that a server shares, after a part of a message was handled before which all of it stood: this
+-- was done to cached decisions, and all still stands; without success the views are as they were
 pub record Sharing {X : Type 0} (old new : Custody) (before after : Stock) (result : Result X Unsuccessful)
     (works_so : Type 0) : Type 0 where
   pub works : AllStand old.kept before → new.sound → works_so
@@ -183,11 +183,7 @@ pub record OnlyForgets (old new : Custody) (before after : Stock) : Type 0 where
 pub record Handles {X : Type 0} (old new : Custody) (result : Result X Unsuccessful) (is_answered leaves_so : Type 0)
     : Type 0 where
   pub answers : new.sound → is_answered
-  pub sound : new.sound → old.sound
-  pub clean : new.clean → old.clean
-  pub stays : new.clean → old.sound → IfTold result new.sound
-  pub leaves : new.clean → old.sound → leaves_so
-  pub counts : Counts old.faults new.faults result
+  pub keeper : Keeping old new result leaves_so
 
 -- a message that asks for this was handled, which may change the domain that its path names
 pub record ChangesRoute (old new : Custody) (received : Received) (route : Route)

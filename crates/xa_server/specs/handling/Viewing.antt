@@ -21,6 +21,6 @@ active_by_key one = record { kind = one.key.kind; id = one.key.id; version = one
 abbrev pub read_for : KeptView → ℕ
 read_for kept = reading_for (active_of kept.texts) kept.root
 
--- what decides where nothing is kept
+-- what decides if nothing is kept
 abbrev pub nothing_viewed : Viewed
 nothing_viewed = view_by [] None []

@@ -12,53 +12,53 @@ pub returns-in_err-reply : goal.returns-in_err-reply
 returns-in_err-reply g c =
     let custody = g.R.Records.custody c.args.records.now in
     let kept = (g.R.Records.custody c.args.records.now).kept in
-    let state = state_of c.args.ask.now.name.now kept in
+    let state = state_of c.args.read.ask.now.name.now kept in
     let stopped : c.from_residual.result ≡ Err c.in_err-reply.field-0.0 = search rules in
     record {
       tells = λ opens stand sound.
           let old = subst (AllStand kept) (sym c.resources.view_is) stand in
-          let told = ready_found kept c.args.ask.now.name.now c.args.ask.now.revision c.resources.inside.views.views c.in-Some.view.now opens old.views (sym c.in-Some.ensures) in
-          rw stopped (replied kept kept c.args.ask.now.name.now c.args.body.now c.args.ask.now.moment c.in-Some.view.now (Err c.in_err-reply.field-0.0) told c.in_err-reply.ensures.tells refl);
+          let told = ready_found kept c.args.read.ask.now.name.now c.args.read.ask.now.revision c.resources.inside.views.views c.in-Some.view.now opens old.views (sym c.in-Some.ensures) in
+          rw stopped (replied kept kept c.args.read.ask.now.name.now c.args.read.body c.args.read.ask.now.moment c.in-Some.view.now (Err c.in_err-reply.field-0.0) told c.in_err-reply.ensures.tells refl);
       works = λ opens stand sound.
           let old = subst (AllStand kept) (sym c.resources.view_is) stand in
-          let told = ready_found kept c.args.ask.now.name.now c.args.ask.now.revision c.resources.inside.views.views c.in-Some.view.now opens old.views (sym c.in-Some.ensures) in
+          let told = ready_found kept c.args.read.ask.now.name.now c.args.read.ask.now.revision c.resources.inside.views.views c.in-Some.view.now opens old.views (sym c.in-Some.ensures) in
           rw (← c.resources.view_is, stopped)
-          (works_by state c.in-Some.view.now c.args.body.now c.args.ask.now.moment (key_of_revision c.args.ask.now.revision c.args.body.now) (Err c.in_err-reply.field-0.0) _ _ told c.in_err-reply.ensures.works);
+          (works_by state c.in-Some.view.now c.args.read.body c.args.read.ask.now.moment (key_of_revision c.args.read.ask.now.revision c.args.read.body) (Err c.in_err-reply.field-0.0) _ _ told c.in_err-reply.ensures.works);
       stands = λ opens stand sound.
           let old = subst (AllStand kept) (sym c.resources.view_is) stand in
-          let told = ready_found kept c.args.ask.now.name.now c.args.ask.now.revision c.resources.inside.views.views c.in-Some.view.now opens old.views (sym c.in-Some.ensures) in
-          let work = works_by state c.in-Some.view.now c.args.body.now c.args.ask.now.moment (key_of_revision c.args.ask.now.revision c.args.body.now) c.reply_by_view.result _ _ told c.reply_by_view.ensures.works in
-          left_stands kept c.args.ask.now.name.now c.args.body.now c.args.ask.now.moment c.args.ask.now.revision (g.met.R.Records.numbered c.args.records.now sound) opens c.reply_by_view.result
+          let told = ready_found kept c.args.read.ask.now.name.now c.args.read.ask.now.revision c.resources.inside.views.views c.in-Some.view.now opens old.views (sym c.in-Some.ensures) in
+          let work = works_by state c.in-Some.view.now c.args.read.body c.args.read.ask.now.moment (key_of_revision c.args.read.ask.now.revision c.args.read.body) c.reply_by_view.result _ _ told c.reply_by_view.ensures.works in
+          left_stands kept c.args.read.ask.now.name.now c.args.read.body c.args.read.ask.now.moment c.args.read.ask.now.revision (g.met.R.Records.numbered c.args.records.now sound) opens c.reply_by_view.result
           (record { tally = c.resources.inside.decisions; room = c.resources.inside.views; gates = c.resources.inside.gates })
           (record { tally = c.reply_by_view.new.decisions; room = c.resources.inside.views; gates = c.resources.inside.gates })
           work refl refl old;
       room = rw (← c.resources.view_is, stopped) refl;
-      keeper = rw stopped (keeper_left custody c.in-Some.view.now c.args.body.now c.args.ask.now.moment (Err c.in_err-reply.field-0.0) c.in_err-reply.ensures.tells);
+      keeper = rw stopped (keeper_left custody c.in-Some.view.now c.args.read.body c.args.read.ask.now.moment (Err c.in_err-reply.field-0.0) c.in_err-reply.ensures.tells);
     }
 
 pub returns-in-Some : goal.returns-in-Some
 returns-in-Some g c =
     let custody = g.R.Records.custody c.args.records.now in
     let kept = (g.R.Records.custody c.args.records.now).kept in
-    let state = state_of c.args.ask.now.name.now kept in
+    let state = state_of c.args.read.ask.now.name.now kept in
     record {
       tells = λ opens stand sound.
           let old = subst (AllStand kept) (sym c.resources.view_is) stand in
-          let told = ready_found kept c.args.ask.now.name.now c.args.ask.now.revision c.resources.inside.views.views c.in-Some.view.now opens old.views (sym c.in-Some.ensures) in
-          replied kept kept c.args.ask.now.name.now c.args.body.now c.args.ask.now.moment c.in-Some.view.now (Ok c.in_ok-reply.reply) told c.in_ok-reply.ensures.tells refl;
+          let told = ready_found kept c.args.read.ask.now.name.now c.args.read.ask.now.revision c.resources.inside.views.views c.in-Some.view.now opens old.views (sym c.in-Some.ensures) in
+          replied kept kept c.args.read.ask.now.name.now c.args.read.body c.args.read.ask.now.moment c.in-Some.view.now (Ok c.in_ok-reply.reply) told c.in_ok-reply.ensures.tells refl;
       works = λ opens stand sound.
           let old = subst (AllStand kept) (sym c.resources.view_is) stand in
-          let told = ready_found kept c.args.ask.now.name.now c.args.ask.now.revision c.resources.inside.views.views c.in-Some.view.now opens old.views (sym c.in-Some.ensures) in
+          let told = ready_found kept c.args.read.ask.now.name.now c.args.read.ask.now.revision c.resources.inside.views.views c.in-Some.view.now opens old.views (sym c.in-Some.ensures) in
           rw (← c.resources.view_is)
-          (works_by state c.in-Some.view.now c.args.body.now c.args.ask.now.moment (key_of_revision c.args.ask.now.revision c.args.body.now) (Ok c.in_ok-reply.reply) _ _ told c.in_ok-reply.ensures.works);
+          (works_by state c.in-Some.view.now c.args.read.body c.args.read.ask.now.moment (key_of_revision c.args.read.ask.now.revision c.args.read.body) (Ok c.in_ok-reply.reply) _ _ told c.in_ok-reply.ensures.works);
       stands = λ opens stand sound.
           let old = subst (AllStand kept) (sym c.resources.view_is) stand in
-          let told = ready_found kept c.args.ask.now.name.now c.args.ask.now.revision c.resources.inside.views.views c.in-Some.view.now opens old.views (sym c.in-Some.ensures) in
-          let work = works_by state c.in-Some.view.now c.args.body.now c.args.ask.now.moment (key_of_revision c.args.ask.now.revision c.args.body.now) c.reply_by_view.result _ _ told c.reply_by_view.ensures.works in
-          touched_stands kept c.args.ask.now.name.now c.args.body.now c.args.ask.now.moment c.args.ask.now.revision (g.met.R.Records.numbered c.args.records.now sound) opens c.reply_by_view.result
+          let told = ready_found kept c.args.read.ask.now.name.now c.args.read.ask.now.revision c.resources.inside.views.views c.in-Some.view.now opens old.views (sym c.in-Some.ensures) in
+          let work = works_by state c.in-Some.view.now c.args.read.body c.args.read.ask.now.moment (key_of_revision c.args.read.ask.now.revision c.args.read.body) c.reply_by_view.result _ _ told c.reply_by_view.ensures.works in
+          touched_stands kept c.args.read.ask.now.name.now c.args.read.body c.args.read.ask.now.moment c.args.read.ask.now.revision (g.met.R.Records.numbered c.args.records.now sound) opens c.reply_by_view.result
           (record { tally = c.resources.inside.decisions; room = c.resources.inside.views; gates = c.resources.inside.gates }) (record { tally = c.reply_by_view.new.decisions; room = c.touch.new.self; gates = c.resources.inside.gates })
           work
           c.touch.ensures refl old;
       room = tt;
-      keeper = keeper_left custody c.in-Some.view.now c.args.body.now c.args.ask.now.moment (Ok c.in_ok-reply.reply) c.in_ok-reply.ensures.tells;
+      keeper = keeper_left custody c.in-Some.view.now c.args.read.body c.args.read.ask.now.moment (Ok c.in_ok-reply.reply) c.in_ok-reply.ensures.tells;
     }
