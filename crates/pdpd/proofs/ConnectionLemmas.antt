@@ -18,7 +18,7 @@ none_some X x same = cc
 
 -- ---- one call
 
--- a connection is opened, where one is free
+-- a connection is opened, if one is free
 pub begins : (result : Result Conn FrontError) (old new : Lines) → HasFree old → IsOpened old result new → (conn : Conn) × (result ≡ Ok conn)
 unfolding HasFree
 begins (Ok conn) old new free is = (conn, refl)
@@ -85,7 +85,7 @@ held_behind number (suc count) others =
     ∙ ap (λ (n : ℕ). connections_from (suc number) (replicate count (Some empty_stream) ++ None ∷ replicate others None)
     ++ record { conn = record { number = n }; has_ended = false } ∷ []) same)
 
--- so many connections were opened, where none was before
+-- so many connections were opened; none was open before
 unfoldable pub BegunTo : ℕ → List TranscriptConnection → Lines → Type 0
 BegunTo count connections lines = (lines ≡ opened_to count (64 - count)) × (connections ≡ connections_from 0 (opened_to count (64 - count)))
 

@@ -180,7 +180,7 @@ left_by count conn moment outcomes old new (s, opens, on) plays =
     let all = steps count conn moment old new s progress.Answered outcomes opens on plays in
     (all.after, all.opens, all.stands, all.lines)
 
--- where the replies were written
+-- if the replies were written
 pub answers_left : (count : ℕ) (conn : Conn) (moment : ℤ) (outcomes told : List Outcome) (old new : Lines) (result : Result Progress Exit) → told ≡ outcomes → GoesOn conn old
     → PlaysLines (replicate count (event.Answer conn moment)) outcomes old new → IfOk result (λ is. is ≡ progress_of progress.Answered told)
     → IfOk result (λ is. LeavesAt conn old new is)

@@ -94,7 +94,7 @@ unfolding HasTold
 pieced conn heading piece u outcomes old new before now played wrote = λ stream line goes_on.
     (replies_told outcomes, pieced_first conn heading.moment piece u outcomes played.nexts old new stream line goes_on played.plays, wrote)
 
--- where the replies were written
+-- if the replies were written
 pub asked_as : (sound : Type 0) (count : ℕ) (conn : Conn) (heading : Heading) (outcomes told : List Outcome) (old new : FrontState) (before now : Option (List ℕ)) (result : Result Progress Exit)
     → told ≡ outcomes → (sound → IsPlayed old new (replicate count (event.Answer conn heading.moment)) outcomes)
     → IfOk result (λ is. is ≡ progress_of progress.Answered told) → OnOk result (Appends before now (reply_entries heading.connection (replies_told told)))

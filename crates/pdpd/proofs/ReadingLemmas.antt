@@ -22,7 +22,7 @@ drop_least k n xs =
     let same : min (min n k) (length front) ≡ min n (length front) = omega (arith, length-take k xs) in
     sym (drop_min (min n k) front) ∙ ap (λ (m : ℕ). drop m front) same ∙ drop_min n front
 
--- the first n bytes of a piece are taken, or all where it has fewer
+-- the first n bytes of a piece are taken, or all if it has fewer
 pub advanced : (xs : List ℕ) (a e n : ℕ) → slice_range xs (a + min n (e - a)) e ≡ drop n (slice_range xs a e)
 advanced xs a e n =
     let m = min n (e - a) in

@@ -9,7 +9,7 @@ use Rattle.xa_server.specs.Alone.{Event}
 use Rattle.xa_records.specs.Keeper.{Custody}
 use Rattle.xa_server.specs.Front.{Fronted, FrontState, ServerState, front_state, server_state}
 use Rattle.xa_server.specs.Served.{IsRun}
-use Rattle.xa_server.specs.Tally.{nothing_held}
+use Rattle.xa_server.specs.Tally.{nothing_cached}
 use Rattle.xa_server.specs.World.{World}
 use Rattle.xa_server.proofs.ConnectionLemmas.{appends_none, appends_trans, consumes_none, consumes_trans, run_trans}
 use Rattle.xa_server.proofs.IsolationLemmas.{isolated}
@@ -164,7 +164,7 @@ read_badly done left mid rest number is (read.Malformed wrong) so_far (behind, t
 read_badly done left mid rest number is read.Failed so_far reads = tt
 read_badly done left mid rest number is read.Memory so_far reads = tt
 
--- where something else failed, nothing is said
+-- if something else failed, nothing is said
 pub broken_off : (done : List Entry → Type 0) (left rest : Option (List ℕ)) (exit : Exit) → IsTrue (breaks_off exit) → IsTranscriptRead done left rest exit
 broken_off done left rest exit.Done breaks = absurd (false≢true breaks)
 broken_off done left rest exit.Failed breaks = tt
@@ -174,7 +174,7 @@ broken_off done left rest exit.Store breaks = tt
 broken_off done left rest exit.Socket breaks = tt
 broken_off done left rest exit.Memory breaks = tt
 
--- nor is anything of entries, where the store or memory did before anything was read
+-- nor is anything of entries, if the store or memory failed before anything was read
 pub untold : (end : Exit) → (end ≡ exit.Memory) ⊎ (end ≡ exit.Store) → IsFalse (tells_of_entries end)
 untold end (inl memory) = ap tells_of_entries memory
 untold end (inr store) = ap tells_of_entries store
@@ -292,7 +292,7 @@ unbuffered (Some xs) bytes none = ap (λ (bs : List ℕ). Some (xs ++ bs)) none 
 -- from where a replay begins
 pub replayed_from : {R : Type 0} (custody : R → Custody) (front : Fronted R) (records : R) (operator : List ℕ) (new : FrontState)
     (left given rest before inner now : Option (List ℕ)) (buffer : List ℕ) (exit : Exit) → front.server.operator ≡ operator → front.server.records ≡ records
-    → front.server.tally ≡ nothing_held → given ≡ left → inner ≡ before → buffer ≡ []
+    → front.server.tally ≡ nothing_cached → given ≡ left → inner ≡ before → buffer ≡ []
     → IsReplayed (front_state custody front) new given rest (append_known inner buffer) now exit
     → IsReplayed (beginning operator (custody records).kept) new left rest before now exit
 replayed_from custody front records operator new left given rest before inner now buffer exit operates keeps holds gives writes none is =

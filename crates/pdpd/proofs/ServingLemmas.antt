@@ -17,7 +17,7 @@ use Rattle.xa_server.specs.Driven.{IsConnection, IsDrivenWithin, KeepsOpen, Know
 use Rattle.xa_server.specs.Front.{Fronted, FrontState, ServerState, front_state, server_state}
 use Rattle.xa_server.specs.Lines.{IsClosed, IsOpened, Lines, empty_stream, first_free, line_at, none_open, with_line}
 use Rattle.xa_server.specs.Served.{IsRun}
-use Rattle.xa_server.specs.Tally.{nothing_held}
+use Rattle.xa_server.specs.Tally.{nothing_cached}
 use Rattle.xa_server.specs.Work.{IsWorkOfRun}
 use Rattle.xa_server.specs.World.{Serving}
 use Rattle.xa_server.proofs.ConnectionLemmas.{run_trans, work_trans}
@@ -35,7 +35,7 @@ use Rattle.pdpd.proofs.ConnectionLemmas.{none_some, some_number}
 
 -- ---- a connection
 
--- the first connection of all is open where it was opened, and none is once it is closed
+-- the first connection of all is open once it was opened, and none is once it is closed
 line_of_first : (number : ℕ) → number ≡ 0 → slice_index_or (slice_set none_open number (Some empty_stream)) number None ≡ Some empty_stream
 line_of_first number first = subst (λ (n : ℕ). slice_index_or (slice_set none_open n (Some empty_stream)) n None ≡ Some empty_stream) (sym first) refl
 
@@ -50,7 +50,7 @@ opened_first conn old opened none (least, lines) = (
   lines ∙ ap (λ (ls : Lines). with_line conn (Some empty_stream) ls) none,
 )
 
--- one can be opened where none is open
+-- one can be opened if none is open
 pub opens : (result : Result Conn FrontError) (old opened : Lines) → old ≡ none_open → IsOpened old result opened → (conn : Conn) × (result ≡ Ok conn)
 opens (Ok conn) old opened none is = (conn, refl)
 opens (Err TooManyConnections) old opened none is = absurd (none_some ℕ 0 (sym is.0 ∙ ap first_free none))
@@ -182,9 +182,9 @@ unfolding Serves ServesOne
 served_more count old mid new before (known_before, known_now, is) = more_isolated count old mid new known_before known_now before is
 
 -- from the front of the files
-pub served_from : {R : Type 0} (custody : R → Custody) (count : ℕ) (old new : Fronted R) → IsOperator old.server.operator → old.server.tally ≡ nothing_held
+pub served_from : {R : Type 0} (custody : R → Custody) (count : ℕ) (old new : Fronted R) → IsOperator old.server.operator → old.server.tally ≡ nothing_cached
     → old.lines ≡ none_open → Serves count (front_state custody old) (front_state custody new)
-    → (from : FrontState) × IsOperator from.server.world.operator × (from.server.tally ≡ nothing_held) × (from.lines ≡ none_open)
+    → (from : FrontState) × IsOperator from.server.world.operator × (from.server.tally ≡ nothing_cached) × (from.lines ≡ none_open)
     × AreIsolated count from (front_state custody new)
 unfolding Serves
 served_from custody count old new operator tally none is = (front_state custody old, operator, tally, none, is)
@@ -269,7 +269,7 @@ serving_not_address TokenUnread none = absurd none
 serving_not_address TokenBad none = absurd none
 serving_not_address (variant.Setting setting) none = absurd none
 
--- where an address was found, its serving says that none was only if the text writes none
+-- if an address was found, its serving says that none was only if the text writes none
 pub address_found : {X : Type 0} (text : List ℕ) (address : SocketAddr) (result : Result X Fault) → IsSocketText text address → IfErr result IsOfServing
     → (result ≡ Err Address) ↔ IsNoAddress text
 address_found text address result is serving = (λ same. absurd (IfErr-at_err IsOfServing same serving), λ none. absurd (none address is))

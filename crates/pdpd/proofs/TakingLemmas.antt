@@ -46,7 +46,7 @@ pub closed_as : (sound : Type 0) (heading : Heading) (bytes : List ℕ) (was is 
 closed_as sound heading bytes was is old mid new before none finished first begun later = λ kept.
     closed heading bytes was is old mid new before none finished (first kept) begun (later kept)
 
--- bytes are passed over where its session has ended
+-- bytes are passed over if its session has ended
 pub passed_over : (heading : Heading) (bytes : List ℕ) (was : TranscriptConnection) (front : FrontState) (before : Option (List ℕ)) → bytes ≢ [] → was.has_ended ≡ true
     → Takes heading bytes was was front front before before
 unfolding Takes

@@ -84,7 +84,7 @@ pub told_none : (moment : ℤ) (world : World) (stream : Stream) → AreTold mom
 told_none moment world stream =
     record { messages = []; fault = None; run = []; last = stream; cut = refl; ends = refl; is_run = refl; are_all = refl }
 
--- where the stream goes on, it has not ended by a fault
+-- if the stream goes on, it has not ended by a fault
 no_fault : (fault : Option SessionFault) (last after : Stream) → LeavesOff fault last after → after.ended ≡ false → (fault ≡ None) × (after ≡ last)
 no_fault None last after ends goes_on = (refl, ends)
 no_fault (Some fault) last after ends goes_on = absurd (false≢true (sym goes_on ∙ ap (λ (s : Stream). s.ended) ends.2))

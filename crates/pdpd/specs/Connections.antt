@@ -12,8 +12,8 @@ use Rattle.xa_server.specs.Served.{IsRun}
 use Rattle.xa_server.specs.Work.{IsWorkOfRun}
 use Rattle.pdpd.specs.Fault.{fault_of_end}
 
--- where no connection was open, one was opened, of which nothing had come; it was driven to an end after which the
--- next is served, and closed. `before` and `now` are what is known of its reader, its writer and the clock
+-- no connection was open. One was opened, of which nothing had come; it was driven to an end after which the next is
+-- served, and closed. `before` and `now` are what is known of its reader, its writer and the clock
 pub record IsConnectionServed (old new : FrontState) (before now : Known) : Type 0 where
   pub conn : Conn
   pub driven : Driven

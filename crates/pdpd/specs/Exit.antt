@@ -17,12 +17,12 @@ status_of Store = 4
 status_of Socket = 5
 status_of Memory = 6
 
--- how it ends where standard input or output fails with that kind of error
+-- how it ends if standard input or output fails with that kind of error
 abbrev pub exit_of : ErrorKind → Exit
 exit_of OutOfMemory = Memory
 exit_of _ = Failed
 
--- how it ends where that entry, counted from 1, can't be read
+-- how it ends if that entry, counted from 1, can't be read
 abbrev pub exit_of_read : ℕ → EntryFault → Exit
 exit_of_read entry (read.Malformed fault) = Malformed entry fault
 exit_of_read entry read.Failed = Failed

@@ -99,7 +99,7 @@ is_passing _ = false
 abbrev pub is_of_network : ℕ → Bool
 is_of_network number = list_any (λ n. number == n) (71 ∷ 92 ∷ 112 ∷ 64 ∷ 95 ∷ [])
 
--- and where there was no room for it, which passes: EMFILE, ENFILE, ENOMEM and ENOBUFS
+-- and if there was no room for it, which passes: EMFILE, ENFILE, ENOMEM and ENOBUFS (accept(2))
 abbrev pub is_want_of_room : ℕ → Bool
 is_want_of_room number = list_any (λ n. number == n) (24 ∷ 23 ∷ 12 ∷ 105 ∷ [])
 

@@ -10,7 +10,7 @@ use Rattle.xa_server.specs.Front.{FrontState}
 use Rattle.xa_server.specs.Isolation.{IsIsolatedBesideRefusals}
 use Rattle.xa_server.specs.Lines.{IsOpen, Lines, empty_stream, none_open, with_line}
 use Rattle.xa_server.specs.Served.{IsRun}
-use Rattle.xa_server.specs.Tally.{nothing_held}
+use Rattle.xa_server.specs.Tally.{nothing_cached}
 use Rattle.xa_server.specs.World.{World}
 use Rattle.pdpd.specs.declared.exit.Exit.{Exit}
 use Rattle.pdpd.specs.declared.exit.Exit.TheVariants.{Done, Malformed}
@@ -43,7 +43,7 @@ followed first others = record {
 
 -- ---- one entry
 
--- what is kept of a stream that took bytes: all of it, or, where it has ended, not the bytes that nobody will read
+-- what is kept of a stream that took bytes: all of it, or, if it has ended, not the bytes that nobody will read
 abbrev pub IsKept : Stream → Stream → Type 0
 IsKept after is = (is ≡ after) ⊎ ((after.ended ≡ true) × (is.ended ≡ true))
 
@@ -118,7 +118,7 @@ abbrev pub Gave : Option (List ℕ) → Option (List ℕ) → List Entry → Lis
 Gave left rest entries behind = (text : List ℕ) × Consumes left rest (text ++ behind) × AreEntries entries text
 
 -- how a transcript was read: all of it, or up to an entry that is malformed. All entries that were read have what
--- `done` says; nothing is said where a reader, a writer or memory failed
+-- `done` says; nothing is said if a reader, a writer or memory failed
 abbrev pub IsTranscriptRead : (List Entry → Type 0) → Option (List ℕ) → Option (List ℕ) → Exit → Type 0
 IsTranscriptRead done left rest Done = (entries : List Entry) × Gave left rest entries [] × IsAtEnd rest × done entries
 IsTranscriptRead done left rest (Malformed number wrong) =
@@ -138,6 +138,6 @@ IsReplayed old new left rest before now exit =
 abbrev pub beginning : List ℕ → Kept → FrontState
 beginning operator kept =
     record {
-      server = record { world = record { operator = operator; kept = kept }; tally = nothing_held };
+      server = record { world = record { operator = operator; kept = kept }; tally = nothing_cached };
       lines = none_open;
     }

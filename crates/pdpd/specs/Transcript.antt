@@ -55,11 +55,11 @@ IsNoEntry wrong text rest =
     ⊎ ((heading : Heading) × (first : List ℕ) × (second : List ℕ) × IsHeading heading first
     × IsNoBody heading.count wrong second rest × (text ≡ first ++ second))
 
--- how often a transcript is read from, in all; after that it ends as at a failed read
+-- how often a transcript is read from, in all; one more read counts as failed
 abbrev pub most_reads : ℕ
 most_reads = 1_000_000_000
 
--- what is read, or why the transcript is malformed; nothing where its reader failed, or memory did
+-- what is read, or why the transcript is malformed; nothing is said if its reader failed, or memory did
 abbrev pub TakesOrRejects : {X : Type 0} → (X → Type 0) → (TranscriptFault → Type 0) → Result X EntryFault → Type 0
 TakesOrRejects is wrongs (Ok x) = is x
 TakesOrRejects is wrongs (Err (Malformed wrong)) = wrongs wrong

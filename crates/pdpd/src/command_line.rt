@@ -5,7 +5,7 @@ ghost use Rattle.pdpd.specs.CommandLine as spec;
 use std::alloc::Allocator;
 use xa_value::{TextRef, number_up_to};
 
-/// At most this many connections are served, so that each run ends, and its file is closed. For more the
+/// At most this many connections are served, so that each run ends, and its file is closed. For more, the
 /// program is started again.
 const MAX_CONNECTIONS: usize = 1_000_000;
 
@@ -76,7 +76,7 @@ fn serving_of<'a>(
     }))
 }
 
-/// What the words of a command line ask for, of which the first is the program's name.
+/// What the words of a command line ask for. The first of them is the program's name.
 pub fn command_of<A: Allocator>(words: &[String<A>]) -> Option<Command<'_>>
     ensures { result ≡ spec.command_of (map string_bytes words.now) }
 {

@@ -9,18 +9,18 @@ use std::fmt;
 use std::io::{self, ErrorKind};
 use std::process::ExitCode;
 
-/// How the program ends, which its exit status tells.
+/// How the program ends: its exit status tells it.
 #[derive(Clone, Copy)]
 pub enum Exit {
-    /// All was answered.
+    /// What was asked for is done.
     Done,
     /// Standard input or output failed.
     Failed,
-    /// The command line asks for nothing that is done; or the address, a setting or the token is
-    /// malformed, or the token file can't be read.
+    /// The command line, the address, a setting or the token is malformed, or the token file can't be
+    /// read.
     Usage,
     /// That entry of the transcript, counted from 1, is malformed or cut. The replies to the
-    /// entries before are written.
+    /// entries before it are written.
     Malformed { entry: u64, fault: TranscriptFault },
     /// The store can't be opened, can't go on, or can't be closed.
     Store,
@@ -49,7 +49,7 @@ impl Exit {
 
 impl fmt::Display for Exit {
     fn fmt<W: fmt::Write>(&self, f: &mut fmt::Formatter<W>) -> fmt::Result {
-        // `Done` and `Socket` are never shown: the first goes unreported, and a `FaultLine` tells the other.
+        // `Done` and `Socket` are never shown: `report` omits the first, and a `FaultLine` tells the other.
         let text = match self {
             Exit::Done => "pdpd: done",
             Exit::Failed => "pdpd: standard input or output failed",

@@ -1,4 +1,4 @@
-//! Why `pdpd serve` ends otherwise than with all its connections served, as one line that says what to do.
+//! Why `pdpd serve` ends before all its connections are served, and the line that says what to do.
 ghost use Rattle.std.specs.Prelude.{◌≡◌, IsTrue};
 ghost use Rattle.pdpd.specs.Exit.{ends_serving};
 ghost use Rattle.pdpd.specs.Fault.{exit_of_fault};
@@ -30,7 +30,7 @@ pub enum StoreFault {
     Full,
     /// The disk failed.
     Disk,
-    /// The file isn't there, or is empty, and a log of another is.
+    /// The file isn't there, or is empty, and beside it is a log with room for commits.
     LogAlone,
     /// The file has no tables, and its log isn't there.
     FileAlone,
@@ -138,7 +138,29 @@ impl Fault {
     }
 }
 
-/// A text on one line: a control character in it, such as a line feed, is shown by its number.
+impl From<AllocError> for Fault {
+    ghost use Rattle.std.specs.Prelude.{◌≡◌};
+    ghost use Rattle.pdpd.specs.declared.fault.Fault.TheVariants.{Memory};
+
+    ghost from_gives = { λ _ fault. fault ≡ Memory };
+
+    fn from(_: AllocError) -> Fault {
+        Fault::Memory
+    }
+}
+
+impl<T: Drop> From<AllocFailed<T>> for Fault {
+    ghost use Rattle.std.specs.Prelude.{◌≡◌};
+    ghost use Rattle.pdpd.specs.declared.fault.Fault.TheVariants.{Memory};
+
+    ghost from_gives = { λ _ fault. fault ≡ Memory };
+
+    fn from(_: AllocFailed<T>) -> Fault {
+        Fault::Memory
+    }
+}
+
+/// A text on one line. A control character in it, such as a line feed, is shown by its number.
 #[derive(Clone, Copy)]
 pub struct OneLine<'a> {
     /// The text.
@@ -174,27 +196,5 @@ impl fmt::Display for FaultLine<'_> {
             Some(text) => write!(f, "pdpd serve: {}: {advice}", OneLine { text }),
             None => write!(f, "pdpd serve: {advice}"),
         }
-    }
-}
-
-impl From<AllocError> for Fault {
-    ghost use Rattle.std.specs.Prelude.{◌≡◌};
-    ghost use Rattle.pdpd.specs.declared.fault.Fault.TheVariants.{Memory};
-
-    ghost from_gives = { λ _ fault. fault ≡ Memory };
-
-    fn from(_: AllocError) -> Fault {
-        Fault::Memory
-    }
-}
-
-impl<T: Drop> From<AllocFailed<T>> for Fault {
-    ghost use Rattle.std.specs.Prelude.{◌≡◌};
-    ghost use Rattle.pdpd.specs.declared.fault.Fault.TheVariants.{Memory};
-
-    ghost from_gives = { λ _ fault. fault ≡ Memory };
-
-    fn from(_: AllocFailed<T>) -> Fault {
-        Fault::Memory
     }
 }

@@ -44,7 +44,7 @@ fn words(rt: &HostRuntime) -> Result<Vec<String>, Exit> {
     }
 }
 
-/// Tells of the exit by a line on standard error, unless all is done, and gives it.
+/// Tells of the exit by a line on standard error, unless it is `Done`, and gives it.
 fn report(rt: &HostRuntime, exit: Exit) -> Exit
     ensures { result ≡ exit }
 {

@@ -40,14 +40,14 @@ use xa_records::Records;
 pub struct Replayed<R: Records + Drop, W: Write + Drop> {
     /// How the program ends by it.
     pub exit: Exit,
-    /// What the program holds then; nothing where no entry was looked at. No code reads it: clauses
-    /// speak of it.
+    /// What the program holds then; nothing if no entry was looked at. No code reads it: clauses speak of
+    /// it.
     replayer: Option<Replayer<R, W>>,
 }
 
 impl<R: Records + Drop, W: Write + Drop> Replayed<R, W> {
-    /// One of which no entry was looked at, and how the program ends by that.
-    fn unbegun(exit: Exit) -> Replayed<R, W>
+    /// A transcript of which no entry was looked at, and how the program ends.
+    fn without_entries(exit: Exit) -> Replayed<R, W>
         ensures exit { result.exit ≡ exit }
         ensures nothing { result.replayer ≡ None }
     {
@@ -87,7 +87,7 @@ fn answer_entries<I: Read, R: Records + Drop, W: Write + Drop>(
         };
         replayer.answer_entry(&heading, &bytes)?;
     }
-    // No reader gives this many.
+    // No reader gives so many entries.
     Err(Exit::Failed)
 }
 
@@ -141,7 +141,7 @@ fn replay_over<R: Records + Drop, I: Read + Drop, W: Write + Drop>(
 {
     let mut replayer = match Replayer::new(alloc, records, writer, token) {
         Ok(replayer) => replayer,
-        Err(exit) => return Replayed::unbegun(exit),
+        Err(exit) => return Replayed::without_entries(exit),
     };
     match Transcript::new(alloc, reader) {
         Ok(mut transcript) => {
@@ -151,14 +151,13 @@ fn replay_over<R: Records + Drop, I: Read + Drop, W: Write + Drop>(
                 replayer: Some(replayer),
             }
         }
-        Err(error) => Replayed::unbegun(Exit::from(error)),
+        Err(error) => Replayed::without_entries(Exit::from(error)),
     }
 }
 
-/// Answers the messages of a transcript, each at the moment of the entry that makes it whole,
-/// over a store in memory that keeps no domains yet, and writes the replies. `token` is the
-/// operator's. How the program ends by it, and what it then holds: what was answered and written
-/// is told of that.
+/// Answers the messages of a transcript, each at the moment of the entry that makes it whole, over a store
+/// in memory that keeps no domains yet, and writes the replies. `token` is the operator's. Gives how the
+/// program ends, and what it then holds: clauses say what was answered and written by that.
 pub fn replay<I: Read + Drop, W: Write + Drop>(
     alloc: Global,
     reader: I,
@@ -175,10 +174,10 @@ pub fn replay<I: Read + Drop, W: Write + Drop>(
         × IsTranscriptRead (λ _. ⊤) (I.remaining reader) rest result.exit }
 {
     if !is_token(token.as_bytes()) {
-        return Replayed::unbegun(Exit::Usage);
+        return Replayed::without_entries(Exit::Usage);
     }
     match records_in_memory(alloc) {
         Ok(records) => replay_over(alloc, records, reader, writer, token),
-        Err(exit) => Replayed::unbegun(exit),
+        Err(exit) => Replayed::without_entries(exit),
     }
 }

@@ -6,7 +6,7 @@ ghost use Rattle.sqlite.specs.Files.{over_files};
 ghost use Rattle.xa_server.specs.Driven.{known};
 ghost use Rattle.xa_server.specs.Front.{FrontState, front_state};
 ghost use Rattle.xa_server.specs.Lines.{none_open};
-ghost use Rattle.xa_server.specs.Tally.{nothing_held};
+ghost use Rattle.xa_server.specs.Tally.{nothing_cached};
 ghost use Rattle.xa_store.specs.KeeperReading.{custody_by};
 ghost use Rattle.pdpd.specs.declared.fault.Fault.TheVariants.{Address};
 ghost use Rattle.pdpd.specs.Connections.{AreIsolated, IsConnectionServed};
@@ -32,7 +32,7 @@ use std::rt::HostRuntime;
 use xa_records::Records;
 use xa_server::{Clock, Driven, Front, Reader, Writer, drive};
 
-/// Fails if a connection that ended so ends the program, too, and says why.
+/// Fails if a connection that ended so ends the program, too. The fault says why.
 fn check_end(driven: Driven) -> Result<(), Fault>
     ensures after { MatchResult result (λ _. fault_of_end driven ≡ None)
         (λ fault. fault_of_end driven ≡ Some fault) }
@@ -93,8 +93,8 @@ fn serve_next<R: Records, C: Clock>(
     serve_connection(front, &mut &stream, &mut &stream, clock)
 }
 
-/// Serves that many connections, one after another. No more are taken once the last of them has
-/// come: who comes later is refused at once.
+/// Serves that many connections, one after another. Once the last has come, no more are taken: who comes
+/// later is refused at once.
 #[tactic(auto, using(crate::proofs::ServingLemmas::served_none, crate::proofs::ServingLemmas::served_one, crate::proofs::ServingLemmas::served_more, crate::proofs::ServingLemmas::served_last))]
 fn serve_connections<R: Records, C: Clock>(
     front: &mut Front<R>,
@@ -167,7 +167,7 @@ fn front_of_files(
     settings: Settings,
 ) -> Result<Front<FileRecords>, Fault>
     ensures operator { IfOk result (λ front. IsOperator front.server.operator) }
-    ensures tally { IfOk result (λ front. front.server.tally ≡ nothing_held) }
+    ensures tally { IfOk result (λ front. front.server.tally ≡ nothing_cached) }
     ensures closed { IfOk result (λ front. front.lines ≡ none_open) }
     ensures err { IfErr result IsOfFiles }
 {
@@ -177,13 +177,13 @@ fn front_of_files(
 }
 
 /// Serves connections over the store in the file, for the operator whose token is the first line of the
-/// token file. Gives back the front as they have left it. Faults are looked for in this order: the
-/// address, PDPD_WORK, PDPD_REPLY, PDPD_READING, PDPD_VIEWS, PDPD_IDLE, the token file, the store, the
+/// token file. Gives the front back as the connections have left it. Faults are looked for in this order:
+/// the address, PDPD_WORK, PDPD_REPLY, PDPD_READING, PDPD_VIEWS, PDPD_IDLE, the token file, the store, the
 /// socket.
 #[tactic(auto, using(crate::proofs::ServingLemmas::settings_not_address, crate::proofs::ServingLemmas::files_not_address, crate::proofs::ServingLemmas::serving_not_address, crate::proofs::ServingLemmas::address_found))]
 pub fn serve(rt: &HostRuntime, serving: &ServeCommand<'_>) -> Result<Front<FileRecords>, Fault>
     ensures served { IfOk result (λ front. (custody_by over_files front.server.records).sound
-        → (old : FrontState) × IsOperator old.server.world.operator × (old.server.tally ≡ nothing_held)
+        → (old : FrontState) × IsOperator old.server.world.operator × (old.server.tally ≡ nothing_cached)
         × (old.lines ≡ none_open)
         × AreIsolated serving.now.connections old (front_state (custody_by over_files) front)) }
     ensures address { (result ≡ Err Address) ↔ IsNoAddress serving.now.address }

@@ -51,7 +51,7 @@ fn has_no_folder(rt: &HostRuntime, path: &str) -> bool {
     }
 }
 
-/// Why the file can't be opened, where its folder isn't there.
+/// Why the file can't be opened: by that fault, or because its folder isn't there.
 fn fault_at(rt: &HostRuntime, path: &str, fault: Fault) -> Fault
     ensures { IsOfStore fault → IsOfStore result }
 {
@@ -74,8 +74,8 @@ fn fault_of_tables(error: OpenError) -> Fault
     }
 }
 
-/// Warns, by a line on standard error, of a file in which more stands than the program's tables, or
-/// other tables: it is served, but nothing is proved of what is kept there.
+/// Warns, by a line on standard error, of a file that holds more than the program's tables, or other
+/// tables. It is served, but nothing is proved of what is kept there.
 fn warn_of_other_tables(rt: &HostRuntime, path: &str) {
     let _ = eprintln!(rt;
         "pdpd serve: {}: other tables, indexes or views stand beside the program's, or its own were made otherwise; it is served, but nothing is proved of what is kept there",
@@ -83,15 +83,15 @@ fn warn_of_other_tables(rt: &HostRuntime, path: &str) {
     );
 }
 
-/// Warns, by a line on standard error, of a file beside which its log isn't.
+/// Warns, by a line on standard error, of a file without its log.
 fn warn_of_log(rt: &HostRuntime, path: &str) {
     let _ = eprintln!(rt;
-        "pdpd serve: {}: its log isn't there (-wal); where the file wasn't closed, by `pdpd` or by SQLite, the last changes are missing",
+        "pdpd serve: {}: its log isn't there (-wal); if the file wasn't closed, by `pdpd` or by SQLite, the last changes are missing",
         OneLine { text: path }
     );
 }
 
-/// Looks whether both halves of a store are there, its file and its log, or neither. None is begun
+/// Looks whether both halves of a store are there, its file and its log, or neither. No store is begun
 /// over a half.
 fn look_at_halves(rt: &HostRuntime, path: &str) -> Result<(), Fault>
     ensures { IfErr result IsOfStore }
@@ -117,8 +117,8 @@ fn warn_of_readers(rt: &HostRuntime, path: &str) {
     }
 }
 
-/// Makes the file, which its owner alone can read, where it isn't there: SQLite gives its log the
-/// same mode. Where it can't be made, opening it says why.
+/// Makes the file if it isn't there. Its owner alone can read it, and SQLite gives its log the same
+/// mode. If it can't be made, opening it says why.
 fn make_file(rt: &HostRuntime, path: &str) {
     // `Connection::open` refuses these names, so no file is made.
     if path == ":memory:" || path.starts_with("file:") {
@@ -131,9 +131,8 @@ fn make_file(rt: &HostRuntime, path: &str) {
         .open(rt, path);
 }
 
-/// The keeper over the file, which is made where it isn't there. A line on standard error warns
-/// of tables of which nothing is proved, of a log that isn't there, and of a file that others
-/// can read.
+/// The keeper over the file, which is made if it isn't there. Lines on standard error warn of tables
+/// of which nothing is proved, of a log that isn't there, and of a file that others can read.
 pub fn records_in_file(rt: &HostRuntime, path: &str) -> Result<FileRecords, Fault>
     ensures sound { IfOk result (λ records.
         IsTrue records.ours → IsTrue (file_state records.conn).is_open → IsSound over_files records) }
@@ -157,8 +156,8 @@ pub fn records_in_file(rt: &HostRuntime, path: &str) -> Result<FileRecords, Faul
     }
 }
 
-/// Closes the file of a keeper: its log is written back into it, so that the store is this one
-/// file, and a log that is empty.
+/// Closes the file of a keeper. Its log is written back into it, so that the store is this one file,
+/// and a log without commits.
 pub fn close_records(records: FileRecords) -> Result<(), Fault>
     ensures { IfErr result (λ e. e ≡ fault.Store Unclosed) }
 {

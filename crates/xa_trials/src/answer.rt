@@ -4,8 +4,8 @@ use std::alloc::Global;
 use std::fmt::Debug;
 use xa_value::{OrMemory, Value};
 
-/// The answer to a row, as far as it is written. One that finds no memory is cut, and takes what
-/// else comes as if it had found it.
+/// The answer to a row, as far as it is written. One that finds no memory is cut: it takes what else
+/// comes, and shows none of it.
 #[derive(Drop)]
 pub struct Answer {
     /// Where memory comes from.
@@ -31,19 +31,12 @@ impl Answer {
         self.alloc
     }
 
-    /// The line; of an answer that is cut, that alone.
+    /// The line; `!Memory` of an answer that is cut.
     pub fn line(&self) -> &str {
         if self.is_cut {
             return "!Memory";
         }
         self.line.as_str()
-    }
-
-    /// Adds the other answer to the same row, where it differs.
-    pub fn compare(&mut self, other: &Answer) {
-        if self.line() != other.line() {
-            self.push_field("!Differs ", other.line().as_bytes());
-        }
     }
 
     /// Cuts the answer.
@@ -59,17 +52,17 @@ impl Answer {
         }
     }
 
-    /// Adds a field: a word of the program, and bytes.
-    pub fn push_field(&mut self, word: &str, bytes: &[u8]) {
-        self.push_word(word);
-        self.append_bytes(bytes);
-    }
-
     /// Adds bytes to the last field.
     pub fn append_bytes(&mut self, bytes: &[u8]) {
         if push_bytes(&mut self.line, bytes).is_err() {
             self.cut();
         }
+    }
+
+    /// Adds a field: a word of the program, and bytes.
+    pub fn push_field(&mut self, word: &str, bytes: &[u8]) {
+        self.push_word(word);
+        self.append_bytes(bytes);
     }
 
     /// Adds a word to the last field, and something by its name in the code.
@@ -101,7 +94,7 @@ impl Answer {
         }
     }
 
-    /// Adds a field that shows something by its name in the code, or that there is nothing.
+    /// Adds a field that shows something by its name in the code; `!None` if there is nothing.
     pub fn push_shown_or_none<T: Debug + Drop>(&mut self, shown: Option<T>) {
         match shown {
             Some(shown) => self.push_shown("", &shown),
@@ -109,7 +102,7 @@ impl Answer {
         }
     }
 
-    /// What a call gave; its error is answered.
+    /// What a call gave. If it gave an error, that is answered.
     pub fn success<T: Drop, E: Debug + Drop>(
         &mut self,
         given: Result<T, OrMemory<E>>,
@@ -124,6 +117,13 @@ impl Answer {
                 self.cut();
                 None
             }
+        }
+    }
+
+    /// Adds the other answer to the same row, if it differs.
+    pub fn compare(&mut self, other: &Answer) {
+        if self.line() != other.line() {
+            self.push_field("!Differs ", other.line().as_bytes());
         }
     }
 }

@@ -35,7 +35,7 @@ fn push_member(alloc: Global, last: Option<&mut ValueOrBag>, text: &str) -> Resu
     Ok(())
 }
 
-/// The argument of a field, where it is one of its own.
+/// The argument of a field that isn't a member of a bag.
 fn argument(alloc: Global, field: &str) -> Result<ValueOrBag, NoAnswer> {
     match field.strip_prefix("bag:") {
         Some(name) => Ok(ValueOrBag::Bag(Bag::new(alloc, type_named(name)?))),
@@ -55,7 +55,7 @@ pub fn arguments(alloc: Global, fields: &[&str]) -> Result<Vec<ValueOrBag>, NoAn
     Ok(arguments)
 }
 
-/// The values that the arguments are; None where one is a bag.
+/// The values that the arguments are; None if one is a bag.
 pub fn values(alloc: Global, arguments: Vec<ValueOrBag>) -> Result<Option<Vec<Value>>, NoAnswer> {
     let mut values = Vec::new(alloc);
     for argument in arguments {

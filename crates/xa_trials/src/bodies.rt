@@ -30,17 +30,7 @@ pub fn old_token(answer: &mut Answer, body: &str) -> Result<(), NoAnswer> {
     Ok(())
 }
 
-/// The root that the body sets.
-pub fn root(answer: &mut Answer, body: &str) -> Result<(), NoAnswer> {
-    let body = bytes_of(answer.alloc(), body)?;
-    let read = read_root(answer.alloc(), &body);
-    match answer.success(read) {
-        Some(root) => push_root(answer, "", &root),
-        None => Ok(()),
-    }
-}
-
-/// Adds a field of the word and the root, `!None` where there is none.
+/// Adds a field of the word and the root; `!None` if there is none.
 pub fn push_root(
     answer: &mut Answer,
     word: &str,
@@ -53,12 +43,12 @@ pub fn push_root(
     Ok(())
 }
 
-/// The rows that the body gives to a source of attributes, as the body that lists them.
-pub fn rows(answer: &mut Answer, body: &str) -> Result<(), NoAnswer> {
+/// The root that the body sets.
+pub fn root(answer: &mut Answer, body: &str) -> Result<(), NoAnswer> {
     let body = bytes_of(answer.alloc(), body)?;
-    let read = read_rows(answer.alloc(), &body);
+    let read = read_root(answer.alloc(), &body);
     match answer.success(read) {
-        Some(rows) => push_rows(answer, "", rows.as_slice()),
+        Some(root) => push_root(answer, "", &root),
         None => Ok(()),
     }
 }
@@ -70,7 +60,17 @@ pub fn push_rows(answer: &mut Answer, word: &str, rows: &[SourceRow]) -> Result<
     Ok(())
 }
 
-/// The rows of the field, a body that has them.
+/// The rows that the body gives to a source of attributes: the body that lists them.
+pub fn rows(answer: &mut Answer, body: &str) -> Result<(), NoAnswer> {
+    let body = bytes_of(answer.alloc(), body)?;
+    let read = read_rows(answer.alloc(), &body);
+    match answer.success(read) {
+        Some(rows) => push_rows(answer, "", rows.as_slice()),
+        None => Ok(()),
+    }
+}
+
+/// The rows of a source of attributes that the field, a body, has.
 pub fn rows_of(alloc: Global, field: &str) -> Result<Items<SourceRow>, NoAnswer> {
     read_rows(alloc, &bytes_of(alloc, field)?)
         .ok()

@@ -4,12 +4,12 @@ use crate::no_answer::NoAnswer;
 use xa_server::Clock;
 use xa_value::Moment;
 
-/// A clock that stands, and tells its moment so many times.
+/// A clock that stands, and tells its moment only so many times.
 #[derive(Clone, Copy)]
 pub struct StandingClock {
-    /// Where it stands.
+    /// The moment at which it stands.
     pub moment: Moment,
-    /// How many times more it tells that.
+    /// How often more it tells that.
     pub left: u64,
 }
 

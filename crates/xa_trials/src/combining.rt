@@ -42,7 +42,7 @@ fn target_named(name: &str) -> Result<Matching, NoAnswer> {
     }
 }
 
-/// The child DECISION, or DECISION/TARGET where its target isn't Match.
+/// The child of a field: DECISION, or DECISION/TARGET if its target isn't Match.
 fn child_of(field: &str) -> Result<Child, NoAnswer> {
     let (decision, target) = field.split_once('/').unwrap_or((field, "Match"));
     Ok(Child {

@@ -1,13 +1,13 @@
-//! Rows of connections: what a front with all its connections answers to events. Behind what stands before
-//! the first event come `begin:`, `piece:N:BYTES`, `answer:N` and `finish:N`, the calls of a front.
-//! `answers:N` asks for all answers that there are, and `moment:SECONDS` dates those that follow.
-//! `waits:N-M:BYTES` has bytes wait for some connections, `turns:SIZE` hands over what waits, so many bytes
-//! of each in turn, and `cuts:BYTES` hands over bytes cut behind each of them.
+//! Rows of connections: what a front with all its connections answers to events. `begin:`, `piece:N:BYTES`,
+//! `answer:N` and `finish:N` are the calls of a front. `answers:N` asks for all answers that there are, and
+//! `moment:SECONDS` dates those that follow. `waits:N-M:BYTES` has bytes wait for some connections.
+//! `turns:SIZE` hands over what waits, so many bytes of each connection in turn. `cuts:BYTES` hands over
+//! bytes in two pieces, cut behind each byte in turn.
 pub(crate) mod lines;
 
 use crate::answer::Answer;
 use crate::clock::moment_of;
-use crate::connections::lines::{Line, Output, add_lines, answer_all, push_all, turn};
+use crate::connections::lines::{Line, Output, add_lines, answer_all, push_all, take_turn};
 use crate::field::{bytes_of, number_of, word_and_text};
 use crate::front_calls::{answer_next, close, feed, open};
 use crate::no_answer::NoAnswer;
@@ -32,7 +32,7 @@ pub struct FrontTrial<R: Records + Drop> {
 }
 
 impl<R: Records + Drop> FrontTrial<R> {
-    /// A front over a server over the keeper, as that is set up.
+    /// A front of a server over the keeper, which is set up so.
     pub fn new(answer: &mut Answer, records: R, setup: &Setup) -> Result<FrontTrial<R>, NoAnswer> {
         let alloc = answer.alloc();
         let mut front = Front::new(alloc, server_made(answer, records, setup)?)?;
@@ -55,10 +55,8 @@ impl<R: Records + Drop> FrontTrial<R> {
 
     /// Adds the number of the connection, which was opened.
     pub fn push_begun(&self, answer: &mut Answer, conn: Conn) {
-        for (number, line) in self.lines.iter().enumerate() {
-            if line.conn == conn {
-                answer.push_shown("begun ", &number);
-            }
+        if let Some(number) = self.lines.iter().position(|line| line.conn == conn) {
+            answer.push_shown("begun ", &number);
         }
     }
 
@@ -122,12 +120,12 @@ impl<R: Records + Drop> FrontTrial<R> {
         Ok(())
     }
 
-    /// Hands over what waits, so many bytes of each connection in turn, and asks for all answers
-    /// after each piece. Whether something waited.
-    fn round(&mut self, size: usize) -> Result<bool, NoAnswer> {
+    /// Hands over, for each connection in turn, so many of the bytes that wait for it, and asks for all
+    /// answers. Whether something waited.
+    fn turn_each(&mut self, size: usize) -> Result<bool, NoAnswer> {
         let mut has_more = false;
         for line in self.lines.iter_mut() {
-            if turn(&mut self.front, line, self.moment, size)? {
+            if take_turn(&mut self.front, line, self.moment, size)? {
                 has_more = true;
             }
         }
@@ -138,7 +136,7 @@ impl<R: Records + Drop> FrontTrial<R> {
     fn turns(&mut self, answer: &mut Answer, text: &str) -> Result<(), NoAnswer> {
         let size = number_of(text)?;
         for _ in 0..u64::MAX {
-            if !self.round(size)? {
+            if !self.turn_each(size)? {
                 break;
             }
         }
@@ -155,8 +153,8 @@ impl<R: Records + Drop> FrontTrial<R> {
         Ok(())
     }
 
-    /// Hands over the bytes in two pieces on a connection of their own. How many replies there were to
-    /// the first piece.
+    /// Hands over the bytes in two pieces, on a connection of their own. How many replies came to the
+    /// first piece.
     fn cut(&mut self, bytes: &[u8], place: usize, output: &mut Output) -> Result<usize, NoAnswer> {
         let conn = open(&mut self.front)?;
         feed(&mut self.front, conn, bytes.get(..place).unwrap_or(&[]))?;
@@ -168,8 +166,8 @@ impl<R: Records + Drop> FrontTrial<R> {
         Ok(before)
     }
 
-    /// Hands over the bytes cut at the place, adds what was answered, and notes to how many messages
-    /// before the second piece came.
+    /// Hands over the bytes cut at the place, and adds what was answered. Notes how many replies came
+    /// before the second piece.
     fn push_cut(
         &mut self,
         answer: &mut Answer,
@@ -184,8 +182,8 @@ impl<R: Records + Drop> FrontTrial<R> {
         outputs.push(answer, &output.bytes, output.is_last)
     }
 
-    /// Hands over the bytes cut behind each of them, and adds what was answered, and then to how
-    /// many messages before the second piece came.
+    /// Hands over the bytes cut behind each of them, and adds what was answered. Then adds how many
+    /// replies came before each second piece.
     fn cuts(&mut self, answer: &mut Answer, text: &str) -> Result<(), NoAnswer> {
         let bytes = bytes_of(self.alloc, text)?;
         let mut outputs = Runs::new(self.alloc);

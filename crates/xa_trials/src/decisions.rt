@@ -42,7 +42,7 @@ impl Case {
     }
 }
 
-/// The case of the fields, and moment 0 where none says another.
+/// The case of the fields, at moment 0 if none says another.
 fn case_of(alloc: Global, fields: &[&str]) -> Result<Case, NoAnswer> {
     let moment = moment_of("0")?;
     let mut case = Case {

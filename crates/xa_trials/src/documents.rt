@@ -8,16 +8,6 @@ use xa_notation::Parsed;
 use xa_policy::DocumentKind;
 use xa_value::Items;
 
-/// What the text is read as: its kind, its id and its version.
-pub fn document(answer: &mut Answer, field: &str) -> Result<(), NoAnswer> {
-    let text = bytes_of(answer.alloc(), field)?;
-    let read = Parsed::read(answer.alloc(), &text);
-    match answer.success(read) {
-        Some(parsed) => push_document(answer, &parsed),
-        None => Ok(()),
-    }
-}
-
 /// Adds the document's kind, its id and its version.
 fn push_document(answer: &mut Answer, parsed: &Parsed) -> Result<(), NoAnswer> {
     match parsed.kind() {
@@ -28,6 +18,16 @@ fn push_document(answer: &mut Answer, parsed: &Parsed) -> Result<(), NoAnswer> {
     let version = parsed.version().to_text(answer.alloc())?;
     answer.push_word(version.as_str());
     Ok(())
+}
+
+/// What the text is read as: its kind, its id and its version.
+pub fn document(answer: &mut Answer, field: &str) -> Result<(), NoAnswer> {
+    let text = bytes_of(answer.alloc(), field)?;
+    let read = Parsed::read(answer.alloc(), &text);
+    match answer.success(read) {
+        Some(parsed) => push_document(answer, &parsed),
+        None => Ok(()),
+    }
 }
 
 /// The active document of the field.

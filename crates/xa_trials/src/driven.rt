@@ -1,7 +1,6 @@
-//! Rows of connections that are driven. Events are as in rows of connections, and further:
-//! `comes:BYTES` is what the peer sends next; `reads:`, `writes:` and `flushes:` say how these
-//! calls go; `clock:N` has the clock tell so many moments alone; and `drive:N` drives a connection
-//! with all that, and begins with another peer.
+//! Rows of connections that are driven. Events are those of rows of connections, and these. `comes:BYTES` is
+//! what the peer sends next. `reads:`, `writes:` and `flushes:` say how these calls go. `clock:N` lets the
+//! clock tell only so many moments. `drive:N` drives a connection with all that; then another peer begins.
 use crate::answer::Answer;
 use crate::clock::StandingClock;
 use crate::connections::FrontTrial;
@@ -26,8 +25,8 @@ struct Driving<R: Records + Drop> {
 }
 
 impl<R: Records + Drop> Driving<R> {
-    /// Drives a connection, and adds how that has ended, what the peer has got, and how much of
-    /// what it sent was left.
+    /// Drives a connection. Adds how that has ended, what the peer has got, and how much of what it sent
+    /// is left.
     fn drive(&mut self, answer: &mut Answer, text: &str) -> Result<(), NoAnswer> {
         let mut clock = StandingClock {
             moment: self.trial.moment,

@@ -23,8 +23,20 @@ impl Escapes {
         }
     }
 
-    /// Takes the next of the parts between backslashes, and gives the letter of an escape and the bytes
-    /// after it. What is no escape is put as it is, and two backslashes in a row as these bytes.
+    /// Puts the bytes.
+    pub fn put(&mut self, bytes: &[u8]) -> Result<(), NoAnswer> {
+        self.bytes.extend_from_slice(bytes)?;
+        Ok(())
+    }
+
+    /// Puts a byte, and those after it.
+    pub fn put_byte(&mut self, byte: u8, rest: &[u8]) -> Result<(), NoAnswer> {
+        self.bytes.push(byte)?;
+        self.put(rest)
+    }
+
+    /// Takes the next of the parts between backslashes. If it is an escape, gives its letter and the bytes
+    /// after it. Else it is put as it is, and two backslashes in a row as `backslashes`.
     pub fn take<'a>(
         &mut self,
         part: &'a str,
@@ -45,6 +57,13 @@ impl Escapes {
         }
     }
 
+    /// Takes off the bytes from that place on.
+    pub fn take_off(&mut self, start: usize) -> Result<Vec<u8>, NoAnswer> {
+        let bytes = Vec::from_slice(self.alloc, self.bytes.get(start..).unwrap_or(&[]))?;
+        self.bytes.truncate(start);
+        Ok(bytes)
+    }
+
     /// How many bytes there are.
     pub fn len(&self) -> usize {
         self.bytes.len()
@@ -53,24 +72,5 @@ impl Escapes {
     /// The bytes.
     pub fn into_bytes(self) -> Vec<u8> {
         self.bytes
-    }
-
-    /// Puts the bytes.
-    pub fn put(&mut self, bytes: &[u8]) -> Result<(), NoAnswer> {
-        self.bytes.extend_from_slice(bytes)?;
-        Ok(())
-    }
-
-    /// Puts a byte, and those after it.
-    pub fn put_byte(&mut self, byte: u8, rest: &[u8]) -> Result<(), NoAnswer> {
-        self.bytes.push(byte)?;
-        self.put(rest)
-    }
-
-    /// Takes off the bytes from that place on.
-    pub fn take_off(&mut self, start: usize) -> Result<Vec<u8>, NoAnswer> {
-        let bytes = Vec::from_slice(self.alloc, self.bytes.get(start..).unwrap_or(&[]))?;
-        self.bytes.truncate(start);
-        Ok(bytes)
     }
 }

@@ -16,35 +16,7 @@ use xa_records::{
 };
 use xa_value::{Items, Text};
 
-/// Which call fails: the one that comes after so many others.
-#[derive(Drop)]
-struct FailurePlan {
-    /// How many calls are still made before it.
-    left: u64,
-    /// It, once it has come.
-    failed: Option<Call>,
-}
-
-impl FailurePlan {
-    /// Fails, if this call, which comes next, is the one that does; its failure is counted then.
-    fn check(&mut self, call: Call, faults: &mut u64) -> Result<(), CallFailed>
-        ensures left { IfOk result (λ _. faults.new ≡ faults.old) }
-        ensures counted { IfErr result (λ _. IsOneMore faults.old faults.new) }
-    {
-        if self.left > 0 {
-            self.left -= 1;
-            return Ok(());
-        }
-        if self.failed.is_some() {
-            return Ok(());
-        }
-        self.failed = Some(call);
-        count_one(faults);
-        Err(CallFailed)
-    }
-}
-
-/// That a call isn't made, but fails with `Store`.
+/// The failure, with `Store`, of a call that isn't made.
 #[derive(Clone, Copy)]
 struct CallFailed;
 
@@ -64,8 +36,36 @@ impl From<CallFailed> for ChangeError {
     }
 }
 
-/// A keeper around another, of whose calls the one after so many others isn't made, but fails with
-/// `Store`; what comes after it is made. `faults` isn't counted as a call.
+/// Which call fails: the one that comes after so many others.
+#[derive(Drop)]
+struct FailurePlan {
+    /// How many calls are still made before it.
+    left: u64,
+    /// The call that failed, once it has come.
+    failed: Option<Call>,
+}
+
+impl FailurePlan {
+    /// Fails if this call, which comes next, is the one that fails. Then its failure is counted.
+    fn check(&mut self, call: Call, faults: &mut u64) -> Result<(), CallFailed>
+        ensures left { IfOk result (λ _. faults.new ≡ faults.old) }
+        ensures counted { IfErr result (λ _. IsOneMore faults.old faults.new) }
+    {
+        if self.left > 0 {
+            self.left -= 1;
+            return Ok(());
+        }
+        if self.failed.is_some() {
+            return Ok(());
+        }
+        self.failed = Some(call);
+        count_one(faults);
+        Err(CallFailed)
+    }
+}
+
+/// A keeper around another. The call after so many others isn't made, but fails with `Store`; those after
+/// it are made. `faults` isn't counted as a call.
 #[derive(Drop)]
 pub struct FailingRecords<R: Records> {
     /// The keeper that makes the calls.
@@ -89,26 +89,8 @@ impl<R: Records> FailingRecords<R> {
     }
 
     /// The call that has failed, if it has come.
-    pub fn failed(&self) -> Option<Call> {
+    pub fn failed_call(&self) -> Option<Call> {
         self.plan.failed
-    }
-}
-
-/// Counts one more failure.
-fn count_one(faults: &mut u64)
-    ensures { IsOneMore faults.old faults.new }
-{
-    *faults = faults.saturating_add(1);
-}
-
-/// Counts the reading where the storage failed.
-fn count_reading<X>(faults: &mut u64, done: &Result<X, Failure>)
-    ensures { CountsReading faults.old faults.new done.now }
-{
-    match done {
-        Ok(_) => {}
-        Err(Failure::Memory) => {}
-        Err(Failure::Store) => count_one(faults),
     }
 }
 
@@ -288,5 +270,22 @@ impl<R: Reopen> Reopen for FailingRecords<R> {
             plan,
             faults,
         })
+    }
+}
+
+/// Counts one more failure.
+fn count_one(faults: &mut u64)
+    ensures { IsOneMore faults.old faults.new }
+{
+    *faults = faults.saturating_add(1);
+}
+
+/// Counts the reading if the storage failed.
+fn count_reading<X>(faults: &mut u64, done: &Result<X, Failure>)
+    ensures { CountsReading faults.old faults.new done.now }
+{
+    match done {
+        Ok(_) | Err(Failure::Memory) => {}
+        Err(Failure::Store) => count_one(faults),
     }
 }

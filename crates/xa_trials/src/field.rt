@@ -18,17 +18,37 @@ struct Field {
 }
 
 impl Field {
-    /// Takes the field. A repetition has its end in it.
-    fn take(&mut self, field: &str) -> Result<(), NoAnswer> {
-        for part in field.split('\\') {
-            if let Some((letter, rest)) = self.text.take(part, b"\\")? {
-                self.escape(part, letter, rest)?;
+    /// Takes the byte of two hexadecimal digits, and the bytes after them.
+    fn put_hexadecimal(&mut self, bytes: &[u8]) -> Result<(), NoAnswer> {
+        match bytes {
+            [first, second, rest @ ..] => {
+                let (first, second) = (digit(*first)?, digit(*second)?);
+                let byte = first.wrapping_mul(16).wrapping_add(second);
+                self.text.put_byte(byte, rest)
             }
+            _ => Err(NoAnswer::Malformed),
         }
-        match self.count {
-            Some(_) => Err(NoAnswer::Malformed),
-            None => Ok(()),
+    }
+
+    /// Takes how often a text stands there, and the beginning of the text. No other is repeated in it.
+    fn begin(&mut self, part: &str) -> Result<(), NoAnswer> {
+        if self.count.is_some() {
+            return Err(NoAnswer::Malformed);
         }
+        let (digits, rest) = part.split_once(',').ok_or(NoAnswer::Malformed)?;
+        self.count = Some(number_of(digits.strip_prefix("{").unwrap_or(digits))?);
+        self.start = self.text.len();
+        self.text.put(rest.as_bytes())
+    }
+
+    /// Puts the text since the start as often as was said, and the bytes after it.
+    fn repeat(&mut self, rest: &[u8]) -> Result<(), NoAnswer> {
+        let count = self.count.take().ok_or(NoAnswer::Malformed)?;
+        let bytes = self.text.take_off(self.start)?;
+        for _ in 0..count {
+            self.text.put(&bytes)?;
+        }
+        self.text.put(rest)
     }
 
     /// Takes the letter of an escape and the bytes after it, which are that part.
@@ -44,38 +64,17 @@ impl Field {
         }
     }
 
-    /// Takes the byte of two hexadecimal digits, and the bytes after them.
-    fn put_hexadecimal(&mut self, bytes: &[u8]) -> Result<(), NoAnswer> {
-        match bytes {
-            [first, second, rest @ ..] => {
-                let (first, second) = (digit(*first)?, digit(*second)?);
-                let byte = first.wrapping_mul(16).wrapping_add(second);
-                self.text.put_byte(byte, rest)
+    /// Takes the field, in which a repetition has to end.
+    fn take(&mut self, field: &str) -> Result<(), NoAnswer> {
+        for part in field.split('\\') {
+            if let Some((letter, rest)) = self.text.take(part, b"\\")? {
+                self.escape(part, letter, rest)?;
             }
-            _ => Err(NoAnswer::Malformed),
         }
-    }
-
-    /// Takes how often a text stands there, and the beginning of the text. It stands in no other.
-    fn begin(&mut self, part: &str) -> Result<(), NoAnswer> {
-        if self.count.is_some() {
-            return Err(NoAnswer::Malformed);
+        match self.count {
+            Some(_) => Err(NoAnswer::Malformed),
+            None => Ok(()),
         }
-        let (digits, rest) = part.split_once(',').ok_or(NoAnswer::Malformed)?;
-        self.count = Some(number_of(digits.strip_prefix("{").unwrap_or(digits))?);
-        self.start = self.text.len();
-        self.text.put(rest.as_bytes())
-    }
-
-    /// Puts the text since the start so often that it stands there as often as was said, and the
-    /// bytes after it.
-    fn repeat(&mut self, rest: &[u8]) -> Result<(), NoAnswer> {
-        let count = self.count.take().ok_or(NoAnswer::Malformed)?;
-        let bytes = self.text.take_off(self.start)?;
-        for _ in 0..count {
-            self.text.put(&bytes)?;
-        }
-        self.text.put(rest)
     }
 }
 
@@ -95,21 +94,17 @@ pub fn word_and_text(field: &str) -> (&str, &str) {
     field.split_once(':').unwrap_or((field, ""))
 }
 
-/// The text before the first space, and the one behind it.
+/// The text before the first space, and the text behind it.
 pub fn first_word_and_rest(text: &str) -> (&str, &str) {
     text.split_once(' ').unwrap_or((text, ""))
 }
 
-/// The fields at the beginning that have the word, and the rest.
+/// The fields at the beginning whose word is this one, and the rest.
 pub fn leading_and_rest<'a>(fields: &'a [&'a str], word: &str) -> (&'a [&'a str], &'a [&'a str]) {
-    let mut count = 0usize;
-    for field in fields {
-        let (other, _) = word_and_text(field);
-        if other != word {
-            break;
-        }
-        count = count.saturating_add(1);
-    }
+    let count = fields
+        .iter()
+        .position(|field| word_and_text(field).0 != word)
+        .unwrap_or(fields.len());
     let leading = fields.get(..count).unwrap_or(&[]);
     let rest = fields.get(count..).unwrap_or(&[]);
     (leading, rest)
@@ -123,9 +118,8 @@ where
     text.parse::<T>().ok().ok_or(NoAnswer::Malformed)
 }
 
-/// The bytes that the field stands for: `\n`, `\r`, `\t` and `\xHH` are a byte, `\{COUNT,TEXT\}` is
-/// the text COUNT times, in which no other is repeated, and any other letter after a backslash stands
-/// for itself.
+/// The bytes that the field stands for. `\n`, `\r`, `\t` and `\xHH` are a byte. `\{COUNT,TEXT\}` is the
+/// text COUNT times, in which no other is repeated. Any other letter after a backslash stands for itself.
 pub fn bytes_of(alloc: Global, field: &str) -> Result<Vec<u8>, NoAnswer> {
     let mut read = Field {
         text: Escapes::new(alloc),
@@ -143,7 +137,7 @@ pub fn text_of(alloc: Global, field: &str) -> Result<String, NoAnswer> {
         .ok_or(NoAnswer::Malformed)
 }
 
-/// The same text, to be kept.
+/// The text that the field stands for, as it is kept.
 pub fn kept_text(alloc: Global, field: &str) -> Result<Text, NoAnswer> {
     Ok(Text::from_string(text_of(alloc, field)?))
 }

@@ -1,5 +1,5 @@
 //! Stores over two files in memory, the database's and its log, and what a crash leaves of these.
-use crate::keepers::opened_keeper;
+use crate::keepers::open_keeper;
 use crate::no_answer::NoAnswer;
 use sqlite::{Connection, FileStore, Files, Options};
 use sqlite_disk::{Crash, Disk, Fuse, Memory};
@@ -21,7 +21,7 @@ pub enum FileName {
     Database,
 }
 
-/// So few pages that both files are written and read again and again.
+/// The options of a store. It holds so few pages that both files are written and read again and again.
 const OPTIONS: Options = Options {
     cache_pages: 4,
     spill_pages: 4,
@@ -29,7 +29,7 @@ const OPTIONS: Options = Options {
     seed: 1,
 };
 
-/// An empty log and an empty file, of which each passes on more calls than any row makes.
+/// An empty log and an empty file. Each passes on more calls than any row makes.
 pub fn new_files(alloc: Global) -> Files<File> {
     Files {
         log: Fuse::new(Memory::new(alloc), u64::MAX),
@@ -37,7 +37,7 @@ pub fn new_files(alloc: Global) -> Files<File> {
     }
 }
 
-/// A connection to the store in the files; the files, where it can't be opened.
+/// A connection to the store in the files; the files, if it can't be opened.
 pub fn connection_to(alloc: Global, files: Files<File>) -> Result<Connection<Store>, Files<File>> {
     if !files.may_be_used() {
         return Err(files);
@@ -53,9 +53,9 @@ pub fn files_under(conn: Connection<Store>) -> Files<File> {
     conn.into_store().close()
 }
 
-/// A keeper of the store in the files; the files, where it can't be opened.
+/// A keeper of the store in the files; the files, if it can't be opened.
 pub fn keeper_of(alloc: Global, files: Files<File>) -> Result<SqlRecords<Store>, Files<File>> {
-    match opened_keeper(alloc, connection_to(alloc, files)?) {
+    match open_keeper(alloc, connection_to(alloc, files)?) {
         Ok(records) => Ok(records),
         Err((_, conn)) => Err(files_under(conn)),
     }
@@ -78,8 +78,8 @@ pub fn file_named(word: &str) -> Result<FileName, NoAnswer> {
     }
 }
 
-/// Files with all that was written to these, of which that one passes on so many calls, and the other more
-/// than any row makes.
+/// Files with all that was written to these. That one passes on so many calls, and the other more than any
+/// row makes.
 pub fn files_of(
     alloc: Global,
     held: &Files<File>,
@@ -96,7 +96,7 @@ pub fn files_of(
     })
 }
 
-/// What a crash leaves at its two ends: what was synced alone, and all that was written.
+/// What a crash leaves at its two ends: only what was synced, and all that was written.
 pub fn after_crash(
     alloc: Global,
     mut files: Files<File>,

@@ -1,15 +1,15 @@
-//! Rows of connections that are driven over two files, of which one is frozen behind so many calls.
+//! Rows of connections that are driven over two files, one of which is frozen behind so many calls.
 use crate::answer::Answer;
 use crate::driven::run_driven_events;
 use crate::field::number_of;
 use crate::files::{Store, file_named, files_of, keeper_of, new_files};
-use crate::no_answer::{NoAnswer, answered};
+use crate::no_answer::{NoAnswer, unless_answered};
 use crate::setup::{Setup, setup_and_events};
 use sqlite::Alter;
 use std::alloc::Global;
 use xa_store::SqlRecords;
 
-/// The keeper of tables over the files of which one passes on so many calls, as `FILE CALLS` says.
+/// The keeper of tables over two files. One of them passes on so many calls, as `FILE CALLS` says.
 fn frozen_keeper(alloc: Global, text: &str) -> Result<SqlRecords<Store>, NoAnswer> {
     let (word, calls) = text.split_once(' ').ok_or(NoAnswer::Malformed)?;
     let (name, calls) = (file_named(word)?, number_of(calls)?);
@@ -25,12 +25,12 @@ fn run_frozen_events<S: Alter + Drop>(
     setup: &Setup,
     events: &[&str],
 ) -> Result<(), NoAnswer> {
-    answered(run_driven_events(answer, records, setup, events))
+    unless_answered(run_driven_events(answer, records, setup, events))
 }
 
-/// What becomes of driven connections over the keeper of tables in two files, of which one is frozen
-/// behind so many calls.
-pub fn frozen(answer: &mut Answer, text: &str, fields: &[&str]) -> Result<(), NoAnswer> {
+/// What becomes of driven connections over the keeper of tables in two files, one of which is frozen behind
+/// so many calls.
+pub fn run_frozen_row(answer: &mut Answer, text: &str, fields: &[&str]) -> Result<(), NoAnswer> {
     let (setup, events) = setup_and_events(answer.alloc(), fields)?;
     let records = frozen_keeper(answer.alloc(), text)?;
     run_frozen_events(answer, records, &setup, events)

@@ -49,7 +49,7 @@ fn push_outcome(answer: &mut Answer, outcome: Result<Value, OrMemory<FuncFault>>
     }
 }
 
-/// Adds what a function of bags or of a function gave.
+/// Adds what a function of bags, or a higher-order function, gave.
 fn push_bag_outcome(
     answer: &mut Answer,
     outcome: Result<ValueOrBag, OrMemory<BagFault<FuncFault>>>,
@@ -109,7 +109,7 @@ pub fn apply(answer: &mut Answer, name: &str, fields: &[&str]) -> Result<(), NoA
     Ok(())
 }
 
-/// Adds what the function of a function gives.
+/// Adds what the higher-order function gives for the inner function and the arguments.
 fn apply_each(answer: &mut Answer, function: HigherOrder, inner: FuncId, arguments: &[ValueOrBag]) {
     let alloc = answer.alloc();
     if inner.takes_each(arguments) {

@@ -1,7 +1,6 @@
-//! Rows of a keeper of records: what it answers to changes and readings, one after another. A
-//! call is a field of its word, the domain's name and a text, with a space between: `create a`,
-//! `put a ask TOKEN`, `upload a DOCUMENT`. The key of a document is written as a document that
-//! has it.
+//! Rows of a keeper of records: what it answers to changes and readings, one after another. A call is a
+//! field: its word, the domain's name and a text, with a space between, as `create a`, `put a ask TOKEN` or
+//! `upload a DOCUMENT`. The key of a document is written as a document that has it.
 pub(crate) mod changes;
 pub(crate) mod readings;
 
@@ -28,40 +27,23 @@ pub struct KeeperCall<'a> {
     pub text: &'a str,
 }
 
-/// What keepers answer to the calls which begin with one domain: the text has its name, its number and its
-/// epoch, as `NAME NUMBER EPOCH`.
-pub fn keeper_with(answer: &mut Answer, text: &str, calls: &[&str]) -> Result<(), NoAnswer> {
-    let alloc = answer.alloc();
-    let (name, numbers) = first_word_and_rest(text);
-    let (number, epoch) = first_word_and_rest(numbers);
-    let (number, epoch) = (number_of(number)?, number_of(epoch)?);
-    if !is_domain_name(name.as_bytes()) {
-        return Err(NoAnswer::Malformed);
-    }
-    let row = KeeperRow::Calls(calls);
-    let plain = PlainRecords::with_domain(alloc, Text::new(alloc, name)?, number, epoch);
-    row.run(answer, plain.ok().ok_or(NoAnswer::Malformed)?)?;
-    compare_over(answer, row, tables_with(alloc, name, number, epoch)?)
-}
-
-/// Makes the calls, one after another.
-pub fn make_all<R: Records + Drop>(
+/// Makes the reading that the word says.
+fn read<R: Records>(
     answer: &mut Answer,
-    mut records: R,
-    calls: &[&str],
+    records: &mut R,
+    call: &KeeperCall<'_>,
 ) -> Result<(), NoAnswer> {
-    for field in calls {
-        make(answer, &mut records, field)?;
+    match call.word {
+        "faults" => answer.push_shown("", &records.faults()),
+        "open" => answer.push_shown("", &records.is_open()),
+        "domains" => domains(answer, records),
+        "gate" | "role" => gate(answer, records, call)?,
+        "view" => view(answer, records, call)?,
+        "document" => document(answer, records, call)?,
+        "list" => list(answer, records, call)?,
+        _ => return Err(NoAnswer::Malformed),
     }
     Ok(())
-}
-
-/// Makes the call of the field.
-fn make<R: Records>(answer: &mut Answer, records: &mut R, field: &str) -> Result<(), NoAnswer> {
-    let (word, rest) = first_word_and_rest(field);
-    let (name, text) = first_word_and_rest(rest);
-    let name = kept_text(answer.alloc(), name)?;
-    make_call(answer, records, &KeeperCall { word, name, text })
 }
 
 /// Makes the call that the word says: a change, else a reading.
@@ -86,21 +68,38 @@ fn make_call<R: Records>(
     Ok(())
 }
 
-/// Makes the reading that the word says.
-fn read<R: Records>(
+/// Makes the call of the field.
+fn make<R: Records>(answer: &mut Answer, records: &mut R, field: &str) -> Result<(), NoAnswer> {
+    let (word, rest) = first_word_and_rest(field);
+    let (name, text) = first_word_and_rest(rest);
+    let name = kept_text(answer.alloc(), name)?;
+    make_call(answer, records, &KeeperCall { word, name, text })
+}
+
+/// Makes the calls, one after another.
+pub fn make_all<R: Records + Drop>(
     answer: &mut Answer,
-    records: &mut R,
-    call: &KeeperCall<'_>,
+    mut records: R,
+    calls: &[&str],
 ) -> Result<(), NoAnswer> {
-    match call.word {
-        "faults" => answer.push_shown("", &records.faults()),
-        "open" => answer.push_shown("", &records.is_open()),
-        "domains" => domains(answer, records),
-        "gate" | "role" => gate(answer, records, call)?,
-        "view" => view(answer, records, call)?,
-        "document" => document(answer, records, call)?,
-        "list" => list(answer, records, call)?,
-        _ => return Err(NoAnswer::Malformed),
+    for field in calls {
+        make(answer, &mut records, field)?;
     }
     Ok(())
+}
+
+/// What keepers that begin with one domain answer to the calls. The text has the domain's name, its number
+/// and its epoch, as `NAME NUMBER EPOCH`.
+pub fn keeper_with(answer: &mut Answer, text: &str, calls: &[&str]) -> Result<(), NoAnswer> {
+    let alloc = answer.alloc();
+    let (name, numbers) = first_word_and_rest(text);
+    let (number, epoch) = first_word_and_rest(numbers);
+    let (number, epoch) = (number_of(number)?, number_of(epoch)?);
+    if !is_domain_name(name.as_bytes()) {
+        return Err(NoAnswer::Malformed);
+    }
+    let row = KeeperRow::Calls(calls);
+    let plain = PlainRecords::with_domain(alloc, Text::new(alloc, name)?, number, epoch);
+    row.run(answer, plain.ok().ok_or(NoAnswer::Malformed)?)?;
+    compare_over(answer, row, tables_with(alloc, name, number, epoch)?)
 }

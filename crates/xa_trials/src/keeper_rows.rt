@@ -1,4 +1,4 @@
-//! Rows that are answered over a keeper: over one in memory, and over one of tables, which have to answer
+//! Rows that are answered over a keeper: over one in memory and over one of tables, which have to come to
 //! the same.
 use crate::answer::Answer;
 use crate::connections::run_front_events;
@@ -6,7 +6,7 @@ use crate::driven::run_driven_events;
 use crate::failing_records::FailingRecords;
 use crate::keeper::make_all;
 use crate::keepers::{Reopen, tables};
-use crate::no_answer::{NoAnswer, answered};
+use crate::no_answer::{NoAnswer, unless_answered};
 use crate::played::run_played_events;
 use crate::server::run_server_events;
 use crate::setup::{Setup, setup_and_events};
@@ -27,19 +27,19 @@ pub enum Manner {
     Driven,
 }
 
-/// A row that is answered over a keeper, whichever that is.
+/// A row that is answered over any keeper.
 #[derive(Clone, Copy)]
 pub enum KeeperRow<'a> {
     /// The calls of the keeper itself.
     Calls(&'a [&'a str]),
-    /// What stands before the first event of a server over it, and the events.
+    /// A server over the keeper: what stands before its first event, and the events.
     Server(Manner, &'a Setup, &'a [&'a str]),
 }
 
 impl KeeperRow<'_> {
     /// Adds what is answered over the keeper.
     pub fn run<R: Reopen + Drop>(self, answer: &mut Answer, records: R) -> Result<(), NoAnswer> {
-        answered(match self {
+        unless_answered(match self {
             KeeperRow::Calls(calls) => make_all(answer, records, calls),
             KeeperRow::Server(Manner::Messages, setup, events) => {
                 run_server_events(answer, records, setup, events)
@@ -79,7 +79,7 @@ pub fn compare_over<R: Reopen + Drop>(
     Ok(())
 }
 
-/// Answers the row over a keeper in memory, and over tables, which have to answer the same.
+/// Answers the row over a keeper in memory and over tables, which have to come to the same.
 pub fn run_over_both(answer: &mut Answer, row: KeeperRow<'_>) -> Result<(), NoAnswer> {
     run_in_memory(answer, row)?;
     let records = tables(answer.alloc())?;

@@ -6,7 +6,7 @@ use std::alloc::Global;
 use xa_records::{PlainRecords, Records};
 use xa_store::{OpenError, SqlRecords};
 
-/// A keeper that can be stopped and taken up again.
+/// A keeper that can be stopped, and taken up again.
 pub trait Reopen: Records {
     /// The keeper of what this one kept, taken up again.
     fn keeper_after_stop(self, alloc: Global) -> Result<Self, NoAnswer>;
@@ -24,8 +24,9 @@ impl Reopen for SqlRecords<MemStore> {
     }
 }
 
-/// The keeper of the store; why it isn't opened, and its connection.
-pub fn opened_keeper<S: Alter>(
+/// The keeper of the store; or why it isn't opened, and the connection. `SqlRecords::open` has long clauses,
+/// on which no row rests: it is called here alone, and its callers are proved without them.
+pub fn open_keeper<S: Alter>(
     alloc: Global,
     conn: Connection<S>,
 ) -> Result<SqlRecords<S>, (OpenError, Connection<S>)> {
@@ -59,7 +60,7 @@ fn keeper_over(
     alloc: Global,
     conn: Connection<MemStore>,
 ) -> Result<SqlRecords<MemStore>, NoAnswer> {
-    match opened_keeper(alloc, conn) {
+    match open_keeper(alloc, conn) {
         Ok(records) => Ok(records),
         Err((OpenError::Memory, _)) => Err(NoAnswer::Memory),
         Err(_) => Err(NoAnswer::NotOpened),
@@ -71,8 +72,8 @@ pub fn tables(alloc: Global) -> Result<SqlRecords<MemStore>, NoAnswer> {
     keeper_over(alloc, connection_after(alloc, &[])?)
 }
 
-/// A keeper over tables in memory with one domain of that name, number and epoch, in which nothing
-/// has been put yet; the next gets the number after it.
+/// A keeper over tables in memory with one domain of that name, number and epoch, in which nothing has
+/// been put yet. The next domain gets the number after it.
 pub fn tables_with(
     alloc: Global,
     name: &str,

@@ -1,5 +1,6 @@
-//! The kinds of rows. Each has one arm, by its name alone, which says how many fields it has. The arms
-//! stand in families, a function each, which say whether they know the kind; `answer_row` tries them all.
+//! The kinds of rows. Each has one arm, which is found by the kind's name alone, and says how many fields
+//! there are. The arms stand in families, a function each, which say whether they know the kind. `answer_row`
+//! tries the families one after another.
 use crate::answer::Answer;
 use crate::field::number_of;
 use crate::keeper_rows::{
@@ -11,7 +12,7 @@ use crate::{
     messages, plain, references, requests, stops, stored, stores, tripped, values, versions,
 };
 
-/// The field of a row that has one behind the kind.
+/// The only field behind the kind.
 fn only_field<'a>(fields: &'a [&'a str]) -> Result<&'a str, NoAnswer> {
     match fields {
         [field] => Ok(*field),
@@ -19,7 +20,7 @@ fn only_field<'a>(fields: &'a [&'a str]) -> Result<&'a str, NoAnswer> {
     }
 }
 
-/// The fields of a row that has two behind the kind.
+/// The two fields behind the kind.
 fn two_fields<'a>(fields: &'a [&'a str]) -> Result<(&'a str, &'a str), NoAnswer> {
     match fields {
         [first, second] => Ok((*first, *second)),
@@ -27,7 +28,7 @@ fn two_fields<'a>(fields: &'a [&'a str]) -> Result<(&'a str, &'a str), NoAnswer>
     }
 }
 
-/// The fields of a row whose first behind the kind isn't as those after it: that one, and those.
+/// The first field behind the kind, and those after it.
 fn first_field_and_rest<'a>(fields: &'a [&'a str]) -> Result<(&'a str, &'a [&'a str]), NoAnswer> {
     match fields {
         [first, rest @ ..] => Ok((*first, rest)),
@@ -58,7 +59,7 @@ fn answer_value(answer: &mut Answer, kind: &str, fields: &[&str]) -> Result<bool
         }
         "plain" => {
             let (name, member) = two_fields(fields)?;
-            plain::plain(answer, name, member)
+            plain::plain_member(answer, name, member)
         }
         _ => return Ok(false),
     };
@@ -146,7 +147,7 @@ fn answer_server(answer: &mut Answer, kind: &str, fields: &[&str]) -> Result<boo
         "front" => run_server_row(answer, Manner::FrontCalls, fields),
         "played" => run_server_row(answer, Manner::Played, fields),
         "driven" => run_server_row(answer, Manner::Driven, fields),
-        "tripped" => tripped::tripped(answer, fields),
+        "tripped" => tripped::run_tripped_row(answer, fields),
         "tripped_after" => {
             let (calls, fields) = first_field_and_rest(fields)?;
             run_server_row(answer, Manner::FailingAfter(number_of(calls)?), fields)
@@ -170,14 +171,14 @@ fn answer_keeper(answer: &mut Answer, kind: &str, fields: &[&str]) -> Result<boo
             let (beginning, statements) = first_field_and_rest(fields)?;
             stores::opening(answer, beginning, statements)
         }
-        "stored" => stored::stored(answer, fields),
+        "stored" => stored::run_stored_row(answer, fields),
         "stops" => {
             let (file, fields) = first_field_and_rest(fields)?;
             stops::stops(answer, file, fields)
         }
         "frozen" => {
             let (file_and_calls, fields) = first_field_and_rest(fields)?;
-            frozen::frozen(answer, file_and_calls, fields)
+            frozen::run_frozen_row(answer, file_and_calls, fields)
         }
         _ => return Ok(false),
     };

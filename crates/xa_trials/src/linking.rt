@@ -6,21 +6,8 @@ use xa_link::link;
 use xa_policy::Linked;
 use xa_shelf::{Shelf, TextReader};
 
-/// The tree that the reference leads to among the active documents of these texts.
-pub fn tree(answer: &mut Answer, root: &str, texts: &[&str]) -> Result<(), NoAnswer> {
-    let alloc = answer.alloc();
-    let root = reference_of(alloc, root)?;
-    let documents = documents_of(alloc, texts)?;
-    let mut shelf = Shelf::new(alloc)?;
-    let mut reader = TextReader::new(&mut shelf, u64::MAX);
-    if let Some(tree) = answer.success(link(alloc, &mut reader, &documents, &root)) {
-        push_tree(answer, &tree);
-    }
-    Ok(())
-}
-
-/// Adds the tree: `?` for a reference that leads to nothing, else the name of the algorithm, of a
-/// set with its children.
+/// Adds the tree: `?` for a reference that leads to nothing; of a policy the name of its algorithm; of a
+/// set also its children.
 #[cycle(shown)]
 fn push_tree(answer: &mut Answer, tree: &Linked) {
     match tree {
@@ -40,4 +27,17 @@ fn push_children(answer: &mut Answer, children: &[Linked]) {
         push_tree(answer, child);
     }
     answer.push_word(")");
+}
+
+/// The tree that the reference leads to among the active documents of these texts.
+pub fn tree(answer: &mut Answer, root: &str, texts: &[&str]) -> Result<(), NoAnswer> {
+    let alloc = answer.alloc();
+    let root = reference_of(alloc, root)?;
+    let documents = documents_of(alloc, texts)?;
+    let mut shelf = Shelf::new(alloc)?;
+    let mut reader = TextReader::new(&mut shelf, u64::MAX);
+    if let Some(tree) = answer.success(link(alloc, &mut reader, &documents, &root)) {
+        push_tree(answer, &tree);
+    }
+    Ok(())
 }

@@ -1,15 +1,14 @@
-//! Rows of connections: what a client of this process receives from a server over a socket. Events
-//! are as in rows of messages: `piece:BYTES`, which the client writes, `moment:SECONDS`, at which the
-//! server's clock stands from then on, and `close:`, which ends the connection and begins another. A
-//! connection has its ends in one thread, one after the other: the client connects, writes, and ends
-//! its writing side; then the server takes the connection, answers it and closes it; then the client
-//! reads.
+//! Rows of connections: what a client of this process receives from a server over a socket. Events are as
+//! in rows of messages. The client writes `piece:BYTES`. The server's clock stands at `moment:SECONDS` from
+//! then on. `close:` ends the connection, and the next begins. Both ends of a connection are in one thread,
+//! one after the other. The client connects, writes, and ends its writing side; then the server takes the
+//! connection, answers it and closes it; then the client reads.
 use crate::answer::Answer;
 use crate::clock::{StandingClock, moment_of};
 use crate::field::{bytes_of, word_and_text};
 use crate::front_calls::{close, drive, open};
 use crate::keepers::tables;
-use crate::no_answer::{NoAnswer, answered};
+use crate::no_answer::{NoAnswer, unless_answered};
 use crate::setup::{Setup, server_made, setup_and_events};
 use std::io::{Read, Write};
 use std::net::{Ipv4Addr, Shutdown, TcpListener, TcpStream};
@@ -117,5 +116,5 @@ pub fn loopback(answer: &mut Answer, rt: &HostRuntime, fields: &[&str]) -> Resul
     let listener = TcpListener::bind(rt, (Ipv4Addr::LOCALHOST, 0))?;
     let (setup, events) = setup_and_events(answer.alloc(), fields)?;
     let records = tables(answer.alloc())?;
-    answered(run_socket_events(answer, rt, listener, records, &setup, events))
+    unless_answered(run_socket_events(answer, rt, listener, records, &setup, events))
 }

@@ -1,5 +1,5 @@
-//! Rows of streams and their parts: the messages of a stream, where a message's target leads, and
-//! which texts are tokens and names.
+//! Rows of streams and their parts: the messages of a stream, where a message's target leads, and which
+//! texts are tokens and names.
 use crate::answer::Answer;
 use crate::field::bytes_of;
 use crate::no_answer::NoAnswer;
@@ -9,16 +9,22 @@ use xa_notation::is_token;
 use xa_records::{Digest, is_domain_name};
 use xa_value::{Items, OrMemory};
 
-/// The messages of a stream that comes in these pieces, with what it answers after each of them.
-pub fn stream(answer: &mut Answer, pieces: &[&str]) -> Result<(), NoAnswer> {
-    let mut session = Session::new(answer.alloc());
-    for piece in pieces {
-        take_piece(answer, &mut session, piece)?;
+/// Adds a message (RFC 9112, section 2.1): its method, its target, its field lines and its body, and whether
+/// it is the last of its stream.
+fn push_message(answer: &mut Answer, message: &Message) {
+    answer.push_field("method:", message.method.as_slice());
+    answer.push_field("target:", message.target.as_slice());
+    for field in message.fields.as_slice() {
+        answer.push_field("name:", field.name.as_slice());
+        answer.push_field("value:", field.value.as_slice());
     }
-    Ok(())
+    answer.push_field("body:", message.body.as_slice());
+    if message.close {
+        answer.push_word("close");
+    }
 }
 
-/// Takes in a piece, takes the whole messages off the stream and adds each, and then why no message follows.
+/// Takes in a piece. Takes the whole messages off the stream and adds each, and then why no more follow.
 fn take_piece(answer: &mut Answer, session: &mut Session, piece: &str) -> Result<(), NoAnswer> {
     session.feed(&bytes_of(answer.alloc(), piece)?)?;
     for _ in 0..u64::MAX {
@@ -36,18 +42,14 @@ fn take_piece(answer: &mut Answer, session: &mut Session, piece: &str) -> Result
     Ok(())
 }
 
-/// Adds a message: its method, its target, its field lines and its body, and whether it closes the stream.
-fn push_message(answer: &mut Answer, message: &Message) {
-    answer.push_field("method:", message.method.as_slice());
-    answer.push_field("target:", message.target.as_slice());
-    for field in message.fields.as_slice() {
-        answer.push_field("name:", field.name.as_slice());
-        answer.push_field("value:", field.value.as_slice());
+/// The messages of a stream that comes in these pieces (RFC 9112, section 2). After each piece it is said why
+/// no more follow.
+pub fn stream(answer: &mut Answer, pieces: &[&str]) -> Result<(), NoAnswer> {
+    let mut session = Session::new(answer.alloc());
+    for piece in pieces {
+        take_piece(answer, &mut session, piece)?;
     }
-    answer.push_field("body:", message.body.as_slice());
-    if message.close {
-        answer.push_word("close");
-    }
+    Ok(())
 }
 
 /// The message of that method and target alone.

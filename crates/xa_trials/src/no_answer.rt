@@ -22,14 +22,6 @@ pub enum NoAnswer {
     Refused(FrontError),
 }
 
-/// What comes of a row: that its answer is there already is no failure.
-pub fn answered(done: Result<(), NoAnswer>) -> Result<(), NoAnswer> {
-    match done {
-        Err(NoAnswer::Answered) => Ok(()),
-        done => done,
-    }
-}
-
 impl From<AllocError> for NoAnswer {
     fn from(_error: AllocError) -> NoAnswer {
         NoAnswer::Memory
@@ -57,5 +49,13 @@ impl From<FrontError> for NoAnswer {
             FrontError::Memory => NoAnswer::Memory,
             refusal => NoAnswer::Refused(refusal),
         }
+    }
+}
+
+/// What comes of a row: that its answer is there already is no failure.
+pub fn unless_answered(done: Result<(), NoAnswer>) -> Result<(), NoAnswer> {
+    match done {
+        Err(NoAnswer::Answered) => Ok(()),
+        done => done,
     }
 }

@@ -5,19 +5,12 @@ use crate::field::{number_of, text_of};
 use crate::no_answer::NoAnswer;
 use xa_value::{DataType, Plain, Text, TextRef, Value};
 
-/// The value of the member under the type, and the member as which it is written. The member is a
-/// field `text:TEXT`, `boolean:true`, `boolean:false` or `integer:DIGITS`.
-pub fn plain(answer: &mut Answer, name: &str, member: &str) -> Result<(), NoAnswer> {
-    let data_type = type_named(name)?;
-    let (kind, field) = member.split_once(':').ok_or(NoAnswer::Malformed)?;
-    match kind {
-        "text" => {
-            let text = text_of(answer.alloc(), field)?;
-            push_both(answer, data_type, &Plain::Text(TextRef::new(text.as_str())))
-        }
-        "boolean" => push_both(answer, data_type, &Plain::Boolean(number_of(field)?)),
-        "integer" => push_both(answer, data_type, &Plain::Integer(number_of(field)?)),
-        _ => Err(NoAnswer::Malformed),
+/// Adds a field of the member's kind and its value.
+fn push_member(answer: &mut Answer, member: &Plain<Text>) {
+    match member {
+        Plain::Text(text) => answer.push_field("plain:text:", text.as_bytes()),
+        Plain::Boolean(value) => answer.push_shown("plain:boolean:", value),
+        Plain::Integer(value) => answer.push_shown("plain:integer:", value),
     }
 }
 
@@ -35,11 +28,18 @@ fn push_both(
     Ok(())
 }
 
-/// Adds a field of the member's kind and its value.
-fn push_member(answer: &mut Answer, member: &Plain<Text>) {
-    match member {
-        Plain::Text(text) => answer.push_field("plain:text:", text.as_bytes()),
-        Plain::Boolean(value) => answer.push_shown("plain:boolean:", value),
-        Plain::Integer(value) => answer.push_shown("plain:integer:", value),
+/// The value of the member under the type, and the member as which it is written. The member is a
+/// field `text:TEXT`, `boolean:true`, `boolean:false` or `integer:DIGITS`.
+pub fn plain_member(answer: &mut Answer, name: &str, member: &str) -> Result<(), NoAnswer> {
+    let data_type = type_named(name)?;
+    let (kind, field) = member.split_once(':').ok_or(NoAnswer::Malformed)?;
+    match kind {
+        "text" => {
+            let text = text_of(answer.alloc(), field)?;
+            push_both(answer, data_type, &Plain::Text(TextRef::new(text.as_str())))
+        }
+        "boolean" => push_both(answer, data_type, &Plain::Boolean(number_of(field)?)),
+        "integer" => push_both(answer, data_type, &Plain::Integer(number_of(field)?)),
+        _ => Err(NoAnswer::Malformed),
     }
 }

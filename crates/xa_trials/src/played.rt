@@ -1,5 +1,5 @@
-//! Rows of events that are played, each as a list of its own: as rows of connections, of the calls of a front
-//! and of moments alone.
+//! Rows of events that are played, each as a list of its own. They are rows of connections in which only
+//! calls of a front and moments stand.
 use crate::answer::Answer;
 use crate::clock::moment_of;
 use crate::connections::FrontTrial;
@@ -11,7 +11,7 @@ use crate::setup::Setup;
 use xa_records::Records;
 use xa_server::{Event, FrontError, Outcome};
 
-/// Plays the call that the word and the text behind it say, alone.
+/// Plays the one call that the word and the text behind it say.
 fn outcomes_of<R: Records + Drop>(
     trial: &mut FrontTrial<R>,
     word: &str,

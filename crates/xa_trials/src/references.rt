@@ -1,4 +1,4 @@
-//! Rows of references: for which document one stands. References and keys of documents as fields.
+//! Rows of references: for which document a reference stands. References and keys of documents as fields.
 ghost use Rattle.std.specs.Prelude.{IfOk};
 ghost use Rattle.xa_records.specs.DomainState.{IsDocumentOf};
 
@@ -11,14 +11,6 @@ use xa_link::{Active, resolve};
 use xa_notation::{Parsed, read_root};
 use xa_policy::{DocumentKey, DocumentKind, Reference, Version};
 use xa_value::Text;
-
-/// The place of the document for which the reference stands.
-pub fn resolution(answer: &mut Answer, reference: &str, texts: &[&str]) -> Result<(), NoAnswer> {
-    let reference = reference_of(answer.alloc(), reference)?;
-    let documents = documents_of(answer.alloc(), texts)?;
-    answer.push_shown_or_none(resolve(&documents, &reference));
-    Ok(())
-}
 
 /// The root that the body of the field sets, if any.
 pub fn root_of(alloc: Global, field: &str) -> Result<Option<Reference>, NoAnswer> {
@@ -39,6 +31,14 @@ pub fn documents_of(alloc: Global, texts: &[&str]) -> Result<Vec<Active>, NoAnsw
         documents.push(active_of(alloc, text)?)?;
     }
     Ok(documents)
+}
+
+/// The place of the document for which the reference stands.
+pub fn resolution(answer: &mut Answer, reference: &str, texts: &[&str]) -> Result<(), NoAnswer> {
+    let reference = reference_of(answer.alloc(), reference)?;
+    let documents = documents_of(answer.alloc(), texts)?;
+    answer.push_shown_or_none(resolve(&documents, &reference));
+    Ok(())
 }
 
 /// The key of the document that the text is.
@@ -76,8 +76,7 @@ fn push_version(answer: &mut Answer, version: &Option<Version>) -> Result<(), No
     Ok(())
 }
 
-/// Adds a field of the word and KIND|ID|PATTERN|EARLIEST|LATEST, where what the reference doesn't say is
-/// empty.
+/// Adds a field of the word and KIND|ID|PATTERN|EARLIEST|LATEST. What the reference doesn't say is empty.
 pub fn push_reference(
     answer: &mut Answer,
     word: &str,

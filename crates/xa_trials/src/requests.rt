@@ -4,29 +4,31 @@ use crate::field::bytes_of;
 use crate::no_answer::NoAnswer;
 use xa_profile::{Attribute, CategoryObject, Individual, Request};
 
-/// The request that the body is read as.
-pub fn request(answer: &mut Answer, body: &str) -> Result<(), NoAnswer> {
-    let body = bytes_of(answer.alloc(), body)?;
-    let read = Request::read(answer.alloc(), &body);
-    if let Some(request) = answer.success(read) {
-        push_request(answer, &request);
+/// Adds the attribute: its id, its issuer if it has one, whether it is included in the result, and its
+/// type and values.
+fn push_attribute(answer: &mut Answer, attribute: &Attribute) {
+    answer.push_field("attribute:", attribute.id.as_bytes());
+    if let Some(issuer) = &attribute.issuer {
+        answer.push_field("issuer:", issuer.as_bytes());
     }
-    Ok(())
+    if attribute.include_in_result {
+        answer.push_word("included");
+    }
+    answer.push_field("of:", attribute.values.data_type().name().as_bytes());
+    for value in attribute.values.values() {
+        answer.push_value(value);
+    }
 }
 
-/// The individual requests that the body makes: to each the places of its objects.
-pub fn individuals(answer: &mut Answer, body: &str) -> Result<(), NoAnswer> {
-    let body = bytes_of(answer.alloc(), body)?;
-    let request = Request::read(answer.alloc(), &body)
-        .ok()
-        .ok_or(NoAnswer::Malformed)?;
-    let individuals = request.individuals(answer.alloc());
-    if let Some(individuals) = answer.success(individuals) {
-        for individual in individuals.as_slice() {
-            push_individual(answer, individual);
-        }
+/// Adds the object: its category, its id if it has one, and its attributes.
+fn push_object(answer: &mut Answer, object: &CategoryObject) {
+    answer.push_field("object:", object.category.as_bytes());
+    if let Some(id) = &object.id {
+        answer.push_field("id:", id.as_bytes());
     }
-    Ok(())
+    for attribute in object.attributes.as_slice() {
+        push_attribute(answer, attribute);
+    }
 }
 
 /// Adds the request: its flags, its objects, and its end.
@@ -43,31 +45,14 @@ fn push_request(answer: &mut Answer, request: &Request) {
     answer.push_word(".");
 }
 
-/// Adds the object: its category, its id where it has one, and its attributes.
-fn push_object(answer: &mut Answer, object: &CategoryObject) {
-    answer.push_field("object:", object.category.as_bytes());
-    if let Some(id) = &object.id {
-        answer.push_field("id:", id.as_bytes());
+/// The request that the body is read as.
+pub fn request(answer: &mut Answer, body: &str) -> Result<(), NoAnswer> {
+    let body = bytes_of(answer.alloc(), body)?;
+    let read = Request::read(answer.alloc(), &body);
+    if let Some(request) = answer.success(read) {
+        push_request(answer, &request);
     }
-    for attribute in object.attributes.as_slice() {
-        push_attribute(answer, attribute);
-    }
-}
-
-/// Adds the attribute: its id, its issuer where it has one, whether it is included in the result, and its
-/// type and values.
-fn push_attribute(answer: &mut Answer, attribute: &Attribute) {
-    answer.push_field("attribute:", attribute.id.as_bytes());
-    if let Some(issuer) = &attribute.issuer {
-        answer.push_field("issuer:", issuer.as_bytes());
-    }
-    if attribute.include_in_result {
-        answer.push_word("included");
-    }
-    answer.push_field("of:", attribute.values.data_type().name().as_bytes());
-    for value in attribute.values.values() {
-        answer.push_value(value);
-    }
+    Ok(())
 }
 
 /// Adds the places of the individual request, with a comma before each.
@@ -81,4 +66,19 @@ fn push_individual(answer: &mut Answer, individual: &Individual) {
             }
         }
     }
+}
+
+/// The individual requests that the body makes: of each the places of its objects.
+pub fn individuals(answer: &mut Answer, body: &str) -> Result<(), NoAnswer> {
+    let body = bytes_of(answer.alloc(), body)?;
+    let request = Request::read(answer.alloc(), &body)
+        .ok()
+        .ok_or(NoAnswer::Malformed)?;
+    let individuals = request.individuals(answer.alloc());
+    if let Some(individuals) = answer.success(individuals) {
+        for individual in individuals.as_slice() {
+            push_individual(answer, individual);
+        }
+    }
+    Ok(())
 }

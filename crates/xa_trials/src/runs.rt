@@ -3,8 +3,8 @@ use crate::answer::Answer;
 use crate::no_answer::NoAnswer;
 use std::alloc::Global;
 
-/// Fields that are added one after another: equal ones in a row once, and behind them how many they
-/// are, as `*COUNT`.
+/// Fields that are added one after another. Equal ones in a row are added once, and behind them how many
+/// they are, as `*COUNT`.
 #[derive(Drop)]
 pub struct Runs {
     /// The bytes of the last field.
@@ -25,7 +25,15 @@ impl Runs {
         }
     }
 
-    /// Adds a field of these bytes, and behind it one that says so where a connection has ended with them.
+    /// Adds how many the last ones are, if they are several.
+    pub fn end(&mut self, answer: &mut Answer) {
+        if self.count > 1 {
+            answer.push_shown("*", &self.count);
+        }
+        self.count = 0;
+    }
+
+    /// Adds a field of these bytes. If a connection has ended with them, a further field says so.
     pub fn push(
         &mut self,
         answer: &mut Answer,
@@ -45,14 +53,6 @@ impl Runs {
         self.count = 1;
         Ok(())
     }
-
-    /// Adds how many the last ones are, if they are several.
-    pub fn end(&mut self, answer: &mut Answer) {
-        if self.count > 1 {
-            answer.push_shown("*", &self.count);
-        }
-        self.count = 0;
-    }
 }
 
 /// Adds that a connection has ended, if it has.
@@ -62,7 +62,7 @@ pub fn push_last(answer: &mut Answer, is_last: bool) {
     }
 }
 
-/// Adds the next answer of a front, and that its connection has ended with it; or that there is none.
+/// Adds the next answer of a front, and whether its connection has ended with it; or that there is none.
 pub fn push_answer(answer: &mut Answer, given: Option<&xa_server::Answer>) {
     match given {
         Some(given) => {

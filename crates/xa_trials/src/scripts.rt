@@ -11,14 +11,6 @@ use xa_value::Moment;
 /// The token of the operator.
 const OPERATOR_TOKEN: &str = "operator-token-1";
 
-/// A server over the keeper.
-pub fn server_over<R: Records + Drop>(
-    alloc: Global,
-    records: R,
-) -> Result<Server<R>, AllocFailed<R>> {
-    Server::new(alloc, records, Digest::of(OPERATOR_TOKEN.as_bytes()))
-}
-
 /// A script as far as it is read.
 #[derive(Drop)]
 pub struct ScriptReader {
@@ -57,6 +49,14 @@ impl ScriptReader {
         }
         Ok(())
     }
+}
+
+/// A server over the keeper.
+pub fn server_over<R: Records + Drop>(
+    alloc: Global,
+    records: R,
+) -> Result<Server<R>, AllocFailed<R>> {
+    Server::new(alloc, records, Digest::of(OPERATOR_TOKEN.as_bytes()))
 }
 
 /// The messages of the script, each with its moment.

@@ -1,8 +1,8 @@
-//! Rows of messages: what a server answers to a stream, on a connection of a front. An event is one of
-//! these. `moment:SECONDS` dates what follows, and `piece:BYTES` is the next piece of the stream. After
-//! `close:` the stream is another. After `restart:` the server is another, too, over the keeper that the one
-//! before gave back. `readings:`, `evaluations:` and `unkept:` ask how often the server has done that; after
-//! them the stream is another.
+//! Rows of messages: what a server answers to a stream, on a connection of a front. These are the events.
+//! `moment:SECONDS` dates what follows, and `piece:BYTES` is the next piece of the stream. After `close:` the
+//! stream is another. After `restart:` the server is another, too, over the keeper that the one before gave
+//! back. `readings:`, `evaluations:` and `unkept:` ask what the server has counted; after them the stream is
+//! another.
 use crate::answer::Answer;
 use crate::clock::moment_of;
 use crate::connections::lines::push_all;
@@ -17,7 +17,7 @@ use std::alloc::Global;
 use xa_server::{Conn, Front, Server};
 use xa_value::Moment;
 
-/// How many bytes are handed over at once.
+/// How many bytes are handed over at once: as many as a server reads at once (`xa_server`, `driving.rt`).
 const PIECE_BYTES: usize = 65_536;
 
 /// A server at a moment, with the connection whose messages it answers.
@@ -46,8 +46,8 @@ impl<R: Reopen + Drop> ServerTrial<R> {
         })
     }
 
-    /// Hands over bytes, unless the connection has ended, and adds the replies to all messages that
-    /// are whole then, and to a fault. Whether there were some.
+    /// Hands over bytes, unless the connection has ended. Adds the replies to all messages that are whole
+    /// then, and to a fault. Whether there were some.
     fn push_answers(
         &mut self,
         answer: &mut Answer,
@@ -137,7 +137,7 @@ impl<R: Reopen + Drop> ServerTrial<R> {
         ServerTrial::new(answer.alloc(), server, moment)
     }
 
-    /// Goes on behind the event of the field.
+    /// Runs the event of the field, and gives the trial that goes on behind it.
     fn trial_after(mut self, answer: &mut Answer, field: &str) -> Result<ServerTrial<R>, NoAnswer> {
         let (word, text) = word_and_text(field);
         match word {

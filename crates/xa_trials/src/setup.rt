@@ -1,8 +1,8 @@
-//! What stands in rows of a server before the first event, and the server that it makes: `made:BYTES`,
-//! messages that have to succeed and aren't answered, and what is set of the server.
-//! `views:COUNT` says for how many views it has room, where that isn't 128, and `room:BYTES` how many bytes
-//! the views that are kept may take. `reply:BYTES` limits the body of each response, and `reading:BYTES` the
-//! texts that are read for each message. `limit:UNITS` limits the work for each message of the events.
+//! What stands in rows of a server before the first event, and the server that it makes. `made:BYTES` are
+//! messages that have to succeed, and aren't answered. `views:COUNT` says how many views are cached at the
+//! most, if not 128, and `room:BYTES` how many bytes they may take. `reply:BYTES` limits the body of each
+//! response, and `reading:BYTES` the texts that are read for each message. `limit:UNITS` limits the work for
+//! each message of the events.
 use crate::answer::Answer;
 use crate::clock::moment_of;
 use crate::field::{number_of, word_and_text};
@@ -18,9 +18,9 @@ use xa_value::Moment;
 /// What is set of a server, and the messages that come to it before the first event.
 #[derive(Drop)]
 pub struct Setup {
-    /// For how many views it has room.
+    /// How many views are cached at the most.
     views: Option<usize>,
-    /// How many bytes the views that are kept may take.
+    /// How many bytes the cached views may take.
     room: Option<usize>,
     /// The limit of each response's body, in bytes.
     reply: Option<u64>,
@@ -30,12 +30,12 @@ pub struct Setup {
     limit: Option<u64>,
     /// The messages.
     made: ScriptReader,
-    /// Their moment, which is that of the first event too.
+    /// Their moment, which is also that of the first event.
     pub moment: Moment,
 }
 
 impl Setup {
-    /// Takes in what the field says, where that may stand before the first event. Whether it may.
+    /// Takes in what the field says, if that may stand before the first event. Whether it may.
     fn take(&mut self, alloc: Global, field: &str) -> Result<bool, NoAnswer> {
         let (word, text) = word_and_text(field);
         match word {
@@ -53,16 +53,16 @@ impl Setup {
     /// The server with all that is set of it before the messages.
     fn set<R: Records + Drop>(&self, mut server: Server<R>) -> Server<R> {
         if let Some(most) = self.views {
-            server = server.with_views(most);
+            server = server.with_max_views(most);
         }
         if let Some(bytes) = self.room {
-            server = server.with_room(bytes);
+            server = server.with_view_bytes(bytes);
         }
         if let Some(bytes) = self.reply {
             server = server.with_reply_limit(bytes);
         }
         if let Some(bytes) = self.reading {
-            server = server.with_reading(bytes);
+            server = server.with_reading_limit(bytes);
         }
         server
     }
@@ -93,7 +93,7 @@ pub fn setup_and_events<'a>(
     Ok((setup, fields.get(count..).unwrap_or(&[])))
 }
 
-/// Sends the messages. The first reply that is no success is the row's whole answer.
+/// Sends the messages. The first reply that is no success (RFC 9110, section 15.3) is the row's whole answer.
 fn make<R: Records + Drop>(
     answer: &mut Answer,
     server: &mut Server<R>,
@@ -110,7 +110,7 @@ fn make<R: Records + Drop>(
     Ok(())
 }
 
-/// A server over the keeper, as it is set up.
+/// A server over the keeper, which is set up so.
 pub fn server_made<R: Records + Drop>(
     answer: &mut Answer,
     records: R,
@@ -119,7 +119,7 @@ pub fn server_made<R: Records + Drop>(
     let mut server = setup.set(server_over(answer.alloc(), records)?);
     make(answer, &mut server, &setup.made.messages)?;
     match setup.limit {
-        Some(units) => Ok(server.with_limit(units)),
+        Some(units) => Ok(server.with_work_limit(units)),
         None => Ok(server),
     }
 }

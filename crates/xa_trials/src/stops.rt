@@ -1,7 +1,7 @@
-//! Rows of stops: a script of messages over tables in two files, of which one is frozen at another call
-//! in each run. A run ends with the first message that is refused, the one that the stop has struck. Then
-//! a crash is taken, the files are opened again, and the rest of the script is answered from what was
-//! left.
+//! Rows of stops: a script of messages over tables in two files. In each run one of the files is frozen at
+//! another call. The run ends with the first message that is refused, the one that the stop has struck.
+//! Then a crash is taken, the files are opened again, and the rest of the script is answered from what
+//! was left.
 pub(crate) mod resumption;
 pub(crate) mod run;
 pub(crate) mod script;
@@ -25,26 +25,6 @@ struct Stop {
     struck: usize,
 }
 
-/// Adds the bytes of a file, behind their number.
-fn push_file(all: &mut Vec<u8>, file: &File) -> Result<(), NoAnswer> {
-    let bytes = file.inner().bytes();
-    all.extend_from_slice(&bytes.len().to_le_bytes())?;
-    all.extend_from_slice(bytes)?;
-    Ok(())
-}
-
-/// Adds the bytes of both files, at both ends of a crash.
-fn push_files(
-    all: &mut Vec<u8>,
-    synced: &Files<File>,
-    written: &Files<File>,
-) -> Result<(), NoAnswer> {
-    push_file(all, &synced.log)?;
-    push_file(all, &synced.db)?;
-    push_file(all, &written.log)?;
-    push_file(all, &written.db)
-}
-
 /// A script that is run again and again, and what its stops have struck.
 #[derive(Drop)]
 struct Stopping {
@@ -57,8 +37,8 @@ struct Stopping {
 }
 
 impl Stopping {
-    /// Takes the files up behind the stop. That the rest of the script isn't answered as it has to be is
-    /// the row's whole answer.
+    /// Takes the files up behind the stop. If the rest of the script isn't answered rightly, that is the
+    /// row's whole answer.
     fn resume(&self, answer: &mut Answer, files: Files<File>, stop: Stop) -> Result<(), NoAnswer> {
         if is_resumed(answer.alloc(), files, &self.script, stop.struck)? {
             return Ok(());
@@ -67,7 +47,7 @@ impl Stopping {
         Err(NoAnswer::Answered)
     }
 
-    /// Takes up behind the stop what a crash has left at both of its ends.
+    /// Takes up, behind the stop, what a crash has left at both of its ends.
     fn resume_both(
         &self,
         answer: &mut Answer,
@@ -79,8 +59,8 @@ impl Stopping {
         self.resume(answer, written, stop)
     }
 
-    /// Takes a crash of the files, and takes up what it leaves at both of its ends. What a crash has left
-    /// the last time isn't asked again.
+    /// Takes a crash of the files, and takes up what it leaves at both of its ends. What the last crash has
+    /// left isn't taken up again.
     fn resume_after_crash(
         &mut self,
         answer: &mut Answer,
@@ -97,8 +77,8 @@ impl Stopping {
         self.resume_both(answer, synced, written, stop)
     }
 
-    /// Runs the script with the file frozen behind so many calls, and goes on after the stop. Whether one
-    /// has come.
+    /// Runs the script with the file frozen behind so many calls, and goes on after the stop. Whether a
+    /// stop has come.
     fn stop_behind(&mut self, answer: &mut Answer, calls: u64) -> Result<bool, NoAnswer> {
         let alloc = answer.alloc();
         let files = files_of(alloc, &self.script.files, self.frozen, calls)?;
@@ -137,9 +117,29 @@ impl Stopping {
     }
 }
 
-/// How many stops come where the file that the word names is frozen at each of its calls in turn, and
-/// which messages they strike. After each the rest of the script is answered as it has to be, and so is
-/// all of it where none comes.
+/// Adds the bytes of a file, behind their number.
+fn push_file(all: &mut Vec<u8>, file: &File) -> Result<(), NoAnswer> {
+    let bytes = file.inner().bytes();
+    all.extend_from_slice(&bytes.len().to_le_bytes())?;
+    all.extend_from_slice(bytes)?;
+    Ok(())
+}
+
+/// Adds the bytes of both files, at both ends of a crash.
+fn push_files(
+    all: &mut Vec<u8>,
+    synced: &Files<File>,
+    written: &Files<File>,
+) -> Result<(), NoAnswer> {
+    push_file(all, &synced.log)?;
+    push_file(all, &synced.db)?;
+    push_file(all, &written.log)?;
+    push_file(all, &written.db)
+}
+
+/// How many stops come if the file that the word names is frozen at each of its calls in turn, and which
+/// messages they strike. After each stop the rest of the script has to be answered rightly; if none comes,
+/// all of it.
 pub fn stops(answer: &mut Answer, word: &str, fields: &[&str]) -> Result<(), NoAnswer> {
     let frozen = file_named(word)?;
     let script = script_of(answer.alloc(), fields)?;

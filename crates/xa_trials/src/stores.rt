@@ -1,24 +1,24 @@
-//! Rows of stores that are opened as a keeper's. The first field behind the kind says how the store
-//! begins: `empty`, or `keeper`, with the tables of a keeper without domains. Statements of SQL
-//! follow, which are run. Then a crash is taken of its files, in memory, and what it leaves is
-//! opened at both of its ends, which have to be answered alike. The answer says whether the keeper
-//! is opened and the store has a keeper's tables and no others, and of a store that is refused
-//! whether it holds something else than before.
+//! Rows of stores that are opened as a keeper's. The first field behind the kind says how the store begins:
+//! `empty`, or `keeper`, with the tables of a keeper without domains. Statements of SQL follow, which are
+//! run. Then a crash is taken of its files, in memory. What it leaves is opened at both of its ends, which
+//! have to be answered alike. The answer says whether the keeper is opened, and whether the store has a
+//! keeper's tables and no others. Of a store that is refused it says whether it holds something else than
+//! before.
 use crate::answer::Answer;
 use crate::files::{File, Store, after_crash, connection_to, files_under, keeper_of, new_files};
-use crate::keepers::{opened_keeper, run_all};
+use crate::keepers::{open_keeper, run_all};
 use crate::no_answer::NoAnswer;
 use sqlite::{Connection, Files, Row};
 use std::alloc::Global;
 
 /// A connection to the store in the files.
-fn opened(alloc: Global, files: Files<File>) -> Result<Connection<Store>, NoAnswer> {
+fn connection_in(alloc: Global, files: Files<File>) -> Result<Connection<Store>, NoAnswer> {
     connection_to(alloc, files).ok().ok_or(NoAnswer::NotOpened)
 }
 
 /// A store in files, without tables.
 pub fn empty_store(alloc: Global) -> Result<Connection<Store>, NoAnswer> {
-    opened(alloc, new_files(alloc))
+    connection_in(alloc, new_files(alloc))
 }
 
 /// A store in files that begins as the word says.
@@ -38,7 +38,7 @@ fn rows_of(conn: &mut Connection<Store>, sql: &str) -> Result<Vec<Row>, NoAnswer
     conn.query_all(sql, &[]).ok().ok_or(NoAnswer::Malformed)
 }
 
-/// Adds the rows of a table, which has this row of the schema.
+/// Adds the rows of the table of this row of the schema.
 fn push_table(
     alloc: Global,
     conn: &mut Connection<Store>,
@@ -64,13 +64,13 @@ fn contents(alloc: Global, conn: &mut Connection<Store>) -> Result<String, NoAns
     Ok(held)
 }
 
-/// Opens the store in the files as a keeper's: whether it has a keeper's tables and no others; or
-/// why it isn't opened, and whether it holds something else then.
+/// Opens the store in the files as a keeper's. Adds whether it has a keeper's tables and no others; or why it
+/// isn't opened, and whether it then holds something else.
 fn judge(answer: &mut Answer, files: Files<File>) -> Result<(), NoAnswer> {
     let alloc = answer.alloc();
-    let mut conn = opened(alloc, files)?;
+    let mut conn = connection_in(alloc, files)?;
     let before = contents(alloc, &mut conn)?;
-    match opened_keeper(alloc, conn) {
+    match open_keeper(alloc, conn) {
         Ok(keeper) => {
             answer.push_word("opened");
             if keeper.is_ours() {
@@ -87,7 +87,7 @@ fn judge(answer: &mut Answer, files: Files<File>) -> Result<(), NoAnswer> {
     Ok(())
 }
 
-/// What opening the store answers after a crash: one that leaves what was synced alone, and one
+/// What opening the store answers after a crash: after one that leaves only what was synced, and after one
 /// that leaves all that was written, which has to be answered the same.
 pub fn opening(answer: &mut Answer, word: &str, statements: &[&str]) -> Result<(), NoAnswer> {
     let alloc = answer.alloc();

@@ -1,4 +1,4 @@
-//! Rows of a keeper that fails: a script of messages over keepers of which each fails at another call.
+//! Rows of a keeper that fails: a script of messages over keepers, each of which fails at another call.
 use crate::answer::Answer;
 use crate::calls::{CALLS, Call};
 use crate::failing_records::FailingRecords;
@@ -14,12 +14,12 @@ use xa_server::Server;
 use xa_store::SqlRecords;
 use xa_value::Moment;
 
-/// The reply to a message that is refused. It is written out here on purpose: so it is the bytes that are
-/// checked, and not the name that the server gives to its reply.
+/// The reply to a message that is refused: 503 (RFC 9110, section 15.6.4). It is written out here, so that
+/// the bytes are checked, and not the name that the server gives to its reply.
 const UNAVAILABLE: &str =
     "HTTP/1.1 503 Service Unavailable\r\nContent-Type: application/json\r\nContent-Length: 23\r\n\r\n{\"Error\":\"Unavailable\"}";
 
-/// A keeper that can be made anew for each run of a script.
+/// A keeper that is made anew for each run of a script.
 trait Begin: Records {
     /// A keeper without domains.
     fn begin(alloc: Global) -> Result<Self, NoAnswer>;
@@ -43,12 +43,12 @@ enum Verdict {
     Failed(Call),
     /// No call failed.
     AllMade,
-    /// A reply is another than it is to be, or the failures aren't counted.
+    /// A reply is wrong, or the failures aren't counted.
     Differs,
 }
 
-/// How many of the messages are refused by the server; nothing, where another reply isn't the one
-/// of a server to which those never came.
+/// How many of the messages the server refuses; none if another reply isn't that of a server to which
+/// the refused messages never came.
 fn refusals<R: Records, S: Records>(
     server: &mut Server<R>,
     spared: &mut Server<S>,
@@ -66,8 +66,8 @@ fn refusals<R: Records, S: Records>(
     Some(count)
 }
 
-/// What the messages show of a server over a keeper of which a call fails, beside one that is spared: as many
-/// messages are refused as calls have failed.
+/// What the messages show of a server over a keeper of which a call fails, beside one that is spared. As
+/// many messages have to be refused as calls have failed.
 fn verdict_of<R: Records + Drop>(
     mut server: Server<FailingRecords<R>>,
     spared: &mut Server<R>,
@@ -78,7 +78,7 @@ fn verdict_of<R: Records + Drop>(
     if count != Some(records.faults()) {
         return Verdict::Differs;
     }
-    match records.failed() {
+    match records.failed_call() {
         Some(call) => Verdict::Failed(call),
         None => Verdict::AllMade,
     }
@@ -110,19 +110,14 @@ fn run_once<R: Begin + Drop>(
 fn push_calls(answer: &mut Answer, failed: &[Call]) {
     answer.push_shown("calls ", &failed.len());
     for call in &CALLS {
-        let mut count = 0usize;
-        for other in failed {
-            if *other == *call {
-                count = count.saturating_add(1);
-            }
-        }
+        let count = failed.iter().filter(|other| **other == *call).count();
         answer.push_shown("", call);
         answer.append_shown(" ", &count);
     }
 }
 
-/// Runs the script again and again, each time with the next call failing, until none fails.
-fn each_in_turn<R: Begin + Drop>(
+/// Runs the script again and again. Each time the next call fails, until none does.
+fn fail_each_in_turn<R: Begin + Drop>(
     answer: &mut Answer,
     messages: &[(Moment, Message)],
 ) -> Result<(), NoAnswer> {
@@ -144,18 +139,21 @@ fn each_in_turn<R: Begin + Drop>(
     Ok(())
 }
 
-/// How many calls of the keeper the script makes, each of which failed in turn: over a keeper in
-/// memory, and over tables, to which the same has to come.
-fn each_over_both(answer: &mut Answer, messages: &[(Moment, Message)]) -> Result<(), NoAnswer> {
-    each_in_turn::<PlainRecords>(answer, messages)?;
+/// Adds how many calls of the keeper the script makes, each of which failed in turn: over a keeper in
+/// memory, and over tables, which have to come to the same.
+fn fail_each_over_both(
+    answer: &mut Answer,
+    messages: &[(Moment, Message)],
+) -> Result<(), NoAnswer> {
+    fail_each_in_turn::<PlainRecords>(answer, messages)?;
     let mut other = Answer::new(answer.alloc());
-    each_in_turn::<SqlRecords<MemStore>>(&mut other, messages)?;
+    fail_each_in_turn::<SqlRecords<MemStore>>(&mut other, messages)?;
     answer.compare(&other);
     Ok(())
 }
 
-/// The same, of the script of these events.
-pub fn tripped(answer: &mut Answer, events: &[&str]) -> Result<(), NoAnswer> {
+/// Adds how many calls the script of these events makes over a keeper, each of which failed in turn.
+pub fn run_tripped_row(answer: &mut Answer, events: &[&str]) -> Result<(), NoAnswer> {
     let messages = messages_of(answer.alloc(), events)?;
-    each_over_both(answer, &messages)
+    fail_each_over_both(answer, &messages)
 }

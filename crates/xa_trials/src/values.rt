@@ -66,7 +66,7 @@ pub fn order(answer: &mut Answer, left: &str, right: &str) -> Result<(), NoAnswe
     Ok(())
 }
 
-/// Adds a field of the duration, `!None` where there is none.
+/// Adds a field of the duration; `!None` if there is none.
 fn push_duration(answer: &mut Answer, duration: Option<Value>) {
     match duration {
         Some(duration) => answer.push_value(&duration),

@@ -1,9 +1,9 @@
-//! Rows in short. `\(WORD)` stands for the text that a row `define WORD TEXT` above gave;
-//! `\[COUNT,TEXT\]` for the text so often, and `\[FIRST-LAST,TEXT\]` for the text once with each
-//! of these numbers, in which `\#` stands for the number and `\-` for the one before.
-//! Repetitions may stand in one another: a number is that of the innermost that has numbers. All
-//! else stays as it is, with its backslash, two of these too: those escapes are read where the field
-//! is (`field.rt`), which repeats a text of its own, as `\{COUNT,TEXT\}`, and knows no numbers.
+//! Rows in short. `\(WORD)` stands for the text that a row `define WORD TEXT` above gave.
+//! `\[COUNT,TEXT\]` stands for the text so often, and `\[FIRST-LAST,TEXT\]` for the text once with each
+//! of these numbers, in which `\#` stands for the number and `\-` for the one before. Repetitions may
+//! stand in one another: a number is that of the innermost that has numbers. All other escapes stay as
+//! they are, two backslashes too. They are read with the field (`field.rt`), which repeats a text of its
+//! own, as `\{COUNT,TEXT\}`, and knows no numbers.
 use crate::escapes::Escapes;
 use crate::field::number_of;
 use crate::no_answer::NoAnswer;
@@ -33,6 +33,49 @@ pub struct Words {
     words: Vec<Word>,
 }
 
+impl Words {
+    /// No word is defined.
+    pub fn new(alloc: Global) -> Words {
+        Words {
+            alloc,
+            words: Vec::new(alloc),
+        }
+    }
+
+    /// The text for which the word stands.
+    fn text(&self, word: &str) -> Result<&str, NoAnswer> {
+        let found = self.words.iter().find(|other| other.word.as_str() == word);
+        Ok(found.ok_or(NoAnswer::Malformed)?.text.as_str())
+    }
+
+    /// Defines the word before the first tab by what stands behind it. A word is defined once.
+    pub fn define(&mut self, definition: &str) -> Result<(), NoAnswer> {
+        let (word, text) = definition.split_once('\t').unwrap_or((definition, ""));
+        if self.text(word).is_ok() {
+            return Err(NoAnswer::Malformed);
+        }
+        self.words.push(Word {
+            word: String::from_str(self.alloc, word)?,
+            text: String::from_str(self.alloc, text)?,
+        })?;
+        Ok(())
+    }
+
+    /// The row that the line stands for.
+    pub fn row(&self, line: &str) -> Result<String, NoAnswer> {
+        let mut row = Row {
+            alloc: self.alloc,
+            words: self,
+            text: Escapes::new(self.alloc),
+            repeated: Vec::new(self.alloc),
+        };
+        row.take(line)?;
+        String::from_utf8(row.text.into_bytes())
+            .ok()
+            .ok_or(NoAnswer::Malformed)
+    }
+}
+
 /// A repeated text: where it begins, and the numbers that it has, or only how often it stands there.
 #[derive(Clone, Copy)]
 struct Repeated {
@@ -59,80 +102,7 @@ struct Row<'a> {
     repeated: Vec<Repeated>,
 }
 
-impl Words {
-    /// No word.
-    pub fn new(alloc: Global) -> Words {
-        Words {
-            alloc,
-            words: Vec::new(alloc),
-        }
-    }
-
-    /// Defines the word that stands before the first tab by what stands behind it. A word is defined once.
-    pub fn define(&mut self, definition: &str) -> Result<(), NoAnswer> {
-        let (word, text) = definition.split_once('\t').unwrap_or((definition, ""));
-        if self.text(word).is_ok() {
-            return Err(NoAnswer::Malformed);
-        }
-        self.words.push(Word {
-            word: String::from_str(self.alloc, word)?,
-            text: String::from_str(self.alloc, text)?,
-        })?;
-        Ok(())
-    }
-
-    /// The text for which the word stands.
-    fn text(&self, word: &str) -> Result<&str, NoAnswer> {
-        for other in &self.words {
-            if other.word.as_str() == word {
-                return Ok(other.text.as_str());
-            }
-        }
-        Err(NoAnswer::Malformed)
-    }
-
-    /// The row that the line stands for.
-    pub fn row(&self, line: &str) -> Result<String, NoAnswer> {
-        let mut row = Row {
-            alloc: self.alloc,
-            words: self,
-            text: Escapes::new(self.alloc),
-            repeated: Vec::new(self.alloc),
-        };
-        row.take(line)?;
-        String::from_utf8(row.text.into_bytes())
-            .ok()
-            .ok_or(NoAnswer::Malformed)
-    }
-}
-
 impl Row<'_> {
-    /// Takes the line. Each repeated text has its end in it.
-    fn take(&mut self, line: &str) -> Result<(), NoAnswer> {
-        for part in line.split('\\') {
-            if let Some((letter, rest)) = self.text.take(part, b"\\\\")? {
-                self.escape(part, letter, rest)?;
-            }
-        }
-        if self.repeated.is_empty() {
-            Ok(())
-        } else {
-            Err(NoAnswer::Malformed)
-        }
-    }
-
-    /// Takes the letter of an escape and the bytes after it, which are that part.
-    fn escape(&mut self, part: &str, letter: u8, rest: &[u8]) -> Result<(), NoAnswer> {
-        match letter {
-            b'(' => self.put_word(part),
-            b'[' => self.begin(part),
-            b']' => self.end(rest),
-            b'#' => self.text.put_byte(NUMBER, rest),
-            b'-' => self.text.put_byte(NUMBER_BEFORE, rest),
-            _ => self.text.put_byte(b'\\', part.as_bytes()),
-        }
-    }
-
     /// Puts the text of a word, and what stands behind the word.
     fn put_word(&mut self, part: &str) -> Result<(), NoAnswer> {
         let (word, rest) = part.split_once(')').ok_or(NoAnswer::Malformed)?;
@@ -156,6 +126,21 @@ impl Row<'_> {
         self.text.put(rest.as_bytes())
     }
 
+    /// Puts the text with that number.
+    fn put_numbered(&mut self, text: &[u8], number: u64) -> Result<(), NoAnswer> {
+        let before = number.saturating_sub(1);
+        let before = format!(in self.alloc; "{before}")?;
+        let number = format!(in self.alloc; "{number}")?;
+        for byte in text {
+            match *byte {
+                NUMBER => self.text.put(number.as_bytes())?,
+                NUMBER_BEFORE => self.text.put(before.as_bytes())?,
+                other => self.text.put_byte(other, &[])?,
+            }
+        }
+        Ok(())
+    }
+
     /// Puts the text that ends here as often as it stands there, and the bytes behind it.
     fn end(&mut self, rest: &[u8]) -> Result<(), NoAnswer> {
         let repeated = self.repeated.pop().ok_or(NoAnswer::Malformed)?;
@@ -170,18 +155,29 @@ impl Row<'_> {
         self.text.put(rest)
     }
 
-    /// Puts the text with that number.
-    fn put_numbered(&mut self, text: &[u8], number: u64) -> Result<(), NoAnswer> {
-        let before = number.saturating_sub(1);
-        let before = format!(in self.alloc; "{before}")?;
-        let number = format!(in self.alloc; "{number}")?;
-        for byte in text {
-            match *byte {
-                NUMBER => self.text.put(number.as_bytes())?,
-                NUMBER_BEFORE => self.text.put(before.as_bytes())?,
-                other => self.text.put_byte(other, &[])?,
+    /// Takes the letter of an escape and the bytes after it, which are that part.
+    fn escape(&mut self, part: &str, letter: u8, rest: &[u8]) -> Result<(), NoAnswer> {
+        match letter {
+            b'(' => self.put_word(part),
+            b'[' => self.begin(part),
+            b']' => self.end(rest),
+            b'#' => self.text.put_byte(NUMBER, rest),
+            b'-' => self.text.put_byte(NUMBER_BEFORE, rest),
+            _ => self.text.put_byte(b'\\', part.as_bytes()),
+        }
+    }
+
+    /// Takes the line, in which each repeated text has to end.
+    fn take(&mut self, line: &str) -> Result<(), NoAnswer> {
+        for part in line.split('\\') {
+            if let Some((letter, rest)) = self.text.take(part, b"\\\\")? {
+                self.escape(part, letter, rest)?;
             }
         }
-        Ok(())
+        if self.repeated.is_empty() {
+            Ok(())
+        } else {
+            Err(NoAnswer::Malformed)
+        }
     }
 }

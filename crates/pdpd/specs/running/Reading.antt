@@ -8,7 +8,7 @@ use Rattle.pdpd.specs.declared.replay.transcript.EntryFault.TheVariants.{Malform
 use Rattle.pdpd.specs.declared.replay.transcript.Transcript.{Transcript}
 use Rattle.pdpd.specs.Transcript.{IsBody, IsHeading, IsLine}
 
--- what is left of a transcript: what its buffer holds, and then what its reader has left, where that is known
+-- what is left of a transcript: what its buffer holds, and then what its reader has left, if that is known
 abbrev pub remaining_of : {R : Type 0} → (R → Option (List ℕ)) → Transcript R → Option (List ℕ)
 remaining_of remaining transcript = prepend_known transcript.buffer (remaining transcript.reader)
 

@@ -64,7 +64,7 @@ answers_behind _ = None
 
 -- ---- what a stream holds, answered as far as that
 
--- where the messages were cut off, the stream stands still, or it has ended by the fault
+-- once the messages were cut off, the stream stands still, or it has ended by the fault
 abbrev pub LeavesOff : Option SessionFault → Stream → Stream → Type 0
 LeavesOff None last after = after ≡ last
 LeavesOff (Some fault) last after = IsNext last (next.Fault fault) after
@@ -135,7 +135,7 @@ ArePieceAndAnswers (Held (Ok _) ∷ outcomes) = All IsAnswer outcomes
 ArePieceAndAnswers (Held (Err error) ∷ outcomes) = error ≡ Memory
 ArePieceAndAnswers _ = ⊥
 
--- where a session goes on, a piece of 65,536 bytes finds room
+-- if a session goes on, a piece of 65,536 bytes finds room
 abbrev pub HasRoom : Option Stream → Type 0
 HasRoom None = ⊤
 HasRoom (Some stream) = stream.ended ≡ false → length stream.held + 65_536 ≤ 1_048_576

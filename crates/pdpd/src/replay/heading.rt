@@ -6,10 +6,10 @@ ghost use Rattle.pdpd.specs.Heading.{heading_of, heading_of_three, moment_of, pa
 use thiserror::Error;
 use xa_value::{Moment, number_up_to};
 
-/// How many connections a transcript may hold at once: as many as a front.
+/// How many connections a transcript has: all those of a front, the 64 of `xa_server` (`lines.rt`).
 pub const CONNECTIONS: usize = 64;
 
-/// The most bytes of an entry, which are held whole while it is answered.
+/// The most bytes of an entry. They are held whole while it is answered.
 pub const MAX_ENTRY_BYTES: usize = 1_048_576;
 
 /// What stands in the line before an entry.
@@ -47,7 +47,7 @@ fn seconds(digits: &[u8]) -> Option<i64>
     i64::try_from(number_up_to(usize::MAX, digits)?).ok()
 }
 
-/// The moment that plain digits write, after a `-` where it lies before 1970.
+/// The moment that plain digits write, after a `-` if it lies before 1970.
 #[tactic(auto, unfolding(crate::specs::Heading::moment_of))]
 fn moment_of(text: &[u8]) -> Option<Moment>
     ensures { result ≡ moment_of text.now }

@@ -7,7 +7,7 @@ use std::alloc::{AllocError, Global};
 use std::io::{self, Read};
 use std::marker::Model;
 
-/// How many bytes are read at once: so many that the calls of the system cost little beside them.
+/// How many bytes are read at once: so many that the system's calls cost little beside them.
 const BUFFER_BYTES: usize = 65_536;
 
 /// A read buffer: what it holds is taken from its front.
@@ -50,7 +50,7 @@ impl ReadBuffer {
         self.start == self.end
     }
 
-    /// Reads once, in place of what is there.
+    /// Reads once, in place of what it held.
     pub fn fill<R: Read>(&mut self, reader: &mut R) -> io::Result<()>
         ensures read { OnOk result (Consumes (R.remaining reader.old) (R.remaining reader.new) self.new) }
         ensures end { OnOk result (self.new ≡ [] → IsAtEnd (R.remaining reader.new)) }

@@ -28,7 +28,7 @@ pub enum Progress {
 }
 
 impl Progress {
-    /// What becomes of a connection after an answer, the last of its session or another.
+    /// What becomes of a connection after an answer, which is the last of its session or isn't.
     fn after_answer(last: bool) -> Progress
         ensures { result ≡ after_answer last }
     {
@@ -50,8 +50,8 @@ impl Progress {
     }
 }
 
-/// How the program ends where a call on a connection was refused: there was no memory for it.
-fn exit_of_want(error: FrontError) -> Exit
+/// How the program ends if a call on a connection was refused: for want of memory.
+fn exit_of_refusal(error: FrontError) -> Exit
     requires { error ≡ front.Memory }
     ensures { result ≡ Memory }
 {
@@ -61,7 +61,7 @@ fn exit_of_want(error: FrontError) -> Exit
     }
 }
 
-/// The outcomes behind that of a piece, where there was memory for it.
+/// The outcomes behind that of a piece, if there was memory for the piece.
 pub fn answers_behind(outcomes: &[Outcome]) -> Result<&[Outcome], Exit>
     requires { ArePieceAndAnswers outcomes.now }
     ensures behind { MatchResult result
@@ -76,7 +76,7 @@ pub fn answers_behind(outcomes: &[Outcome]) -> Result<&[Outcome], Exit>
     };
     match held {
         Ok(()) => Ok(answers),
-        Err(error) => Err(exit_of_want(*error)),
+        Err(error) => Err(exit_of_refusal(*error)),
     }
 }
 
@@ -104,7 +104,7 @@ fn write_outcome<W: Write>(
             Ok(Progress::after_answer(answer.last))
         }
         Ok(None) => Ok(before.after_none()),
-        Err(error) => Err(exit_of_want(*error)),
+        Err(error) => Err(exit_of_refusal(*error)),
     }
 }
 

@@ -16,14 +16,14 @@ use crate::replay::transcript_fault::TranscriptFault;
 use std::alloc::{AllocError, AllocFailed, Global};
 use std::io::{self, ErrorKind, Read};
 
-/// The most bytes of an entry's line, without its line feed: a heading has at most 23, but for leading zeros.
+/// The most bytes of an entry's line, without its line feed. A heading without leading zeros has at most 23.
 const MAX_LINE_BYTES: usize = 64;
 
 /// How often a transcript is read from, in all: some minutes of single bytes or of interrupted
 /// reads. One read more counts as a failed read.
 const MAX_READS: u64 = 1_000_000_000;
 
-/// Why the next entry isn't read.
+/// Why the next entry can't be read.
 #[derive(Clone, Copy)]
 pub enum EntryFault {
     /// The next entry is malformed or cut.
@@ -44,6 +44,41 @@ impl EntryFault {
             EntryFault::Malformed(fault) => Exit::Malformed { entry, fault },
             EntryFault::Failed => Exit::Failed,
             EntryFault::Memory => Exit::Memory,
+        }
+    }
+}
+
+impl From<AllocError> for EntryFault {
+    ghost use Rattle.std.specs.Prelude.{◌≡◌};
+    ghost use Rattle.pdpd.specs.declared.replay.transcript.EntryFault.TheVariants.{Memory};
+
+    ghost from_gives = { λ _ fault. fault ≡ Memory };
+
+    fn from(_: AllocError) -> EntryFault {
+        EntryFault::Memory
+    }
+}
+
+impl<T: Drop> From<AllocFailed<T>> for EntryFault {
+    ghost use Rattle.std.specs.Prelude.{◌≡◌};
+    ghost use Rattle.pdpd.specs.declared.replay.transcript.EntryFault.TheVariants.{Memory};
+
+    ghost from_gives = { λ _ fault. fault ≡ Memory };
+
+    fn from(_: AllocFailed<T>) -> EntryFault {
+        EntryFault::Memory
+    }
+}
+
+impl From<io::Error> for EntryFault {
+    ghost use Rattle.pdpd.specs.running.Reading.{IsOfReader};
+
+    ghost from_gives = { λ _ fault. IsOfReader fault };
+
+    fn from(error: io::Error) -> EntryFault {
+        match error.kind() {
+            ErrorKind::OutOfMemory => EntryFault::Memory,
+            _ => EntryFault::Failed,
         }
     }
 }
@@ -75,8 +110,8 @@ impl<R: Read> Transcript<R> {
         })
     }
 
-    /// Reads on, where all that was read is taken. Afterwards the buffer is empty only at the
-    /// transcript's end. Each read is counted, also one that is interrupted.
+    /// Reads on, if all that was read is taken. Afterwards the buffer is empty only at the transcript's end.
+    /// Each read is counted, also one that is interrupted.
     fn read_on(&mut self) -> Result<(), EntryFault>
         ensures keeps { OnOk result
             (Keeps (remaining_of R.remaining self.old) (remaining_of R.remaining self.new)) }
@@ -110,7 +145,7 @@ impl<R: Read> Transcript<R> {
         Ok(self.buffer.take_first())
     }
 
-    /// Moves at most `most` bytes of the transcript to the end of `bytes`, if it goes on. Whether it does.
+    /// Moves at most `most` bytes of the transcript to the end of `bytes`. Whether the transcript went on.
     fn append_to(&mut self, bytes: &mut Vec<u8>, most: usize) -> Result<bool, EntryFault>
         ensures added { IfOk result
             (Adds most (remaining_of R.remaining self.old) (remaining_of R.remaining self.new)
@@ -180,6 +215,7 @@ impl<R: Read> Transcript<R> {
             (Rejects (IsNoBody count) left rest) result }
     {
         self.take(count, bytes)?;
+        // The last two arms give the same, but are proved apart.
         match self.next_byte()? {
             Some(b'\n') => Ok(()),
             Some(_) => Err(EntryFault::Malformed(TranscriptFault::NoLineFeed)),
@@ -198,40 +234,5 @@ impl<R: Read> Transcript<R> {
         };
         self.body(heading.count, bytes)?;
         Ok(Some(heading))
-    }
-}
-
-impl From<AllocError> for EntryFault {
-    ghost use Rattle.std.specs.Prelude.{◌≡◌};
-    ghost use Rattle.pdpd.specs.declared.replay.transcript.EntryFault.TheVariants.{Memory};
-
-    ghost from_gives = { λ _ fault. fault ≡ Memory };
-
-    fn from(_: AllocError) -> EntryFault {
-        EntryFault::Memory
-    }
-}
-
-impl<T: Drop> From<AllocFailed<T>> for EntryFault {
-    ghost use Rattle.std.specs.Prelude.{◌≡◌};
-    ghost use Rattle.pdpd.specs.declared.replay.transcript.EntryFault.TheVariants.{Memory};
-
-    ghost from_gives = { λ _ fault. fault ≡ Memory };
-
-    fn from(_: AllocFailed<T>) -> EntryFault {
-        EntryFault::Memory
-    }
-}
-
-impl From<io::Error> for EntryFault {
-    ghost use Rattle.pdpd.specs.running.Reading.{IsOfReader};
-
-    ghost from_gives = { λ _ fault. IsOfReader fault };
-
-    fn from(error: io::Error) -> EntryFault {
-        match error.kind() {
-            ErrorKind::OutOfMemory => EntryFault::Memory,
-            _ => EntryFault::Failed,
-        }
     }
 }

@@ -13,13 +13,13 @@ use std::alloc::Global;
 use xa_records::Records;
 use xa_server::{Conn, Front};
 
-/// One of the connections of a transcript: each is open from the beginning on, and where it is
-/// closed another begins in its place.
+/// One of the connections of a transcript. Each is open from the beginning on; if it is closed,
+/// another begins in its place.
 #[derive(Clone, Copy)]
 pub struct TranscriptConnection {
     /// The connection of the front: it has the same number.
     pub conn: Conn,
-    /// Whether its session has ended. Its further entries are passed over then, until it is closed.
+    /// Whether its session has ended. Then its further entries are passed over until it is closed.
     pub has_ended: bool,
 }
 
@@ -53,7 +53,7 @@ pub fn finish<R: Records>(front: &mut Front<R>, conn: Conn)
     };
 }
 
-/// Opens all connections, in the order of their numbers, where none is open.
+/// Opens all connections, in the order of their numbers. None is open before.
 #[tactic(auto, using(crate::proofs::ConnectionLemmas::none_begun, crate::proofs::ConnectionLemmas::free_to, crate::proofs::ConnectionLemmas::one_more_begun, crate::proofs::ConnectionLemmas::all_begun))]
 pub fn open_all<R: Records>(
     alloc: Global,

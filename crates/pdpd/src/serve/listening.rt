@@ -10,15 +10,15 @@ use std::rt::HostRuntime;
 use std::thread;
 use std::time::Duration;
 
-/// How often in a row a connection may fail as it is taken: a peer that closed it first doesn't end
-/// the program.
+/// How often in a row taking a connection may fail. Peers that close first end the program only if so
+/// many do in a row.
 const MAX_FAILURES: u32 = 1_000;
 
-/// How many milliseconds pass before a connection for which there was no room is taken again: 1,000
-/// of them are ten seconds.
+/// How many milliseconds pass after a failure for want of room: 1,000 such failures in a row take ten
+/// seconds.
 const PAUSE_MILLISECONDS: u64 = 10;
 
-// The system's numbers of failures at which the next connection may still be taken, as Linux has them.
+// Linux's numbers of the failures after which the next connection may be taken (errno(3), accept(2)).
 
 /// The kernel has no memory for it.
 const ENOMEM: u32 = 12;
@@ -47,19 +47,19 @@ const ENOBUFS: u32 = 105;
 /// The peer's host is down.
 const EHOSTDOWN: u32 = 112;
 
-/// Where connections are taken.
+/// A listener, and what is set of each connection that it takes.
 #[derive(Drop)]
 pub struct Listening {
-    /// The runtime, which waits where there is no room for a connection.
+    /// The runtime, which waits if there is no room for a connection.
     rt: HostRuntime,
     /// The socket at which connections come.
     listener: TcpListener,
-    /// For how many seconds each may give nothing, or take nothing; 0 for ever.
+    /// For how many seconds each connection may give nothing, or take nothing; 0 for ever.
     idle: usize,
 }
 
 impl Listening {
-    /// Where that listener takes connections, each of which may be idle for so many seconds; 0 for ever.
+    /// Takes connections by that listener. Each may be idle for so many seconds; 0 for ever.
     pub fn new(rt: &HostRuntime, listener: TcpListener, idle: usize) -> Listening {
         Listening {
             rt: *rt,
@@ -68,7 +68,7 @@ impl Listening {
         }
     }
 
-    /// The next connection, prepared.
+    /// Takes the next connection, and prepares it.
     pub fn next_connection(&self) -> Result<TcpStream, Fault>
         ensures { IfErr result (λ fault. fault ≡ Connection) }
     {
@@ -85,8 +85,8 @@ impl Listening {
     }
 }
 
-/// Whether the next connection may be taken after a failure of that kind: it was the peer's or the
-/// network's, not the listener's.
+/// Whether the next connection may be taken after a failure of that kind. It was the peer's or the
+/// network's, not the listener's (accept(2)).
 fn is_passing(kind: ErrorKind) -> bool
     ensures { result ≡ is_passing kind }
 {
@@ -102,7 +102,7 @@ fn is_passing(kind: ErrorKind) -> bool
     )
 }
 
-/// Whether a failure of that number, which has no kind of its own, was the network's.
+/// Whether a failure of that number was the network's. These have no kind of their own.
 fn is_of_network(number: u32) -> bool
     ensures { result ≡ is_of_network number }
 {
@@ -112,14 +112,14 @@ fn is_of_network(number: u32) -> bool
     )
 }
 
-/// Whether by a failure of that number there was no room for a connection.
+/// Whether a failure of that number says that there was no room for a connection.
 fn is_want_of_room(number: u32) -> bool
     ensures { result ≡ is_want_of_room number }
 {
     matches!(number, EMFILE | ENFILE | ENOMEM | ENOBUFS)
 }
 
-/// The system's number of a failure; 0 where it has none.
+/// The system's number of a failure; 0 if it has none.
 fn number_of(error: &io::Error) -> u32 {
     error.raw_os_error().unwrap_or(0).unsigned_abs()
 }
@@ -139,16 +139,17 @@ fn pass_over(rt: &HostRuntime, kind: ErrorKind, number: u32) -> Result<(), Fault
     Err(Fault::Connection)
 }
 
-/// Lets replies go out at once, and sets how long a connection may give nothing, or take nothing,
-/// in seconds; 0 for ever. Such a read or write fails.
+/// Lets replies go out at once, without Nagle's algorithm (RFC 9293, section 3.7.4). Sets for how many
+/// seconds a connection may give nothing, or take nothing; 0 for ever. A read or write that waits longer
+/// fails.
 fn prepare(stream: &TcpStream, idle: usize) {
-    // A reply that waits for the peer's acknowledgement comes later, and is no other.
+    // If this fails, replies may wait for the peer's acknowledgements: they come later, and are no others.
     let _ = stream.set_nodelay(true);
     if idle == 0 {
         return;
     }
     let wait = Duration::from_secs(idle as u64);
-    // These fail only at a wait of no time, or of a stream that is gone, where the next read fails.
+    // These fail only at a wait of no time, or at a stream that is gone: then the next read fails.
     let _ = stream.set_read_timeout(Some(wait));
     let _ = stream.set_write_timeout(Some(wait));
 }

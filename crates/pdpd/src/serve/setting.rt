@@ -7,23 +7,23 @@ use crate::fault::Fault;
 use std::env::{self, VarError};
 use xa_value::number_up_to;
 
-/// The limit of work for one message where PDPD_WORK isn't set: some 0.3 seconds, in which everybody else
+/// The limit of work for one message if PDPD_WORK isn't set: some 0.3 seconds, in which everybody else
 /// waits. The dearest honest ask measured takes 3,500,000.
 const DEFAULT_WORK: usize = 150_000_000;
 
-/// How many bytes the body of a response may have where PDPD_REPLY isn't set: 16 MiB. The limit of work
-/// leaves room for hundreds of megabytes.
+/// How many bytes the body of a response may have if PDPD_REPLY isn't set: 16 MiB. The limit of work
+/// alone leaves room for hundreds of megabytes.
 const DEFAULT_REPLY: usize = 16_777_216;
 
-/// How many bytes of policies may be read for one message where PDPD_READING isn't set: to read them takes
+/// How many bytes of policies may be read for one message if PDPD_READING isn't set. To read them takes
 /// some 0.3 seconds, too.
 const DEFAULT_READING: usize = 16_000_000;
 
-/// How many bytes of memory the domains' ready views may take where PDPD_VIEWS isn't set: 256 MiB. A domain
+/// How many bytes of memory cached views may take if PDPD_VIEWS isn't set: 256 MiB. The view of a domain
 /// with as many bytes of policies as may be read takes some half of it, at 8 bytes for each.
 const DEFAULT_VIEWS: usize = 268_435_456;
 
-/// For how many seconds a connection may give nothing, or take nothing, where PDPD_IDLE isn't set: one is
+/// For how many seconds a connection may give nothing, or take nothing, if PDPD_IDLE isn't set. One is
 /// served at a time, so a silent one would stop everybody.
 const DEFAULT_IDLE: usize = 30;
 
@@ -36,7 +36,7 @@ pub enum Setting {
     Reply,
     /// How many bytes of policies may be read for one message; 0 for any number.
     Reading,
-    /// How many bytes of memory the domains' ready views may take; by 0 none is kept.
+    /// How many bytes of memory cached views of domains may take; with 0 none is cached.
     Views,
     /// For how many seconds a connection may give nothing, or take nothing; 0 for ever.
     Idle,
@@ -54,7 +54,7 @@ impl Setting {
         }
     }
 
-    /// What to do where its variable is set to no number.
+    /// What to do if its variable is set to no number.
     pub fn advice(self) -> &'static str {
         match self {
             Setting::Work => "PDPD_WORK is to be a number of units of work, or 0 for no limit",
@@ -67,7 +67,7 @@ impl Setting {
         }
     }
 
-    /// What it is where its variable isn't set.
+    /// What it is if its variable isn't set.
     fn default_value(self) -> usize
         ensures { result ≡ default_of self }
     {
@@ -80,7 +80,7 @@ impl Setting {
         }
     }
 
-    /// What it is, by what its variable is set to, if it is; none exactly where that is no number.
+    /// What it is, by the text to which its variable is set, if it is. None exactly if that is no number.
     fn value_of(self, set: Option<&str>) -> Option<usize>
         ensures { result ≡ value_of self (option_map (λ text. text.now) set.entry) }
     {

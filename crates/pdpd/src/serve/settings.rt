@@ -1,7 +1,7 @@
-//! What an operator has set of a server, and the front of one that is so.
+//! What an operator has set of a server, and the front of such a server.
 ghost use Rattle.std.specs.Prelude.{◌≡◌, IfErr, IfOk};
 ghost use Rattle.xa_server.specs.Lines.{none_open};
-ghost use Rattle.xa_server.specs.Tally.{nothing_held};
+ghost use Rattle.xa_server.specs.Tally.{nothing_cached};
 ghost use Rattle.pdpd.specs.declared.fault.Fault.TheVariants.{Memory};
 ghost use Rattle.pdpd.specs.running.Serving.{IsOfSettings};
 
@@ -13,7 +13,7 @@ use xa_records::{Digest, Records};
 use xa_server::{Front, Server};
 use xa_store::SqlRecords;
 
-/// What an operator has set of the limits of a message, each 0 for none, of the room for views, and of how
+/// What an operator has set: the limits of a message, each 0 for none; the room for cached views; and how
 /// long a connection is waited for.
 #[derive(Clone, Copy)]
 pub struct Settings {
@@ -23,7 +23,7 @@ pub struct Settings {
     pub reply: usize,
     /// The bytes of policies that may be read.
     pub reading: usize,
-    /// The bytes of memory that the domains' ready views may take; by 0 none is kept.
+    /// The bytes of memory that cached views of domains may take; with 0 none is cached.
     pub views: usize,
     /// For how many seconds a connection may give nothing, or take nothing; 0 for ever.
     pub idle: usize,
@@ -52,8 +52,7 @@ fn limit_of(set: usize) -> u64 {
     }
 }
 
-/// A server over the keeper, for that operator and by these settings, and its connections, none of
-/// which is open.
+/// The front of a server over the keeper, for that operator and by these settings. No connection is open.
 fn front_over<R: Records + Drop>(
     alloc: Global,
     records: R,
@@ -62,21 +61,21 @@ fn front_over<R: Records + Drop>(
 ) -> Result<Front<R>, Fault>
     ensures operator { IfOk result (λ front. front.server.operator ≡ operator) }
     ensures records { IfOk result (λ front. front.server.records ≡ records) }
-    ensures tally { IfOk result (λ front. front.server.tally ≡ nothing_held) }
+    ensures tally { IfOk result (λ front. front.server.tally ≡ nothing_cached) }
     ensures closed { IfOk result (λ front. front.lines ≡ none_open) }
     ensures err { IfErr result (λ fault. fault ≡ Memory) }
 {
     let server = Server::new(alloc, records, operator)?;
     let server = server
-        .with_limit(limit_of(settings.work))
+        .with_work_limit(limit_of(settings.work))
         .with_reply_limit(limit_of(settings.reply))
-        .with_reading(limit_of(settings.reading))
-        .with_room(settings.views);
+        .with_reading_limit(limit_of(settings.reading))
+        .with_view_bytes(settings.views);
     Ok(Front::new(alloc, server)?)
 }
 
-/// The same over a keeper of tables in any store. That such a keeper is what a server asks for is proved
-/// here once: where the store is known, that proof is long.
+/// The same over a keeper of tables in any store. That a server may be over such a keeper is proved here,
+/// of every store at once: of a certain store that proof is long.
 pub fn front_of_tables<S: Alter + Drop>(
     alloc: Global,
     records: SqlRecords<S>,
@@ -84,7 +83,7 @@ pub fn front_of_tables<S: Alter + Drop>(
     settings: Settings,
 ) -> Result<Front<SqlRecords<S>>, Fault>
     ensures operator { IfOk result (λ front. front.server.operator ≡ operator) }
-    ensures tally { IfOk result (λ front. front.server.tally ≡ nothing_held) }
+    ensures tally { IfOk result (λ front. front.server.tally ≡ nothing_cached) }
     ensures closed { IfOk result (λ front. front.lines ≡ none_open) }
     ensures err { IfErr result (λ fault. fault ≡ Memory) }
 {

@@ -6,34 +6,36 @@ use std::alloc::{AllocError, Global};
 use std::fs;
 use std::io::{self, Read};
 
-/// The length of a log from which on it has room for a commit: its header, and the head of a page.
+/// A shorter log has no room for a commit: 32 bytes of its header and 24 of a frame's (SQLite's file
+/// format, 4.1).
 const LEAST_LOG_BYTES: u64 = 56;
 
-/// The length of a file up to which it has no room for tables: one page.
+/// A file of up to this length has no room for tables if its pages have 4,096 bytes, as this program makes
+/// them: it is one page. A foreign file of smaller pages may have tables, and is told falsely that it hasn't.
 const MOST_BLANK_BYTES: u64 = 4_096;
 
-/// Where in a file's head its write version stands.
+/// Where in a file's head its write version stands (SQLite's file format, 1.3).
 const WRITE_VERSION_AT: usize = 18;
 
-/// How many bytes of a file's head are read: the first 16 say that it is SQLite's, and the last is its
+/// How many bytes of a file's head are read. The first 16 say that it is SQLite's, and the last is its
 /// write version.
 const HEAD_BYTES: u64 = 19;
 
-/// What is there of a store.
+/// Which halves of a store are there.
 #[derive(Clone, Copy, Debug, PartialEq, Eq)]
 pub enum Halves {
-    /// Both, or neither, or a file that needs no log.
+    /// Both halves, or neither, or a file that needs no log.
     Whole,
     /// The log, which may hold commits, and no file, or an empty one.
     LogAlone,
-    /// A file without any table, and not the log in which its first commits were.
+    /// A file without tables, and without the log that has its first commits.
     FileAlone,
-    /// A file with tables, and no log: it is whole if it was closed, and old if it wasn't.
+    /// A file with tables, and no log. It is whole if it was closed, else it lacks the last changes.
     NoLog,
 }
 
-/// What is there of a store, by the length of its file, 0 where there is none, by that of its log,
-/// and by whether it has its commits in a log first.
+/// Which halves of a store are there: by the length of its file, 0 if there is none; by the length of
+/// its log; and by whether its commits are in a log first.
 fn halves_of(file: u64, log: Option<u64>, is_logged: bool) -> Halves
     ensures { result ≡ halves_of file log is_logged }
 {
@@ -61,8 +63,8 @@ fn head_at(rt: &HostRuntime, path: &str) -> io::Result<Vec<u8>> {
     Ok(head)
 }
 
-/// Whether a file that begins so is one of SQLite whose commits are in a log first: its write
-/// version is 2 (SQLite's file format, 1.3).
+/// Whether a file with that head is one of SQLite whose commits are in a log first: its write version
+/// is 2 (SQLite's file format, 1.3).
 fn is_logged(head: &[u8]) -> bool {
     head.starts_with(b"SQLite format 3\0") && head.get(WRITE_VERSION_AT) == Some(&2)
 }
@@ -75,11 +77,12 @@ fn is_logged_at(rt: &HostRuntime, path: &str) -> bool {
     }
 }
 
-/// What is there of the store at the path. Where a link stands there, its halves are where that leads.
+/// Which halves of the store at the path are there. If the path is a link, they are its target and the
+/// log beside that.
 pub fn halves_at(rt: &HostRuntime, path: &str) -> Result<Halves, AllocError> {
-    let led = fs::canonicalize(rt, path);
-    let path = match &led {
-        Ok(led) => led.as_str(),
+    let target = fs::canonicalize(rt, path);
+    let path = match &target {
+        Ok(target) => target.as_str(),
         Err(_) => path,
     };
     let log = format!(in rt.alloc(); "{path}-wal")?;

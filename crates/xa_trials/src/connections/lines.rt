@@ -8,7 +8,7 @@ use xa_records::Records;
 use xa_server::{Conn, Front};
 use xa_value::Moment;
 
-/// How many connections there are.
+/// How many connections there are: all those of a front, the 64 of `xa_server` (`lines.rt`).
 const CONNECTIONS: usize = 64;
 
 /// A connection, what waits for it, how many of these bytes are handed over, and what was answered to them.
@@ -46,7 +46,7 @@ impl Output {
     }
 }
 
-/// Adds all connections of the front, by their numbers. None is open then.
+/// Adds all connections of the front, by their numbers. None is open afterwards.
 pub fn add_lines<R: Records + Drop>(
     alloc: Global,
     front: &mut Front<R>,
@@ -66,8 +66,8 @@ pub fn add_lines<R: Records + Drop>(
     Ok(())
 }
 
-/// Asks for all answers that there are, and adds them. Whether the connection has ended with the last, if
-/// there were some.
+/// Asks for all answers that there are, and adds them. If there were some, whether the connection has ended
+/// with the last.
 pub fn push_all<R: Records + Drop>(
     front: &mut Front<R>,
     conn: Conn,
@@ -104,9 +104,9 @@ pub fn answer_all<R: Records + Drop>(
     Ok(())
 }
 
-/// Hands over the next bytes of those that wait for a connection, so many at most, and asks for all
-/// answers. Whether there were some.
-pub fn turn<R: Records + Drop>(
+/// Hands over the next of the bytes that wait for a connection, so many at most, and asks for all answers.
+/// Whether there were such bytes.
+pub fn take_turn<R: Records + Drop>(
     front: &mut Front<R>,
     line: &mut Line,
     moment: Moment,

@@ -25,7 +25,7 @@ fn push_done(answer: &mut Answer, done: Result<(), ChangeError>) {
     }
 }
 
-/// Makes the domain, where the name is one.
+/// Makes the domain, if the name is one.
 pub fn create<R: Records>(
     answer: &mut Answer,
     records: &mut R,
@@ -52,7 +52,7 @@ fn role_named(word: &str) -> Result<Role, NoAnswer> {
     }
 }
 
-/// Puts in the token of a text ROLE TOKEN.
+/// Puts in the token. The text is its role and the token, as `ROLE TOKEN`.
 pub fn put_token<R: Records>(
     answer: &mut Answer,
     records: &mut R,

@@ -9,7 +9,7 @@ use crate::references::{key_in, push_key};
 use xa_notation::Role;
 use xa_records::{Digest, Failure, Records, Token};
 
-/// What a reading found; its failure, or that there is nothing, is answered.
+/// What a reading found. If it failed, or found nothing, that is answered.
 fn finding_of<T: Drop>(answer: &mut Answer, read: Result<Option<T>, Failure>) -> Option<T> {
     match read {
         Ok(Some(found)) => return Some(found),
@@ -33,15 +33,11 @@ pub fn domains<R: Records>(answer: &mut Answer, records: &mut R) {
 
 /// The role of the token of that digest.
 fn role_of(tokens: &[Token], digest: Digest) -> Option<Role> {
-    for token in tokens {
-        if token.digest == digest {
-            return Some(token.role);
-        }
-    }
-    None
+    let found = tokens.iter().find(|token| token.digest == digest)?;
+    Some(found.role)
 }
 
-/// The domain's number and epoch, and how many tokens it has; or the role of the token, where one is named.
+/// The domain's number and epoch, and how many tokens it has; or the role of the token, if one is named.
 pub fn gate<R: Records>(
     answer: &mut Answer,
     records: &mut R,

@@ -1,4 +1,4 @@
-//! Whether the rest of a script is answered as it has to be by a server over what a stop has left.
+//! Whether a server over what a stop has left answers the rest of a script rightly.
 use crate::files::{File, keeper_of};
 use crate::front_calls::{run, serve};
 use crate::no_answer::NoAnswer;
@@ -12,7 +12,7 @@ use xa_server::{Reply, Server};
 use xa_store::SqlRecords;
 use xa_value::Moment;
 
-/// Has the messages answered.
+/// Has the first of the messages answered, so many at most.
 fn serve_all(server: &mut Server<PlainRecords>, messages: &[(Moment, Message)], count: usize) {
     for (moment, message) in messages.iter().take(count) {
         serve(server, *moment, message);
@@ -24,8 +24,8 @@ fn messages_behind(script: &Script, struck: usize) -> &[(Moment, Message)] {
     script.messages.get(struck..).unwrap_or(&[])
 }
 
-/// The replies to the messages behind that one, of a server over a keeper in memory that has answered those
-/// of before and so many of the messages.
+/// The replies to the messages behind that one, of a server over a keeper in memory. It has answered the
+/// messages that made the store, and so many of the script's.
 fn replies_behind(
     alloc: Global,
     script: &Script,
@@ -40,12 +40,11 @@ fn replies_behind(
 
 /// Whether the replies are of the same bytes, one by one.
 fn are_alike(left: &[Reply], right: &[Reply]) -> bool {
-    for (left, right) in left.iter().zip(right) {
-        if left.bytes() != right.bytes() {
-            return false;
-        }
-    }
     left.len() == right.len()
+        && left
+            .iter()
+            .zip(right)
+            .all(|(left, right)| left.bytes() == right.bytes())
 }
 
 /// Whether the messages behind that one were answered as if it had never come, or as if it had been answered.

@@ -1,4 +1,4 @@
-//! A run of a script over files of which one may be frozen: it ends with the first message that is
+//! A run of a script over files, one of which may be frozen. It ends with the first message that is
 //! refused, the one that the stop has struck.
 use crate::files::{File, files_under, keeper_of};
 use crate::front_calls::serve;
@@ -16,8 +16,8 @@ use xa_value::Moment;
 /// What has become of a run of the script.
 #[derive(Drop)]
 pub enum Run {
-    /// A stop has struck the message of this number, from 1; or 0, before the first, where the store
-    /// wasn't opened. These are the files.
+    /// A stop has struck the message of this number, counted from 1; 0 if the store wasn't even opened.
+    /// These are the files.
     Stopped(usize, Files<File>),
     /// All messages were answered.
     Ended,
@@ -35,7 +35,7 @@ fn first_refused<R: Records>(server: &mut Server<R>, messages: &[(Moment, Messag
     0
 }
 
-/// The same of a server over the keeper, which is given back.
+/// The same of a server over the keeper, and the keeper, which is given back.
 fn first_refused_over<S: Alter + Drop>(
     alloc: Global,
     records: SqlRecords<S>,
@@ -51,7 +51,7 @@ fn is_frozen(files: &mut Files<File>) -> bool {
     !files.may_be_used() || files.log.len().is_err() || files.db.len().is_err()
 }
 
-/// Runs the script over the files, up to the stop. One that no message has shown has struck the last.
+/// Runs the script over the files, up to the stop. A stop that no message has shown has struck the last.
 pub fn run_of(
     alloc: Global,
     files: Files<File>,

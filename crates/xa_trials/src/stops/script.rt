@@ -1,6 +1,6 @@
 //! Scripts of stops: what the store holds before the first message, and the messages. First come fields
-//! `sql:SQL`, statements which are run in an empty store before a keeper is opened over it, and then
-//! fields `made:BYTES`, messages by which a keeper comes to hold the same.
+//! `sql:SQL`, statements that are run in an empty store before a keeper is opened over it. Then come fields
+//! `made:BYTES`, messages by which a keeper comes to hold the same.
 use crate::field::leading_and_rest;
 use crate::files::{File, files_under, new_files};
 use crate::keepers::run_all;
@@ -23,7 +23,7 @@ pub struct Script {
     pub messages: Vec<(Moment, Message)>,
 }
 
-/// The files of a store in which the statements were run; empty ones, where there are none.
+/// The files of a store in which the statements were run; empty ones, if there are none.
 fn files_after(alloc: Global, statements: &[&str]) -> Result<Files<File>, NoAnswer> {
     if statements.is_empty() {
         return Ok(new_files(alloc));

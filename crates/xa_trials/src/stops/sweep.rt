@@ -6,7 +6,7 @@ use std::alloc::Global;
 /// Which messages were struck, and what a crash has left the last time.
 #[derive(Drop)]
 pub struct Sweep {
-    /// How many stops have struck each message, and how many came before the first.
+    /// How many stops came before the first message, and then how many have struck each.
     counts: Vec<u64>,
     /// The number of the message that was struck the last time.
     struck: usize,
@@ -33,8 +33,8 @@ impl Sweep {
         }
     }
 
-    /// Notes what a crash has left behind that message. Whether the last one left something else, or
-    /// behind another.
+    /// Notes what a crash has left behind that message. Whether the last crash left something else, or
+    /// behind another message.
     pub fn note(&mut self, struck: usize, left: Vec<u8>) -> bool {
         let is_new = self.struck != struck || self.left.as_slice() != left.as_slice();
         self.struck = struck;

@@ -24,5 +24,5 @@ returns-in-Ok-clause-replayed g c =
 
 pub returns-in-Err-clause-read : goal.returns-in-Err-clause-read
 returns-in-Err-clause-read g c =
-    unopened (λ _. ⊤) (g.I.Read.remaining c.args.reader) c.unbegun-in-Err.result.exit
-    (subst (λ (end : Exit). (end ≡ Memory) ⊎ (end ≡ Store)) (sym c.unbegun-in-Err.ensures.exit) c.in-Err.ensures.end)
+    unopened (λ _. ⊤) (g.I.Read.remaining c.args.reader) c.without_entries-in-Err.result.exit
+    (subst (λ (end : Exit). (end ≡ Memory) ⊎ (end ≡ Store)) (sym c.without_entries-in-Err.ensures.exit) c.in-Err.ensures.end)
