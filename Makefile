@@ -63,7 +63,7 @@ author-test: ## tests the policy author's desk (tools/policy/policy.py); proves 
 	tools/policy/policy.py build
 	tools/policy/test.py
 
-bench: pdpd ## proves and builds pdpd, and runs all benchmarks but bench/heads, bench/units.py, bench/deploy.py and bench/casbin.py
+bench: pdpd ## proves and builds pdpd, and runs all benchmarks but bench/gate.py, bench/heads, bench/units.py, bench/deploy.py and bench/casbin.py
 	bench/all
 
 dist: ## packs the proved program, the kit for several of them behind HAProxy, and their pages: build/pdpd-VERSION.tar.gz

@@ -97,7 +97,7 @@ def spent(words, folder, given=subprocess.DEVNULL):
     return after.ru_utime - before.ru_utime + after.ru_stime - before.ru_stime
 
 
-def asked(folder, rules, count):
+def of_pdpd(folder, rules, count):
     """Microseconds a decision of pdpd, by so many rules."""
     asks = [ask("acme", number) for number in range(1000)]
     with tempfile.TemporaryFile() as file:
@@ -106,7 +106,7 @@ def asked(folder, rules, count):
         return spent([os.path.abspath(PROGRAM), "replay", OPERATOR], folder, file) / count * 1e6
 
 
-def enforced(program, folder, rules, count):
+def of_casbin(program, folder, rules, count):
     """Microseconds a decision of casbin, by so many rules."""
     with open(os.path.join(folder, "policy.csv"), "w", encoding="utf-8") as file:
         file.write("".join(f"p, read-{number:03}\n" for number in reversed(range(rules))))
@@ -118,7 +118,7 @@ def main():
     with tempfile.TemporaryDirectory() as folder:
         program = built(folder)
         for rules, count in KINDS:
-            rounds = [(asked(folder, rules, count), enforced(program, folder, rules, count)) for _ in range(ROUNDS)]
+            rounds = [(of_pdpd(folder, rules, count), of_casbin(program, folder, rules, count)) for _ in range(ROUNDS)]
             ours, theirs = (statistics.median(each) for each in zip(*rounds))
             ratios = sorted(theirs / ours for ours, theirs in rounds)
             print(f"{rules:5}{ours:22.2f}{theirs:10.2f}{statistics.median(ratios):10.1f} times ({ratios[0]:.1f} to "

@@ -14,7 +14,6 @@ machine they say little. Instructions are the same on any machine.
 """
 import json
 import pathlib
-import re
 import resource
 import subprocess
 import sys
@@ -24,6 +23,7 @@ TOP = pathlib.Path(__file__).resolve().parent.parent
 sys.path.insert(0, str(TOP / "tests" / "model"))
 
 from inputs import as_read  # noqa: E402
+from transcripts import CACHEGRIND, instructions_in  # noqa: E402
 
 CRATE = TOP / "crates" / "xa_trials"
 BY_INSTRUCTIONS = "--instructions" in sys.argv[1:]
@@ -119,11 +119,10 @@ def instructions(fields, body):
     with tempfile.NamedTemporaryFile("w+") as rows, tempfile.NamedTemporaryFile("r") as log:
         rows.write("\t".join(as_read(["decide", *fields, body])) + "\n")
         rows.flush()
-        command = ["valgrind", "--tool=cachegrind", "--cache-sim=no", "--cachegrind-out-file=/dev/null",
-                   f"--log-file={log.name}", PROGRAM]
+        command = [*CACHEGRIND, f"--log-file={log.name}", PROGRAM]
         with open(rows.name, encoding="ascii") as given:
             subprocess.run(command, stdin=given, stdout=subprocess.DEVNULL, check=True)
-        return int(re.search(r"I +refs: +([0-9,]+)", log.read())[1].replace(",", ""))
+        return instructions_in(log.read())
 
 
 def main():
@@ -149,10 +148,10 @@ def main():
         one, many = (measured(fields, request(attributes, individuals)) for individuals in (1, INDIVIDUALS))
         further = many - one
         if "no designators" in name:
-            alone, shown = further, ""
+            alone, of_one = further, ""
         else:
-            shown = f"{(further - alone) / ((INDIVIDUALS - 1) * POLICIES * DESIGNATORS) * unit:.0f}"
-        print(f"{name:<60} {one * scale:>18.0f} {many * scale:>9.0f} {shown:>20}", flush=True)
+            of_one = f"{(further - alone) / ((INDIVIDUALS - 1) * POLICIES * DESIGNATORS) * unit:.0f}"
+        print(f"{name:<60} {one * scale:>18.0f} {many * scale:>9.0f} {of_one:>20}", flush=True)
 
 
 if __name__ == "__main__":

@@ -28,9 +28,13 @@ WARD, DOMAINS, SECONDS = TOP / "examples" / "ward", 16, 4
 REPLY = '{"Response":[{"Decision":"Deny","Status":{"StatusCode":{"Value":"urn:oasis:names:tc:xacml:1.0:status:ok"}}}]}'
 
 
+def read(file):
+    return (WARD / file).read_text()
+
+
 def ward(operator, name):
     """Makes a domain of the ward's example, and gives its ask."""
-    token, at, read = f"{name}-token-1", f"/domains/{name}", lambda file: (WARD / file).read_text()
+    token, at = f"{name}-token-1", f"/domains/{name}"
     root = json.dumps({"PolicyIdReference": {"Id": "urn:example:ward:records"}})
     for data in (operator.creates(name),
                  operator.message("POST", f"/{name}/tokens", json.dumps({"Role": "admin", "Token": token})),
@@ -42,7 +46,7 @@ def ward(operator, name):
     return message("POST", f"{at}/pdp", token, read("request-alice.json"))
 
 
-def told(what, count, found):
+def print_line(what, count, found):
     note = f"   {found['bad']} errors {found['errors']}" if found["bad"] or found["errors"] else ""
     print(f"{what:36}{count:>8}{found['rate']:>12,.0f}{found['p50']:>10.2f}{found['p99']:>10.2f}{note}", flush=True)
 
@@ -67,24 +71,25 @@ def domains_over(made, count):
     return clients.script_of(made.folder / "asks.lua", [ward(made.operator, f"w{number}") for number in range(DOMAINS)])
 
 
-def measured(made):
+def measure(made):
     """All kinds, one after another."""
     for count in (1, 2, 4):
         script = domains_over(made, count)
         for many in (1, 10, 100):
-            told(f"{count} shard{'s' if count > 1 else ''} behind HAProxy", many, clients.wrk(script, many, SECONDS))
-    told("4 shards, over TLS", 100, clients.wrk(script, 100, SECONDS, "https://localhost"))
+            what = f"{count} shard{'s' if count > 1 else ''} behind HAProxy"
+            print_line(what, many, clients.wrk(script, many, SECONDS))
+    print_line("4 shards, over TLS", 100, clients.wrk(script, 100, SECONDS, "https://localhost"))
     script = domains_over(made, 1)
     for name, value, usual in (("KEEP", 1, 0), ("MAXCONN", 4, 1), ("RETRY", 1, 0)):
         made.set(**{name: value})
-        told(f"1 shard, {name}={value}", 100, clients.wrk(script, 100, SECONDS))
+        print_line(f"1 shard, {name}={value}", 100, clients.wrk(script, 100, SECONDS))
         made.set(**{name: usual})
-    told("pdpd alone, no proxy", 1, clients.wrk(script, 1, SECONDS, "http://127.0.0.1:7100"))
+    print_line("pdpd alone, no proxy", 1, clients.wrk(script, 1, SECONDS, "http://127.0.0.1:7100"))
     machine.sh("sv down /etc/service/pdpd-0 && sleep 1")
     server = nginx(made.folder)
     time.sleep(1)
     for many in (1, 10, 100):
-        told("nginx, `return 200`, behind HAProxy", many, clients.wrk(script, many, SECONDS))
+        print_line("nginx, `return 200`, behind HAProxy", many, clients.wrk(script, many, SECONDS))
     server.terminate()
     server.wait()
 
@@ -105,7 +110,7 @@ def main():
     made.operator = clients.Operator(pathlib.Path("/etc/pdpd/token").read_text().strip())
     print(f"load of the machine before: {os.getloadavg()[0]:.1f}, on {os.cpu_count()} cores")
     print(f"{'':36}{'clients':>8}{'asks/s':>12}{'p50, ms':>10}{'p99, ms':>10}")
-    measured(made)
+    measure(made)
     print(f"load of the machine behind: {os.getloadavg()[0]:.1f}")
     made.end()
     return 0

@@ -291,7 +291,7 @@ def build(work):
     return program
 
 
-def measured(program, kind, text):
+def measure(program, kind, text):
     """Nanoseconds a reading, and what the text was read as."""
     times = max(1, -(-MEASURED_BYTES // len(text)))
     done = subprocess.run([program], input=f"{times}\t{kind}\t{text}\n".encode(), stdout=subprocess.PIPE, check=True)
@@ -317,8 +317,8 @@ def main():
             sizes += [(name, shape, 8_192), ("", shape, 65_536)]
         for name, shape, most in sizes:
             text, count = filled(shape, most)
-            whole, outcome = measured(program, "document", text)
-            alone, _ = measured(program, "json", text)
+            whole, outcome = measure(program, "document", text)
+            alone, _ = measure(program, "json", text)
             none = peak(program, f"{text}\n")
             kept, kept_json = (peak(program, f"once\t{kind}\t{text}\n") - none for kind in ("document", "json"))
             print(f"{name:44} {count:5} {len(text):6} {1e9 / whole:8.0f} {whole / 1e3:8.1f} {whole / len(text):7.1f}  "

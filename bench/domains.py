@@ -73,7 +73,7 @@ def each(served, messages, count):
     return best / count * 1e6, status
 
 
-def measured(folder, numbers):
+def measure(folder, numbers):
     """Microseconds a message of each kind and its status, with domains of these numbers; and of the operator's list."""
     path, token = f"{folder}/{len(numbers)}.db", pathlib.Path(folder) / "token"
     token.write_text(f"{OPERATOR}\n")
@@ -87,7 +87,7 @@ def main():
     if not os.path.isfile(PROGRAM):
         sys.exit(f"bench/domains.py: {PROGRAM} is not there: `make pdpd` builds it")
     with tempfile.TemporaryDirectory() as folder:
-        (few, _), (many, (listing, status)) = measured(folder, [5_000]), measured(folder, list(range(1, 10_001)))
+        (few, _), (many, (listing, status)) = measure(folder, [5_000]), measure(folder, list(range(1, 10_001)))
     failed = 0
     print(f"{'microseconds a message':34}{'1 domain':>12}{'10,000 domains':>17}   the last reply")
     for kind, (took, last) in few.items():

@@ -13,7 +13,6 @@ same for both numbers of domains. Times are processor time, the median of nine r
 turns; on a disturbed machine they say little. Instructions are the same on any machine.
 """
 import pathlib
-import re
 import resource
 import statistics
 import subprocess
@@ -24,6 +23,7 @@ TOP = pathlib.Path(__file__).resolve().parent.parent
 sys.path.insert(0, str(TOP / "tests" / "model"))
 
 from inputs import as_read  # noqa: E402
+from transcripts import CACHEGRIND, instructions_in  # noqa: E402
 
 CRATE = TOP / "crates" / "xa_trials"
 BY_INSTRUCTIONS = "--instructions" in sys.argv[1:]
@@ -39,7 +39,7 @@ def document(number, text=""):
             f'"RuleCombiningAlgId":"{RULES}"}}}}')
 
 
-def made(domains):
+def setup_of(domains):
     """The calls that make the domains, each with a token and ten documents."""
     calls = []
     for domain in range(domains):
@@ -48,7 +48,7 @@ def made(domains):
     return calls
 
 
-def repeated(kind, middle, calls):
+def calls_of(kind, middle, count):
     """This many calls of one domain, which leave it as it was or alternate between two states."""
     here = f"d{middle}"
     pairs = {
@@ -60,7 +60,7 @@ def repeated(kind, middle, calls):
         "set root and back": [f"root {here} policy|urn:p3|||", f"root {here}"],
         "put and drop a token": [f"put {here} ask another-token", f"drop {here} another-token"],
     }
-    return pairs[kind] * (calls // 2)
+    return pairs[kind] * (count // 2)
 
 
 # each kind of calls, and how many of them: more where one takes little beside what makes 10,000 domains
@@ -89,7 +89,7 @@ def seconds(row):
 def nanoseconds(kind, setups):
     """What a call of the kind takes, for each number of domains: the median of some runs."""
     calls, took = KINDS[kind], {domains: [] for domains in setups}
-    rows = {domains: [row_of(setup + repeated(kind, domains // 2, times * calls)) for times in (1, 2)]
+    rows = {domains: [row_of(setup + calls_of(kind, domains // 2, times * calls)) for times in (1, 2)]
             for domains, setup in setups.items()}
     for _ in range(RUNS):
         for domains, (few, many) in rows.items():
@@ -105,10 +105,9 @@ def instructions(calls):
     """The instructions of the program for one row of these calls."""
     row = row_of(calls)
     with tempfile.NamedTemporaryFile("r") as log, open(row.name) as rows:
-        command = ["valgrind", "--tool=cachegrind", "--cache-sim=no", "--cachegrind-out-file=/dev/null",
-                   f"--log-file={log.name}", PROGRAM]
+        command = [*CACHEGRIND, f"--log-file={log.name}", PROGRAM]
         subprocess.run(command, stdin=rows, stdout=subprocess.DEVNULL, check=True)
-        return int(re.search(r"I +refs: +([0-9,]+)", log.read())[1].replace(",", ""))
+        return instructions_in(log.read())
 
 
 def by_instructions(setups):
@@ -116,7 +115,7 @@ def by_instructions(setups):
     failed = 0
     alone = {domains: instructions(setup) for domains, setup in setups.items()}
     for kind in KINDS:
-        took = [(instructions(setup + repeated(kind, domains // 2, COUNTED_CALLS)) - alone[domains]) / COUNTED_CALLS
+        took = [(instructions(setup + calls_of(kind, domains // 2, COUNTED_CALLS)) - alone[domains]) / COUNTED_CALLS
                 for domains, setup in setups.items()]
         failed += took[1] > MOST * took[0]
         print(f"{kind:26}{took[0]:14,.0f}{took[1]:17,.0f}"
@@ -127,7 +126,7 @@ def by_instructions(setups):
 def main():
     if not WORDS:
         subprocess.run(["rt", "run"], cwd=CRATE, stdin=subprocess.DEVNULL, stdout=subprocess.DEVNULL, check=True)
-    setups = {domains: made(domains) for domains in (10, 10_000)}
+    setups = {domains: setup_of(domains) for domains in (10, 10_000)}
     failed = 0
     print(f"{'instructions a call' if BY_INSTRUCTIONS else '':26}{'10 domains':>14}{'10,000 domains':>17}")
     if BY_INSTRUCTIONS:

@@ -121,7 +121,8 @@ def calls_of(pid, load):
                      for name, calls in sorted(counts.items(), key=lambda it: -it[1]) if calls * 20 >= count)
 
 
-def told(name, rounds, calls=""):
+def print_best(name, rounds, calls=""):
+    """Prints the best of the rounds, and the system calls of a request."""
     best = max(rounds, key=lambda it: it.count / it.spent)
     processor = min(it.processor / it.count for it in rounds)
     print(f"{name:44}{best.count / best.spent:12,.0f}{processor * 1e6:14.1f}   {calls}", flush=True)
@@ -242,17 +243,17 @@ def bare(port, folder):
     return subprocess.Popen([f"{folder}/bare", str(port), PERMIT.decode()], preexec_fn=on_one_core)
 
 
-def measured(kinds):
+def measure(kinds):
     """Some rounds of each kind, all kinds in turn, and then its system calls."""
     rounds = {name: [] for name, _, _ in kinds}
     for _ in range(ROUNDS):
         for name, pid, load in kinds:
             rounds[name].append(Round(pid, load))
     for name, pid, load in kinds:
-        told(name, rounds[name], calls_of(pid, load) if shutil.which("strace") else "")
+        print_best(name, rounds[name], calls_of(pid, load) if shutil.which("strace") else "")
 
 
-def begun(start, folder):
+def start_server(start, folder):
     """The process that is started on a free port, once it answers there, and the port."""
     port = free_port()
     server = start(port, folder)
@@ -269,12 +270,12 @@ def by_others(ask, folder, missing):
     """The kinds of the servers beside ours, and their processes."""
     kinds, servers = [], []
     if "nginx" not in missing:
-        server, port = begun(nginx, folder)
+        server, port = start_server(nginx, folder)
         kinds += [("nginx, `return 200`", server.pid, by_wrk(port, lua(ask), folder)),
                   ("nginx, a file", server.pid, by_wrk(port, 'wrk.path = "/reply"\n', folder))]
         servers.append(server)
     if "cc" not in missing:
-        server, port = begun(bare, folder)
+        server, port = start_server(bare, folder)
         kinds.append(("receives and sends, and nothing else", server.pid, by_wrk(port, lua(ask), folder)))
         servers.append(server)
     return kinds, servers
@@ -303,16 +304,16 @@ def main():
             beside, servers = by_others(asks["ten rules"], folder, missing)
             try:
                 if "wrk" not in missing:
-                    measured(kinds + beside)
+                    measure(kinds + beside)
             finally:
                 for server in servers:
                     server.terminate()
                     server.wait()
             each = [other(asks["ten rules"], number) for number in range(1000)]
-            measured_alone = [("ten rules, kept, in pieces of 100", [asks["ten rules"]]),
-                              ("ten rules, worked out, in pieces of 100", each)]
-            for name, held in measured_alone:
-                told(name, [Round(pid, in_pieces(port, held)) for _ in range(ROUNDS)])
+            alone = [("ten rules, kept, in pieces of 100", [asks["ten rules"]]),
+                     ("ten rules, worked out, in pieces of 100", each)]
+            for name, held in alone:
+                print_best(name, [Round(pid, in_pieces(port, held)) for _ in range(ROUNDS)])
 
 
 if __name__ == "__main__":

@@ -28,7 +28,6 @@ import hashlib
 import os
 import pathlib
 import random
-import re
 import shutil
 import sys
 import tempfile
@@ -42,6 +41,7 @@ PROGRAM = os.path.abspath(WORDS[0] if WORDS else os.path.join(TOP, "build/pdpd")
 sys.path.insert(0, f"{TOP}/tests")
 from kept import FIRST_MAKING, as_first, write  # noqa: E402
 from serving import OPERATOR, PIECE, Served, answered, message, policy  # noqa: E402
+from transcripts import CACHEGRIND, instructions_in  # noqa: E402
 
 SIZES = (10, 1_000, 10_000)
 TOKEN, RUNS, MOST_OPENING, SOURCES, MOST_FIRST = "domain-token-1", 3, 2.0, 8, 2
@@ -91,11 +91,14 @@ def ask(name, body='{"Request":{}}', token=TOKEN):
     return message("POST", f"/domains/{name}/pdp", token, body)
 
 
+def other_body(number):
+    return '{"Request":{"Action":{"Id":"%d"}}}' % number
+
+
 def messages(domains, count=30_000):
     """Messages by what they do; those to one domain of many are each to another."""
     chance = random.Random(3)
     names = [f"domain-{chance.randrange(1, domains + 1)}" for _ in range(min(400, domains))]
-    other = lambda number: '{"Request":{"Action":{"Id":"%d"}}}' % number
     uploads = [held for number in range(1_000) for held in (
         message("POST", f"/domains/{names[number % len(names)]}/pap/policies", TOKEN, text_of("urn:u", 5_000)),
         message("DELETE", f"/domains/{names[number % len(names)]}/pap/policy/urn:u/1.0", TOKEN))]
@@ -103,8 +106,8 @@ def messages(domains, count=30_000):
         "refused": [message("POST", "/operator/domains/x/tokens", TOKEN, '{"Request":{}}')] * count,
         "kept": [ask(names[number % len(names)]) for number in range(count)],
         "a wrong token": [ask(names[number % len(names)], token="wrong-token-1") for number in range(count)],
-        "one document": [ask("domain-1", other(number)) for number in range(count // 3)],
-        "many documents": [ask(f"domain-{domains}", other(number)) for number in range(count // 10)],
+        "one document": [ask("domain-1", other_body(number)) for number in range(count // 3)],
+        "many documents": [ask(f"domain-{domains}", other_body(number)) for number in range(count // 10)],
         "uploads": uploads,
     }
 
@@ -139,16 +142,15 @@ def opening_schemas(folder, token, domains):
             if found[1] > MOST_FIRST * found[2] else [])
 
 
-def counted(folder, path, token, held):
+def instructions_of(folder, path, token, held):
     """The instructions of a program that answers these messages and ends."""
     log, program = f"{folder}/log", f"{folder}/program"
-    pathlib.Path(program).write_text("#!/bin/sh\nexec valgrind --tool=cachegrind --cache-sim=no "
-                                     f"--cachegrind-out-file=/dev/null --log-file={log} {PROGRAM} \"$@\"\n")
+    pathlib.Path(program).write_text(f"#!/bin/sh\nexec {' '.join(CACHEGRIND)} --log-file={log} {PROGRAM} \"$@\"\n")
     os.chmod(program, 0o755)
     with Served(program, path, token, connections=1) as served:
         answered(served, held)
         served.process.wait()
-    return int(re.search(r"I +refs: +([0-9,]+)", pathlib.Path(log).read_text())[1].replace(",", ""))
+    return instructions_in(pathlib.Path(log).read_text())
 
 
 def by_instructions(folder, token):
@@ -162,8 +164,9 @@ def by_instructions(folder, token):
             held = messages(domains, 3_000)[name]
             # what is kept is worked out before it is counted
             first, count = (held[:400] if name == "kept" else []), len(held) // 2
-            found[domains, name] = (counted(folder, path, token, first + held)
-                                    - counted(folder, path, token, first + held[:count])) / (len(held) - count)
+            more = instructions_of(folder, path, token, first + held)
+            less = instructions_of(folder, path, token, first + held[:count])
+            found[domains, name] = (more - less) / (len(held) - count)
         found[domains, "gate"] = found[domains, "a wrong token"] - found[domains, "refused"]
     for name in ("refused", "a wrong token", "gate", "kept", "one document", "uploads"):
         print(f"{name:42}{found[SIZES[0], name]:16,.0f}{found[SIZES[-1], name]:16,.0f}")

@@ -13,6 +13,8 @@ from sent import OPERATOR  # noqa: E402
 PROGRAM = sys.argv[1] if len(sys.argv) > 1 else os.path.join(TOP, "build/pdpd")
 TOKEN = "domain-token-1"
 MAX_ENTRY_BYTES, RUNS = 1_048_576, 3
+# the words before a program's, which count its instructions
+CACHEGRIND = ("valgrind", "--tool=cachegrind", "--cache-sim=no", "--cachegrind-out-file=/dev/null")
 
 
 def transcript(messages):
@@ -58,7 +60,11 @@ def seconds(messages):
     return best
 
 
+def instructions_in(said):
+    """The instructions that valgrind says it has counted."""
+    return int(re.search(r"I\s+refs:\s+([\d,]+)", said)[1].replace(",", ""))
+
+
 def instructions(messages):
     """Instructions that the program takes to answer them, as valgrind counts them."""
-    said = run(messages, ["valgrind", "--tool=cachegrind", "--cache-sim=no", "--cachegrind-out-file=/dev/null"]).stderr
-    return int(re.search(rb"I\s+refs:\s+([\d,]+)", said).group(1).replace(b",", b""))
+    return instructions_in(run(messages, CACHEGRIND).stderr.decode())

@@ -5,7 +5,7 @@ import tempfile
 
 from inputs import as_read
 from rows import encoded, line
-from unit_forms import padded, written
+from unit_documents import too_long_to_keep, written
 
 NO_LIMIT, ASKS, RUNS = 2**64 - 1, 4, 5
 # where a row of one ask takes so many seconds, one more is asked behind it, else ASKS
@@ -24,7 +24,7 @@ def row(form, limit, asks, has_root=True):
     root = "root:set|s|||" if "PolicySet" in form.documents[0] else "root:policy|p|||"
     documents = ["document:" + encoded(written(draft).encode()) for draft in form.documents]
     held = [*documents, *([root] if has_root else []), *("row:" + text for text in form.rows)]
-    asked = "piece:" + asking(padded(form.request)) * asks
+    asked = "piece:" + asking(too_long_to_keep(form.request)) * asks
     return line(as_read(["server_in_memory", f"limit:{limit}", "domain:acme", "ask:acme-token-1", *held, asked]))
 
 

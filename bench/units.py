@@ -46,7 +46,7 @@ class Measured:
     def of_a_unit(self):
         return self.seconds / self.units * 1e9
 
-    def shown(self):
+    def line(self):
         return f"{self.form.name:64}{self.units:14,}{self.seconds * 1e3:10.2f}{self.of_a_unit():12.2f}"
 
 
@@ -54,22 +54,22 @@ def dearest(found, count):
     return sorted(found, key=Measured.of_a_unit, reverse=True)[:count]
 
 
-def counted(program, chosen, end):
+def count_units(program, wanted, end):
     """The units of each form; none of those to which it doesn't come until that time."""
     def count(form):
         return units(program, form, 100) if time.monotonic() < end else None
 
     with concurrent.futures.ThreadPoolExecutor(os.cpu_count()) as workers:
-        return list(workers.map(count, chosen))
+        return list(workers.map(count, wanted))
 
 
-def measured(program, chosen, counts, end):
+def measure(program, wanted, counts, end):
     """What is found of the forms whose units are known, one after another, until that time."""
     found = []
-    for form, count in zip(chosen, counts):
+    for form, count in zip(wanted, counts):
         if count is not None and time.monotonic() < end:
             found.append(Measured(program, form, count))
-            print(found[-1].shown(), file=sys.stderr, flush=True)
+            print(found[-1].line(), file=sys.stderr, flush=True)
     return found
 
 
@@ -79,21 +79,21 @@ def main():
     parser.add_argument("program", nargs="?", type=pathlib.Path, default=BUILT)
     parser.add_argument("words", nargs="*")
     given = parser.parse_args()
-    begun = time.monotonic()
-    chosen = [form for form in forms() if not given.words or any(word in form.name for word in given.words)]
-    counts = counted(given.program, chosen, begun + UNITS_UNTIL * given.within)
-    found = measured(given.program, chosen, counts, begun + TIMES_UNTIL * given.within)
+    start = time.monotonic()
+    wanted = [form for form in forms() if not given.words or any(word in form.name for word in given.words)]
+    counts = count_units(given.program, wanted, start + UNITS_UNTIL * given.within)
+    found = measure(given.program, wanted, counts, start + TIMES_UNTIL * given.within)
     for one in dearest(found, AGAIN):
-        if time.monotonic() > begun + given.within:
+        if time.monotonic() > start + given.within:
             break
         one.again()
     print(f"{'the dearest':64}{'units':>14}{'ms':>10}{'ns a unit':>12}")
     for one in dearest(found, LISTED):
-        print(one.shown())
-    print(f"{len(found)} of {len(chosen)} forms, "
+        print(one.line())
+    print(f"{len(found)} of {len(wanted)} forms, "
           f"{sum(one.of_a_unit() > MOST_OF_A_UNIT for one in found)} of more than {MOST_OF_A_UNIT} ns a unit,"
-          f" in {time.monotonic() - begun:.0f} s")
-    return 0 if len(found) == len(chosen) else 1
+          f" in {time.monotonic() - start:.0f} s")
+    return 0 if len(found) == len(wanted) else 1
 
 
 if __name__ == "__main__":

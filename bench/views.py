@@ -34,6 +34,7 @@ sys.path += [str(TOP / "tests"), str(TOP / "tests" / "model")]
 from asking import ID, match, policy, request, target  # noqa: E402
 from rows import encoded  # noqa: E402
 from sent import OPERATOR, message  # noqa: E402
+from transcripts import CACHEGRIND, instructions_in  # noqa: E402
 
 CRATE = TOP / "crates" / "xa_trials"
 PROGRAM = pathlib.Path(sys.argv[1]) if len(sys.argv) > 1 else CRATE / "out" / "xa_trials"
@@ -137,8 +138,8 @@ def ran(program, held):
 
 
 def instructions(held):
-    said, _ = ran(["valgrind", "--tool=cachegrind", "--cache-sim=no", "--cachegrind-out-file=/dev/null", PROGRAM], held)
-    return int(re.search(rb"I\s+refs:\s+([\d,]+)", said).group(1).replace(b",", b""))
+    said, _ = ran([*CACHEGRIND, PROGRAM], held)
+    return instructions_in(said.decode())
 
 
 def seconds(held):

@@ -76,16 +76,20 @@ def run(program, words, held):
     return done.stdout, said if done.returncode else ""
 
 
+def beginning(lines, at):
+    """The beginning of the line at a place; nothing, where there is none."""
+    return b"".join(lines[at:at + 1])[:300].decode()
+
+
 def rows(program, words, first, asked, wanted):
     """Some of the stored rows, of which the first has that number, behind those that define words."""
     written, said = run(program, [], b"".join(line + b"\n" for line in [*words, *asked]))
     found = written.split(b"\n")[len(words):-1]
     others = [at for at, answer in enumerate(wanted) if found[at:at + 1] != [answer]]
-    short = lambda lines, at: b"".join(lines[at:at + 1])[:300].decode()
-    told = [f"line {first + at} of crates/xa_trials/stdin: {short(asked, at)}\n"
-            f"  found  {short(found, at)}\n  wanted {short(wanted, at)}" for at in others[:5]]
+    differences = [f"line {first + at} of crates/xa_trials/stdin: {beginning(asked, at)}\n"
+                   f"  found  {beginning(found, at)}\n  wanted {beginning(wanted, at)}" for at in others[:5]]
     failed = max(len(others), 1 if said or len(found) != len(asked) else 0)
-    return len(asked) - len(others), failed, "\n".join([*told, said])
+    return len(asked) - len(others), failed, "\n".join([*differences, said])
 
 
 def transcript(program):
@@ -117,8 +121,8 @@ def agreement(program, seed):
         subprocess.run([*agree, "rows", held, *words], cwd=TOP, env=SURROUNDINGS, check=True)
         found, said = run(program, [], b"".join(path.read_bytes() for path in sorted(held.iterdir())))
         written.write_bytes(found)
-        told = lambda text: but_for(r"(\d+) of \d+ rows answered, (\d+) otherwise", text)
-        passed, failed, text = ran([*agree, "compare", written, *words], told)
+        pattern = r"(\d+) of \d+ rows answered, (\d+) otherwise"
+        passed, failed, text = ran([*agree, "compare", written, *words], lambda text: but_for(pattern, text))
     return passed, max(failed, ROWS_COMPARED - passed, 1 if said else 0), f"{text}{said}"
 
 
@@ -132,14 +136,17 @@ def memory(pdpd, xa_trials):
     return ran(["tests/memory.py", pdpd.path.result(), xa_trials.path.result()])
 
 
+def count_of_unittest(text):
+    """How many tests passed and failed, by the last lines of Python's unittest."""
+    every = re.search(r"^Ran (\d+) tests? in", text, re.M)
+    wrong = sum(map(int, re.findall(r"(?:failures|errors)=(\d+)", text)))
+    return (int(every[1]) - wrong, wrong) if every else (0, 0)
+
+
 def desk(xa_trials, pdpd, name):
     """One file of the desk's tests, over both programs."""
-    def told(text):
-        every = re.search(r"^Ran (\d+) tests? in", text, re.M)
-        wrong = sum(map(int, re.findall(r"(?:failures|errors)=(\d+)", text)))
-        return (int(every[1]) - wrong, wrong) if every else (0, 0)
     surroundings = {**SURROUNDINGS, "DESK_PROGRAM": xa_trials.path.result(), "DESK_PDPD": pdpd.path.result()}
-    return ran(["tools/policy/test.py", f"tests.{name}"], told, env=surroundings)
+    return ran(["tools/policy/test.py", f"tests.{name}"], count_of_unittest, env=surroundings)
 
 
 class Steps:
@@ -158,8 +165,8 @@ class Steps:
             passed, failed, text = 0, 1, f"{type(fault).__name__}: {fault}"
         with printing:
             self.passed, self.failed = self.passed + passed, self.failed + failed
-            told = f"{passed} passed, {failed} failed" if passed or failed else text
-            print(f"{name}: {told}, in {time.time() - began:.0f} s", flush=True)
+            outcome = f"{passed} passed, {failed} failed" if passed or failed else text
+            print(f"{name}: {outcome}, in {time.time() - began:.0f} s", flush=True)
             if failed:
                 print(f"{text.rstrip()[-6000:]}\nFAILED {name}", flush=True)
 

@@ -95,7 +95,9 @@ def of_operator(name):
 
 def of_admin(name):
     """Messages of the domain's admin, of which those that change most are the likeliest."""
-    send = lambda method, path, body=None: message(method, path, FIRST_TOKEN, body)
+    def send(method, path, body=None):
+        return message(method, path, FIRST_TOKEN, body)
+
     at = f"/domains/{name}"
     rows = [row() for _ in range(chance.choice((0, 1, 3, 20)))]
     return [*[send("POST", f"{at}/pap/policies", document())] * 5,

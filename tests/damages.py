@@ -1,5 +1,5 @@
 """What is done to a store that sqlite3 wrote, so that it is refused: each damage by its SQL. The stores are
-those that `filled` of tests/tables.py makes."""
+those that `filled_model` of tables_parts/shared.py makes."""
 from kept import MAKING
 
 FURTHER = "CREATE TABLE other (x INTEGER) STRICT; INSERT INTO other VALUES (7)"

@@ -21,9 +21,9 @@ sys.dont_write_bytecode = True
 TOP = pathlib.Path(__file__).resolve().parent.parent
 sys.path.insert(0, str(TOP / "tests"))
 
+from checks import Checks  # noqa: E402
 from deployed import backups, changes, clients, failures, machine, replies, slowness, units  # noqa: E402
 from deployed.clients import Operator  # noqa: E402
-from serving import Checks  # noqa: E402
 
 PARTS = (
     units.walk, units.decision, units.configurations, units.installed, units.calls,
@@ -39,7 +39,7 @@ PARTS = (
 MOST, LINES = 20, 5000
 
 
-class Told(Checks):
+class Logged(Checks):
     """Checks that also tell what was seen, and write all of what they found wrong into a file."""
 
     def __init__(self, name, log):
@@ -53,7 +53,7 @@ class Told(Checks):
     def expect(self, what, found, wanted):
         if found != wanted:
             with open(self.log, "a") as log:
-                print(f"\n==== {machine.clock()} FAILED {what}\n{told(found, wanted)}", file=log)
+                print(f"\n==== {machine.clock()} FAILED {what}\n{differences(found, wanted)}", file=log)
         super().expect(what, found, wanted)
 
     def keep(self, text):
@@ -62,7 +62,7 @@ class Told(Checks):
             print(text, file=log)
 
 
-def told(found, wanted):
+def differences(found, wanted):
     """Both, whole; of collections of names what one lacks, and what became of each such domain."""
     lines = [f"found  {found!r}", f"wanted {wanted!r}"]
     kinds = list, set, tuple
@@ -74,14 +74,12 @@ def told(found, wanted):
     return "\n".join(lines)
 
 
-def run(folder, program, chosen):
-    """Runs the parts on a machine of the test's own; the walk is always the first."""
-    checks, made = Told("tests/deploy.py", machine.log_of(folder)), machine.Machine(folder)
+def run(folder, program, names):
+    """Runs the parts of these names on a machine of the test's own, or all; the walk is always the first."""
+    checks, made = Logged("tests/deploy.py", machine.log_of(folder)), machine.Machine(folder)
     made.pack(program)
     try:
-        for part in PARTS:
-            if chosen and part is not units.walk and part.__name__ not in chosen:
-                continue
+        for part in checks.named_parts(PARTS, [units.walk.__name__, *names] if names else []):
             began, failed = time.time(), checks.failed
             try:
                 part(made, checks)
@@ -106,6 +104,8 @@ def main():
     words = sys.argv[1:]
     is_named = words and (os.sep in words[0] or os.path.isfile(words[0]))
     program = os.path.abspath(words.pop(0)) if is_named else None
+    # (a name that no part has ends it here)
+    Checks("tests/deploy.py").named_parts(PARTS, words)
     if lacks := list(machine.missing(program)):
         print("\n".join(f"tests/deploy.py: missing: {what}" for what in lacks))
         return 2

@@ -72,8 +72,8 @@ def table(old):
     for crate in crates():
         names = [path.stem for path in sorted(TOP.glob(f"crates/{crate}/must-fail/*.edit"))]
         beside = len(list(TOP.glob(f"edits/{crate}/*.edit")))
-        told = ", ".join(f"`{name}` {costs.get(name, '?')}" for name in names)
-        text += f"| `{crate}` | {checks.get(crate, '?') if names else ''} | {told} | {beside or ''} |\n"
+        listed = ", ".join(f"`{name}` {costs.get(name, '?')}" for name in names)
+        text += f"| `{crate}` | {checks.get(crate, '?') if names else ''} | {listed} | {beside or ''} |\n"
         seconds += sum(int(costs.get(name, 0)) for name in names) + int(checks.get(crate, 0) if names else 0)
         numbers = [numbers[0] + len(names), numbers[1] + beside]
     total = f"{numbers[0]} edits, {seconds / 60:.0f} processor-minutes but for those with `?`"

@@ -61,9 +61,9 @@ int posix_memalign(void **place, size_t alignment, size_t size) {
 """
 
 
-def compiled(code, library):
+def compiled(code, library, level="-O1"):
     """Compiles a library that is put before the C library."""
-    words = ["cc", "-O1", "-shared", "-fPIC", "-x", "c", "-o", library, "-", "-ldl"]
+    words = ["cc", level, "-shared", "-fPIC", "-x", "c", "-o", library, "-", "-ldl"]
     subprocess.run(words, input=code.encode(), check=True)
     return library
 

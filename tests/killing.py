@@ -85,9 +85,9 @@ class Load:
         """A message on the domain itself."""
         at, token, policy_id = f"/domains/{name}", f"{name}-token-1", f"urn:p{self.chance.randrange(IDS)}"
         if kind == "upload":
-            told = self.chance.choice((None, "é", "y" * 9_000))
-            text = policy(self.chance.choice(("Permit", "Deny")), policy_id, self.chance.choice(("1.0", "1.10")), told)
-            return message("POST", f"{at}/pap/policies", token, text)
+            description = self.chance.choice((None, "é", "y" * 9_000))
+            effect, version = self.chance.choice(("Permit", "Deny")), self.chance.choice(("1.0", "1.10"))
+            return message("POST", f"{at}/pap/policies", token, policy(effect, policy_id, version, description))
         if kind == "root":
             body = self.chance.choice(({}, {"PolicyIdReference": {"Id": policy_id, "Version": "1.+"}}))
             return message("PUT", f"{at}/pap/root", token, json.dumps(body))
@@ -172,10 +172,10 @@ class Store:
     def shows(self, served):
         """That the program shows what the model has: the domains, and of one all that it reads."""
         name = self.load.chance.choice(NAMES)
-        reads = lambda path: message("GET", f"/domains/{name}/{path}", f"{name}-token-1")
+        reads = [message("GET", f"/domains/{name}/{path}", f"{name}-token-1") for path in ("pap/policies", "pip")]
         asks = [message("POST", f"/domains/{name}/pdp", f"{name}-token-{number}", '{"Request":{}}')
                 for number in (1, 2)]
-        held = [LIST, reads("pap/policies"), reads("pip"), *asks]
+        held = [LIST, *reads, *asks]
         model = copy_of(self.model)
         self.expect(f"what is shown of {name}", served.once(*held), [model.answer(one) for one in held])
 
@@ -205,9 +205,8 @@ class Store:
         rows, least = self.rows(), sent.answered(found)
         place = sent.stands(rows, least)
         if place is None:
-            shown = [self.tables(model.rows()) for model in sent.models[least:]]
             self.expect(f"what stands in the tables, {least} messages of {sent.kinds} being answered",
-                        self.tables(rows), shown)
+                        self.tables(rows), [self.tables(model.rows()) for model in sent.models[least:]])
             return False
         if least < len(sent.kinds):
             self.report.struck[sent.kinds[least], place > least] += 1

@@ -148,8 +148,8 @@ class Refusing:
             self.counts[kind] += 1
             self.faults += [f"allocation {place}: {fault}"] if fault else []
             last = place
-        told = ", ".join(f"{kind} {count}" for kind, count in sorted(self.counts.items()) if kind)
-        print(f"tests/memory.py: {self.what}: {last} allocations refused in turn: {told}; {len(self.faults)} wrong, "
+        kinds = ", ".join(f"{kind} {count}" for kind, count in sorted(self.counts.items()) if kind)
+        print(f"tests/memory.py: {self.what}: {last} allocations refused in turn: {kinds}; {len(self.faults)} wrong, "
               f"in {time.time() - began:.0f} s")
         for fault in self.faults[:20]:
             print(f"  {fault}")

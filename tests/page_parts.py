@@ -16,8 +16,10 @@ import re
 import subprocess
 import textwrap
 
-import api
+from api_parts.examples import OPENAPI, response_body
+from api_parts.openapi import compact, operations
 from programs import crates
+from yaml_part import read_yaml
 
 TOP = pathlib.Path(__file__).resolve().parent.parent
 DECISIONS = TOP / "docs" / "design" / "decisions"
@@ -37,8 +39,8 @@ def wrapped(lines):
     item = ITEM.match(lines[0])
     first = item[0] if item else ""
     behind = first if first.endswith("> ") else " " * len(first)
-    strip = lambda line: line.strip().removeprefix("> ") if first.endswith("> ") else line.strip()
-    text = " ".join(strip(line) for line in [lines[0][len(first):], *lines[1:]])
+    parts = [line.strip() for line in [lines[0][len(first):], *lines[1:]]]
+    text = " ".join(part.removeprefix("> ") if first.endswith("> ") else part for part in parts)
     text = re.sub(r"`[^`]+`|\[[^]]{1,50}\]\([^)]*\)", lambda span: span[0].replace(" ", "\0"), text)
     text = re.sub(r" (?=(?:[-+*#>|]|\d+\.) )", "\0", text)
     made = textwrap.wrap(text, COLUMNS, initial_indent=first, subsequent_indent=behind, break_long_words=False,
@@ -52,12 +54,12 @@ def first_sentence(path):
     """The first sentence of a file's docstring, or of the comment at its head."""
     text = path.read_text(encoding="utf-8")
     if path.suffix == ".py":
-        told = ast.get_docstring(ast.parse(text)) or ""
+        comment = ast.get_docstring(ast.parse(text)) or ""
     else:
         mark = "--" if path.suffix == ".antt" else "#"
-        told = "\n".join(line.removeprefix(mark) for line in re.match(rf"(?:{mark}.*\n)*", text)[0].splitlines())
-    told = " ".join(told.split("\n\n")[0].split())
-    return re.split(r"(?<=[^.]\.) (?=[A-Z`<])", told)[0].rstrip(".")
+        comment = "\n".join(line.removeprefix(mark) for line in re.match(rf"(?:{mark}.*\n)*", text)[0].splitlines())
+    paragraph = " ".join(comment.split("\n\n")[0].split())
+    return re.split(r"(?<=[^.]\.) (?=[A-Z`<])", paragraph)[0].rstrip(".")
 
 
 def cell(text):
@@ -66,7 +68,8 @@ def cell(text):
 
 def files(pattern):
     rows = [(path.name, first_sentence(path)) for path in sorted(TOP.glob(pattern)) if path.name != "__init__.py"]
-    return "| File | What it is about |\n|---|---|\n" + "".join(f"| `{name}` | {cell(told)} |\n" for name, told in rows)
+    lines = [f"| `{name}` | {cell(about)} |\n" for name, about in rows]
+    return "| File | What it is about |\n|---|---|\n" + "".join(lines)
 
 
 def definitions(_):
@@ -76,8 +79,8 @@ def definitions(_):
         rows = []
         for path in sorted(folder.rglob("*.antt")):
             within = path.relative_to(folder).with_suffix("").as_posix()
-            if within != "Lib" and not within.startswith("declared") and (told := first_sentence(path)):
-                rows.append(f"| `{within}` | {cell(told)} |\n")
+            if within != "Lib" and not within.startswith("declared") and (about := first_sentence(path)):
+                rows.append(f"| `{within}` | {cell(about)} |\n")
         if rows:
             text += f"\n## {name}\n\n| Module | What it says |\n|---|---|\n" + "".join(rows)
     return text.lstrip("\n")
@@ -133,8 +136,8 @@ def kinds(pattern):
     text = "| Kind | Lines | A row and its answer |\n|---|---|---|\n"
     for kind, lines in sorted(found.items()):
         line = min(lines, key=lambda line: ("=>  !" in line, "\\(" in line, abs(len(line) - EXAMPLE), line))
-        shown = line.replace("|", r"\|") if len(line) <= GREATEST_EXAMPLE else f"{kind}  ..  =>  .."
-        text += f"| `{kind}` | {len(lines):,} | `{shown}` |\n"
+        example = line.replace("|", r"\|") if len(line) <= GREATEST_EXAMPLE else f"{kind}  ..  =>  .."
+        text += f"| `{kind}` | {len(lines):,} | `{example}` |\n"
     return text
 
 
@@ -143,7 +146,7 @@ def kinds(pattern):
 @functools.cache
 def openapi():
     """What docs/guide/openapi.yaml has, as tests/api.py reads it."""
-    return api.Yaml((TOP / api.OPENAPI).read_text(encoding="utf-8")).whole()
+    return read_yaml(TOP, OPENAPI)
 
 
 def roles(operation):
@@ -154,16 +157,16 @@ def routes(_):
     page = openapi()
     return "| Route | Token | What it does |\n|---|---|---|\n" + "".join(
         f"| `{method} {path}` | {roles(operation)} | {operation['summary']} |\n"
-        for method, path, operation in api.operations(page))
+        for method, path, operation in operations(page))
 
 
 def route(name):
     """What a route does, as docs/guide/openapi.yaml says it."""
     page = openapi()
-    told = next(operation["description"] for method, path, operation in api.operations(page)
-                if f"{method}:{path}" == name)
+    description = next(operation["description"] for method, path, operation in operations(page)
+                       if f"{method}:{path}" == name)
     return "".join("\n".join(wrapped(part.split("\n"))) + "\n\n"
-                   for part in told.strip().split("\n\n")).strip("\n") + "\n"
+                   for part in description.strip().split("\n\n")).strip("\n") + "\n"
 
 
 def held_by(schema):
@@ -177,7 +180,7 @@ def held_by(schema):
     return " or ".join(values) if 0 < len(values) < 4 else name or schema["type"].replace("string", "")
 
 
-def member_told(name, schema, needed):
+def member_cell(name, schema, needed):
     """A member, with what it holds if its name doesn't say it."""
     held = held_by(schema)
     return f"{name}{'' if name in needed else '?'}{f': {held}' if held not in ('', name) else ''}"
@@ -194,8 +197,8 @@ def objects(first):
         schema, members = schemas[name], schemas[name]["properties"]
         is_one = schema.get("minProperties") == schema.get("maxProperties") == 1
         needed = list(members) if is_one else schema.get("required", ())
-        told = ", ".join(member_told(member, each, needed) for member, each in members.items())
-        text += f"| {name} | {'exactly one of ' * is_one}{told} | {cell(schema['description'])} |\n"
+        listed = ", ".join(member_cell(member, each, needed) for member, each in members.items())
+        text += f"| {name} | {'exactly one of ' * is_one}{listed} | {cell(schema['description'])} |\n"
     return text
 
 
@@ -219,18 +222,18 @@ def states(_):
 def examples_of(route):
     """Each example of a route: its name, summary, state, target, body as it is written, status and reply."""
     page = openapi()
-    for method, path, operation in api.operations(page):
+    for method, path, operation in operations(page):
         bodies = {name: each["value"] for content in operation.get("requestBody", {}).get("content", {}).values()
                   for name, each in content.get("examples", {}).items()}
         for status, response in operation["responses"].items() if f"{method} {path}" == route else ():
             for content in response.get("content", {}).values():
                 for name, each in content.get("examples", {}).items():
                     request = each["x-request"]
-                    body = api.compact(request.get("body", bodies.get(name, "")))
+                    body = compact(request.get("body", bodies.get(name, "")))
                     yield name, each["summary"], request["from"], request["target"], body, status, each["value"]
 
 
-def body_told(first, body):
+def body_cell(first, body):
     """How a body differs from that of the section's first example."""
     if not body:
         return "with an empty body"
@@ -241,14 +244,14 @@ def body_told(first, body):
     return f"with `{body}`"
 
 
-def reply_told(status, value):
+def reply_cell(status, value):
     if "Error" in value:
         return f"{status} `{value['Error']}`"
-    compact = json.dumps(value, separators=(",", ":"), ensure_ascii=False)
-    decision = re.fullmatch(r'.*"Decision":"(\w+)".*"urn:oasis:names:tc:xacml:1.0:status:([\w-]+)"}}}]}', compact)
-    if decision and compact == api.decided(*decision.groups()):
+    body = compact(value)
+    decision = re.fullmatch(r'.*"Decision":"(\w+)".*"urn:oasis:names:tc:xacml:1.0:status:([\w-]+)"}}}]}', body)
+    if decision and body == response_body(*decision.groups()):
         return f"{status} {decision[1]} `{decision[2]}`"
-    return f"{status} `{compact}`"
+    return f"{status} `{body}`"
 
 
 def examples(route, page):
@@ -260,9 +263,9 @@ def examples(route, page):
     for name, summary, state, target, body, status, value in found:
         if name not in written:
             parts = [f"to `{target}`"] if target != first[3] else []
-            parts += [body_told(first[4], body)] if body != first[4] else []
+            parts += [body_cell(first[4], body)] if body != first[4] else []
             asked = " and ".join(parts) or "the same"
-            text += f"| `{name}` | {summary} | `{state}` | {asked} | {reply_told(status, value)} |\n"
+            text += f"| `{name}` | {summary} | `{state}` | {asked} | {reply_cell(status, value)} |\n"
     return text
 
 

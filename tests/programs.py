@@ -231,6 +231,10 @@ def compiled(name, level=OPTIMISED):
     return program
 
 
+def say(text):
+    print(text, file=sys.stderr, flush=True)
+
+
 def soonest(name):
     """The program that is there soonest: the proved one, or else one that is compiled without proof. If none is
     there yet, it tells what it compiles, and how long that took."""
@@ -239,7 +243,6 @@ def soonest(name):
     found = proved(name) or next(iter(kept), None)
     if found:
         return found
-    say = lambda text: print(text, file=sys.stderr, flush=True)
     say(f"# {name} isn't proved and built of these sources. It and the {len(tower(name)) - 1} crates below it are\n"
         "# compiled without proof, in some three minutes, and kept for the next time.")
     began = time.time()

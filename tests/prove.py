@@ -74,7 +74,7 @@ def memory_of(process):
     return 0
 
 
-def ends_with_us(behind=0):
+def die_with_parent(behind=0):
     """Has the process that is being started end when this one does, however it ends (PR_SET_PDEATHSIG), and
     stand back that much."""
     ctypes.CDLL(None).prctl(1, signal.SIGKILL)
@@ -103,7 +103,7 @@ class Watch:
     def minutes(self):
         return (time.time() - self.began) / 60
 
-    def hears(self, line):
+    def note(self, line):
         """Notes what a line of either run says of a crate."""
         found = re.match(r"rt: (\w+) (proved|is kept)\b", line)
         if found and found[2] == "proved":
@@ -122,22 +122,22 @@ class Run:
         self.watch, self.log, self.seen, self.last, self.waits = watch, log, set(), "", False
         how = {"stdin": subprocess.DEVNULL, "stdout": subprocess.PIPE, "stderr": subprocess.STDOUT, **how}
         self.process = subprocess.Popen(["rt", "ci", *names], cwd=folder, text=True, errors="replace",
-                                        preexec_fn=lambda: ends_with_us(behind), **how)
+                                        preexec_fn=lambda: die_with_parent(behind), **how)
 
     def read(self):
         """Reads its lines to their end, and gives its status."""
         for line in self.process.stdout:
             self.log.write(line)
             self.log.flush()
-            self.watch.hears(line)
+            self.watch.note(line)
             self.last = line.strip() or self.last
             self.waits = self.waits or line.endswith("waiting for it\n")
             if found := re.match(r"rt: (\w+) (?:proved|is kept|NOT PROVED)\b", line):
                 self.seen.add(found[1])
-                self.has_seen(len(self.seen))
+                self.on_crate_seen(len(self.seen))
         return self.process.wait()
 
-    def has_seen(self, number):
+    def on_crate_seen(self, number):
         """What follows once it has told of so many crates."""
 
     def has_begun(self):
@@ -170,8 +170,8 @@ class Ahead(Run):
         super().__init__(copied, forerunner.watch, forerunner.log, [name], env=surroundings)
         self.forerunner, self.name = forerunner, name
 
-    def has_seen(self, number):
-        self.forerunner.has_proved(self.name in self.seen)
+    def on_crate_seen(self, number):
+        self.forerunner.pause_judge_between_stages(self.name in self.seen)
 
 
 class Forerunner:
@@ -218,22 +218,25 @@ class Forerunner:
             shutil.copyfile(TOP / name, copied / name)
         self.log = open(self.folder / "log", "w")
         self.runs = [Ahead(self, copied, name) for name in STAGES[0]]
-        threading.Thread(target=self.goes_on, args=(copied,), daemon=True).start()
+        threading.Thread(target=self.run_stages, args=(copied,), daemon=True).start()
         wait_for(self.has_begun)
 
-    def goes_on(self, copied):
-        """Reads the runs of the first stage to their ends, and goes on with the others, as long as none fails."""
-        failed = self.have_failed()
-        for names in STAGES[1:]:
-            with self.turn:
-                if failed or self.is_stopped:
-                    break
-                self.runs = [Ahead(self, copied, name) for name in names]
-            threading.Thread(target=self.lets_judge_go_on, daemon=True).start()
-            failed = self.have_failed()
-        self.send_to_judge(signal.SIGCONT)
+    def run_stages(self, copied):
+        """Reads the runs of the first stage to their ends, and goes on with the others, as long as none fails.
+        However it ends, the judge goes on."""
+        try:
+            failed = self.wait_for_stage()
+            for names in STAGES[1:]:
+                with self.turn:
+                    if failed or self.is_stopped:
+                        break
+                    self.runs = [Ahead(self, copied, name) for name in names]
+                threading.Thread(target=self.resume_judge, daemon=True).start()
+                failed = self.wait_for_stage()
+        finally:
+            self.send_to_judge(signal.SIGCONT)
 
-    def have_failed(self):
+    def wait_for_stage(self):
         """Reads the stage's runs to their ends. Whether one fails."""
         with ThreadPoolExecutor(len(self.runs)) as pool:
             return any(pool.map(Ahead.read, self.runs))
@@ -243,12 +246,12 @@ class Forerunner:
         without a proof."""
         return all(run.has_begun() or run.has_ended() for run in self.runs)
 
-    def lets_judge_go_on(self):
+    def resume_judge(self):
         """Lets the judge go on once the stage has begun."""
         wait_for(self.has_begun)
         self.send_to_judge(signal.SIGCONT)
 
-    def has_proved(self, is_of_stage):
+    def pause_judge_between_stages(self, is_of_stage):
         """Stops the judge where that was the last crate of a stage and another stage follows: else the judge
         were first at the crates with which that one begins."""
         is_done = is_of_stage and all(run.name in run.seen for run in self.runs)
@@ -259,7 +262,7 @@ class Forerunner:
         if self.judge:
             self.judge.process.send_signal(number)
 
-    def told(self):
+    def log_tail(self):
         """The last lines that it wrote."""
         log = self.folder and self.folder / "log"
         lines = log.read_text(errors="replace").split("\n") if log and log.is_file() else ["nothing"]
@@ -293,7 +296,7 @@ class Judge(Run):
             return {}
         return {"RT_JOBS": str(len(os.sched_getaffinity(0)) // 2 + 1)}
 
-    def has_seen(self, number):
+    def on_crate_seen(self, number):
         # every crate is proved: nothing is left for the forerunner
         if number == len(programs.crates()):
             self.watch.mark("all proved")
@@ -339,7 +342,7 @@ def judged(watch):
         judge = Judge(watch, forerunner)
         status = judge.read()
         if status:
-            print(f"What the forerunner wrote last:\n{forerunner.told()}", flush=True)
+            print(f"What the forerunner wrote last:\n{forerunner.log_tail()}", flush=True)
         return status, judge.last
     finally:
         for run in (forerunner, judge):

@@ -34,8 +34,8 @@ UNAVAILABLE = fault("503 Service Unavailable", "Unavailable")
 
 def policy_of(rules, policy_id="urn:p", version="1.0", description=None):
     """A policy of these rules, which are JSON with commas between."""
-    told = "" if description is None else f'"Description":"{description}",'
-    return (f'{{"Policy":{{"PolicyId":"{policy_id}","Version":"{version}",{told}"RuleCombiningAlgId":'
+    described = "" if description is None else f'"Description":"{description}",'
+    return (f'{{"Policy":{{"PolicyId":"{policy_id}","Version":"{version}",{described}"RuleCombiningAlgId":'
             f'"urn:oasis:names:tc:xacml:3.0:rule-combining-algorithm:deny-overrides","Rule":[{rules}]}}}}')
 
 
@@ -52,3 +52,22 @@ def making(name, token, text=None, operator=OPERATOR):
              DONE), (message("POST", f"{at}/policies", token, text or policy()), CREATED),
             (message("PUT", f"{at}/policy/urn:p/1.0/active", token), DONE),
             (message("PUT", f"{at}/root", token, '{"PolicyIdReference":{"Id":"urn:p"}}'), DONE)]
+
+
+# ---- rows of the attribute source
+
+SOURCE_ROW = ('{"AttributeId":"a","Category":"urn:c","DataType":"http://www.w3.org/2001/XMLSchema#string",'
+              '"Entity":"e","Value":"%s"}')
+
+
+def rows_of(*values):
+    """The body that has a row with each of these values."""
+    return '{"Row":[%s]}' % ",".join(SOURCE_ROW % value for value in values)
+
+
+def rows_body(length):
+    """A body of so many bytes: rows with 1,800 letters each, and behind them one that takes the rest."""
+    values = ["x" * 1_800] * (length // 2_000)
+    body = rows_of(*values, "y" * (length - len(rows_of(*values, ""))))
+    assert len(body) == length
+    return body

@@ -5,7 +5,6 @@ import socket
 import struct
 import subprocess
 import threading
-import time
 
 from sent import (  # noqa: F401
     ABSENT, BAD_HEAD, CREATED, DONE, EXISTS, HEAD_TOO_LARGE, OPERATOR, UNAUTHORIZED, UNAVAILABLE, decided, fault,
@@ -105,16 +104,16 @@ class Served:
     the `with` statement."""
 
     def __init__(self, program, path, token_file, connections=MOST_CONNECTIONS, port=None, **more):
-        start = lambda chosen: self.start([program, "serve", path, f"127.0.0.1:{chosen}", token_file, str(connections)],
-                                          chosen, more)
-        start(port or free_port())
+        self.before, self.behind = [program, "serve", path], [token_file, str(connections)]
+        self.start(port or free_port(), more)
         for _ in range(MOST_STARTS - 1):
             if port or not self.port_is_taken():
                 break
-            start(free_port())
+            self.start(free_port(), more)
 
-    def start(self, words, port, more):
+    def start(self, port, more):
         self.port, self.said = port, b""
+        words = [*self.before, f"127.0.0.1:{port}", *self.behind]
         self.process = subprocess.Popen(words, stdin=subprocess.DEVNULL, stdout=subprocess.PIPE,
                                         stderr=subprocess.PIPE, **more)
         self.first_line = self.process.stdout.readline()
@@ -182,29 +181,3 @@ def answered(served, messages):
         reader.join()
         last = held[0].rfind(b"HTTP/1.1 ")
         return held[0][last:last + 12].decode()
-
-
-class Checks:
-    """What was expected and found."""
-
-    def __init__(self, name):
-        self.name, self.count, self.failed, self.began = name, 0, 0, time.time()
-
-    def expect(self, what, found, wanted):
-        self.count += 1
-        if found != wanted:
-            self.failed += 1
-            short = lambda it: repr(it)[:600]
-            print(f"FAILED {what}\n  found  {short(found)}\n  wanted {short(wanted)}")
-
-    def status(self):
-        print(f"{self.name}: {self.count - self.failed} passed, {self.failed} failed, "
-              f"in {time.time() - self.began:.0f} s")
-        return 1 if self.failed else 0
-
-
-def is_program(name, program):
-    if os.path.isfile(program):
-        return True
-    print(f"{name}: {program} is not there: `make prove` or `make pdpd` builds it")
-    return False

@@ -9,8 +9,7 @@ import threading
 import time
 import zlib
 
-from . import clients
-from .clients import Load, Makers, decision, many, message, once, status
+from .clients import Load, Makers, decision, many, message, once, policy, status
 from .machine import LIBRARY, sh, shards
 
 BACKUPS = 50
@@ -27,7 +26,7 @@ class Uploads:
 
     def upload(self, _number):
         number = next(self.turn)
-        text = clients.policy_text("Permit", f"urn:u{number}", "y" * 30_000)
+        text = policy("Permit", f"urn:u{number}", description="y" * 30_000)
         if status(once(message("POST", f"{self.at}/policies", self.token, text))) == 201:
             with self.lock:
                 self.kept[number] = text

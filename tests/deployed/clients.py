@@ -9,7 +9,7 @@ import threading
 import time
 
 sys.path.insert(0, str(pathlib.Path(__file__).resolve().parent.parent))
-from serving import Client, message  # noqa: E402
+from serving import Client, making, message, policy  # noqa: E402
 
 from .machine import PLAIN  # noqa: E402
 
@@ -80,6 +80,10 @@ class Operator:
             raise RuntimeError(f"the list of domains is answered with {reply}")
         return re.findall(r'"([a-z0-9-]+)"', reply[2].decode().partition("[")[2])
 
+    def is_answered(self):
+        """Whether the list of domains is there."""
+        return status(once(self.message("GET", ""))) == 200
+
     def clear(self):
         """Removes all domains."""
         for name in self.names():
@@ -88,25 +92,11 @@ class Operator:
     def makes(self, name, effect="Permit", text=None):
         """Makes a domain whose root has that effect, or is that text, and gives its ask."""
         token = f"{name}-token-1"
-        for data in self.making(name, token, text or policy_text(effect)):
+        for data, _ in making(name, token, text or policy(effect), self.token):
             found = status(once(data))
             if found not in (200, 201):
                 raise RuntimeError(f"{data[:60]} is answered with {found}")
         return message("POST", f"/domains/{name}/pdp", token, '{"Request":{}}')
-
-    def making(self, name, token, text):
-        at = f"/domains/{name}/pap"
-        yield self.creates(name)
-        yield self.message("POST", f"/{name}/tokens", f'{{"Role":"admin","Token":"{token}"}}')
-        yield message("POST", f"{at}/policies", token, text)
-        yield message("PUT", f"{at}/policy/urn:p/1.0/active", token)
-        yield message("PUT", f"{at}/root", token, '{"PolicyIdReference":{"Id":"urn:p"}}')
-
-
-def policy_text(effect="Permit", policy_id="urn:p", description=""):
-    rules = "urn:oasis:names:tc:xacml:3.0:rule-combining-algorithm:deny-overrides"
-    return (f'{{"Policy":{{"PolicyId":"{policy_id}","Version":"1.0","Description":"{description}",'
-            f'"RuleCombiningAlgId":"{rules}","Rule":[{{"RuleId":"r","Effect":"{effect}"}}]}}}}')
 
 
 def many(machine, count):
@@ -222,13 +212,13 @@ def wrk(script, connections, seconds, at=f"http://127.0.0.1:{PLAIN}"):
     bad = re.search(r"Non-2xx or 3xx responses: (\d+)", said)
     errors = re.search(r"Socket errors: .*", said)
     count = int(re.search(r"(\d+) requests in", said)[1])
-    quantile = lambda name: milliseconds(re.search(rf"\n +{name}% +(\S+)", said)[1])
+    middle, slow = (milliseconds(re.search(rf"\n +{part}% +(\S+)", said)[1]) for part in (50, 99))
     rate = float(re.search(r"Requests/sec: +(\S+)", said)[1])
     return {"count": count, "bad": int(bad[1]) if bad else 0, "errors": errors[0] if errors else "",
-            "rate": rate, "p50": quantile(50), "p99": quantile(99)}
+            "rate": rate, "p50": middle, "p99": slow}
 
 
-def shown(found):
+def in_a_line(found):
     """What wrk found, in a line."""
     return f"{found['rate']:.0f} asks/s, p50 {found['p50']:.1f} ms, p99 {found['p99']:.1f} ms"
 

@@ -7,8 +7,10 @@ import sys
 import threading
 import time
 
+from checks import Between
+
 from . import clients
-from .clients import Client, Deciders, Makers, decision, many, once, status
+from .clients import Client, Deciders, Makers, decision, many, once
 from .machine import LIBRARY, pid, sh, shards, wait_until
 
 KILLS = 20
@@ -55,7 +57,7 @@ def kills(machine, checks):
     checks.say(f"{KILLS} kills: {deciders.answered} decisions, the longest after {deciders.longest:.2f} s; {len(made)} "
                f"changes, {len(unanswered)} without an answer, of which {len(found & unanswered)} were made")
     checks.expect("no decision is lost, or another's", deciders.wrong, [])
-    checks.expect(f"none waits for long ({deciders.longest:.2f} s)", deciders.longest < 5, True)
+    checks.within("none waits for long: the seconds of the longest", deciders.longest, Between(0, 5))
     checks.expect("no change is made twice, or refused", makers.wrong, [])
     checks.expect("each change that was acknowledged is there", made - found, set())
     checks.expect("and none that nobody asked for", found - before - made - unanswered, set())
@@ -76,7 +78,7 @@ def stuck(machine, checks):
         checks.say(f"{what}: over after {took:.1f} s; the longest of {deciders.answered} decisions took "
                    f"{deciders.longest:.1f} s")
         checks.expect(f"{what}: no decision is lost", deciders.wrong, [])
-        checks.expect(f"{what} ends after {took:.1f} s", took < 9, True)
+        checks.within(f"{what}: the seconds until it ends", took, Between(0, 9))
     machine.set(RETRY=0)
 
 
@@ -128,8 +130,7 @@ def watched(machine, checks):
             found, _ = watchdog.found(settings.read(), 3)
         checks.expect(f"without a reply, and with connections taken after {delay} s", found, wanted)
     sh("sv up /etc/service/pdpd-3")
-    is_there = lambda: status(once(machine.operator.message("GET", ""))) == 200
-    wait_until(is_there, "the shard isn't there again")
+    wait_until(machine.operator.is_answered, "the shard isn't there again")
 
 
 def holding(machine, checks):
@@ -139,9 +140,8 @@ def holding(machine, checks):
     from operating import settings, talk
     machine.operator.clear()
     asks, now = many(machine, 8), settings.read()
-    in_one = lambda number: shards("where", f"d{number}").strip() == "1"
-    (ask, wanted), (beside, other) = (asks[next(filter(in_one, range(8)))],
-                                      asks[next(n for n in range(8) if not in_one(n))])
+    in_one = [shards("where", f"d{number}").strip() == "1" for number in range(8)]
+    (ask, wanted), (beside, other) = asks[in_one.index(True)], asks[in_one.index(False)]
     began = time.time()
     with settings.alone(now), talk.held(now, 1):
         reload = subprocess.Popen(["pdpd-shards", "reload"], stdout=subprocess.DEVNULL)

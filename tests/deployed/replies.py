@@ -5,7 +5,10 @@ import shutil
 import subprocess
 import time
 
-import api
+from api_parts.examples import PAGE, bytes_of, error_body
+from api_parts.page import read_page
+from api_parts.sending import OPERATOR_TOKEN, stepped
+from checks import Between
 
 from . import clients
 from .clients import Client, Load, message, once, read, status
@@ -24,17 +27,17 @@ OTHERWISE = {
 
 def examples(machine, checks):
     """Each example of docs/guide/API.md: every message before it, and its own, are answered as the page says."""
-    pages, _ = api.read_page((TOP / api.PAGE).read_text(encoding="utf-8"))
-    machine.change_token(api.OPERATOR_TOKEN)
+    pages, _ = read_page((TOP / PAGE).read_text(encoding="utf-8"))
+    machine.change_token(OPERATOR_TOKEN)
     for example in pages.examples.values():
-        if api.error_body("Unavailable").encode() in example.reply:
+        if error_body("Unavailable").encode() in example.reply:
             continue  # for want of memory
         machine.operator.clear()
-        before = [api.stepped(pages, step) for step in pages.states[example.state]]
+        before = [stepped(pages, step) for step in pages.states[example.state]]
         with Client(PLAIN) as client:
             for data, wanted in before:
                 checks.expect(f"before {example.name}: {data[:60]}", read(client.ask(data)), read(wanted))
-            found, wanted = read(client.ask(api.bytes_of(example.head, example.body))), read(example.reply)
+            found, wanted = read(client.ask(bytes_of(example.head, example.body))), read(example.reply)
         if example.name in OTHERWISE:
             wanted = OTHERWISE[example.name]
             found = found and (found[0], found[2])
@@ -76,21 +79,34 @@ def desk(machine, checks):
 
 # ---- odd requests
 
+def chunked(data):
+    return b"%x\r\n%b\r\n0\r\n\r\n" % (len(data), data)
+
+
+def many_fields(count):
+    return b"".join(b"\r\nX-%d: x" % number for number in range(count))
+
+
 def odd_requests(operator, ask):
     """Requests with the statuses that may come, by RFC 9110 and 9112 and by the page; None: just an end."""
     head, _, body = ask.partition(b"\r\n\r\n")
     line, _, fields = head.partition(b"\r\n")
     fields = b"\r\n" + fields
     bare = b"\r\n".join(it for it in fields.split(b"\r\n") if not it.startswith(b"Content-Length"))
-    listing = operator.message("GET", "")
-    shown = listing.split(b"\r\n")[1]
-    get = lambda version, more=b"": b"GET /operator/domains " + version + b"\r\n" + shown + more + b"\r\n\r\n"
-    post = lambda more, data=body: line + bare + more + b"\r\n\r\n" + data
-    chunked = lambda data: b"%x\r\n%b\r\n0\r\n\r\n" % (len(data), data)
-    coding = b"\r\nTransfer-Encoding: chunked"
-    put_in = lambda old, new: get(b"HTTP/1.1", b"\r\nHost: h").replace(old, new, 1)
-    upgrade = lambda to, more=b"": get(b"HTTP/1.1", b"\r\nConnection: Upgrade\r\nUpgrade: " + to + more)
-    many = lambda count: b"".join(b"\r\nX-%d: x" % number for number in range(count))
+    authorization, coding = operator.message("GET", "").split(b"\r\n")[1], b"\r\nTransfer-Encoding: chunked"
+
+    def get(version, more=b""):
+        return b"GET /operator/domains " + version + b"\r\n" + authorization + more + b"\r\n\r\n"
+
+    def post(more, data=body):
+        return line + bare + more + b"\r\n\r\n" + data
+
+    def put_in(old, new):
+        return get(b"HTTP/1.1", b"\r\nHost: h").replace(old, new, 1)
+
+    def upgrade(to, more=b""):
+        return get(b"HTTP/1.1", b"\r\nConnection: Upgrade\r\nUpgrade: " + to + more)
+
     return {
         "HTTP/1.0": (get(b"HTTP/1.0"), {505}),
         "HTTP/1.0 that wants to go on": (get(b"HTTP/1.0", b"\r\nConnection: keep-alive"), {505}),
@@ -98,7 +114,7 @@ def odd_requests(operator, ask):
         "HTTP/1.2": (get(b"HTTP/1.2"), {505}),
         "HTTP/3.0": (get(b"HTTP/3.0"), {505}),
         "no version": (get(b"HTTP"), {400}),
-        "HEAD": (b"HEAD /operator/domains HTTP/1.1\r\n" + shown + b"\r\nConnection: close\r\n\r\n", {405}),
+        "HEAD": (b"HEAD /operator/domains HTTP/1.1\r\n" + authorization + b"\r\nConnection: close\r\n\r\n", {405}),
         "a method in small letters": (get(b"HTTP/1.1").replace(b"GET", b"get"), {405}),
         "a method that is none": (get(b"HTTP/1.1").replace(b"GET", b"G(T"), {400}),
         "OPTIONS of all": (b"OPTIONS * HTTP/1.1\r\nHost: h\r\n\r\n", {400, 404, 405}),
@@ -119,10 +135,10 @@ def odd_requests(operator, ask):
         "lines that end with LF alone": (get(b"HTTP/1.1").replace(b"\r\n", b"\n"), {200, 400}),
         "empty lines before": (b"\r\n\r\n" + get(b"HTTP/1.1"), {200, 400}),
         "two hosts": (get(b"HTTP/1.1", b"\r\nHost: a\r\nHost: b"), {200, 400}),
-        "two tokens": (get(b"HTTP/1.1", b"\r\n" + shown), {401}),
-        "63 fields": (get(b"HTTP/1.1", many(62)), {200}),
-        "64 fields": (get(b"HTTP/1.1", many(63)), {431}),
-        "120 fields": (get(b"HTTP/1.1", many(119)), {431}),
+        "two tokens": (get(b"HTTP/1.1", b"\r\n" + authorization), {401}),
+        "63 fields": (get(b"HTTP/1.1", many_fields(62)), {200}),
+        "64 fields": (get(b"HTTP/1.1", many_fields(63)), {431}),
+        "120 fields": (get(b"HTTP/1.1", many_fields(119)), {431}),
         "a field of 16,384 bytes": (get(b"HTTP/1.1", b"\r\nCookie: " + b"x" * 16_384), {431}),
         "a target of 16,300 bytes": (put_in(b"domains", b"domains?" + b"x" * 16_300), {431}),
         "a blank in the target": (put_in(b"domains", b"dom ains"), {400}),
@@ -170,10 +186,10 @@ def odd(machine, checks):
     ask = operator.makes("acme")
     for name, (data, wanted) in odd_requests(operator, ask).items():
         found = odd_reply(data)
-        checks.expect(f"odd: {name}: {found}", found in wanted, True)
+        checks.within(f"odd: {name}", found, wanted)
         began = time.time()
         checks.expect(f"behind {name}", clients.decision(once(ask)), "Permit")
-        checks.expect(f"behind {name}, how soon", time.time() - began < 1, True)
+        checks.within(f"behind {name}: after how many seconds", time.time() - began, Between(0, 1))
     with Client(PLAIN) as client:
         client.send(ask * 50)
         checks.expect("50 at once", [clients.decision(client.reply()) for _ in range(50)], ["Permit"] * 50)
@@ -251,15 +267,14 @@ def listing(machine, checks):
     time.sleep(0.3)
     began = time.time()
     checks.expect("with a shard away", status(once(operator.message("GET", ""))), 503)
-    checks.expect("how soon", time.time() - began < 14, True)
+    checks.within("after how many seconds", time.time() - began, Between(0, 14))
     name = next(name for name in names if shards("where", name).strip() == "2")
     with Load(lambda _number: impatient(operator.creates(name)), 6):
         time.sleep(4)
         sh("sv up /etc/service/pdpd-2")
-        is_there = lambda: status(once(operator.creates(name))) == 409
-        wait_until(is_there, "beside impatient clients the queue stands still", 14)
-    is_there = lambda: status(once(operator.message("GET", ""))) == 200
-    wait_until(is_there, "the list isn't there again", 14)
+        wait_until(lambda: status(once(operator.creates(name))) == 409,
+                   "beside impatient clients the queue stands still", 14)
+    wait_until(operator.is_answered, "the list isn't there again", 14)
     admin("add map /etc/haproxy/domains.map lost 63")
     checks.expect("a shard that isn't there", status(once(operator.creates("lost"))), 503)
     checks.expect("and nothing is made", operator.names(), names)

@@ -1,6 +1,8 @@
 """Clients that are slow, and domains that ask too much: nobody waits for them."""
 import time
 
+from checks import Between
+
 from . import clients
 from .clients import Client, decision, many, message, once, status
 from .machine import PLAIN, shards
@@ -29,11 +31,11 @@ def slow(machine, checks):
     for kind in ("none", "silent", "head", "body"):
         held = slow_clients(kind, asks[0][0])
         found = clients.wrk(script, 100, 4)
-        checks.say(f"{kind}: {clients.shown(found)}")
+        checks.say(f"{kind}: {clients.in_a_line(found)}")
         checks.expect(f"{kind}: all are answered with success", (found["bad"], found["errors"]), (0, ""))
         checks.expect(f"{kind}: none waits for seconds", (found["rate"] > 300, found["p99"] < 2000), (True, True))
         for client in held:
-            checks.expect(f"{kind}: a slow one", status(client.all()) in (408, None), True)
+            checks.within(f"{kind}: a slow one", status(client.all()), [408, None])
             client.close()
 
 
@@ -54,12 +56,15 @@ def makes_large(machine):
     machine.operator.makes("large", text=text)
 
 
+def shard_of(name):
+    return shards("where", name).strip()
+
+
 def slow_readers(machine, checks):
     """Nobody who doesn't read a reply holds a shard; and a reply of over a million bytes is refused."""
     machine.operator.clear()
     makes_large(machine)
-    where = lambda name: shards("where", name).strip()
-    beside = next(f"b{number}" for number in range(99) if where(f"b{number}") == where("large"))
+    beside = next(f"b{number}" for number in range(99) if shard_of(f"b{number}") == shard_of("large"))
     ask = machine.operator.makes(beside)
     held = []
     for _ in range(5):
@@ -69,9 +74,9 @@ def slow_readers(machine, checks):
         held.append(client)
     time.sleep(0.3)
     found = clients.wrk(clients.script_of(machine.folder / "beside.lua", [ask]), 100, 3)
-    checks.say(f"beside 5 slow readers, on their shard: {clients.shown(found)}")
+    checks.say(f"beside 5 slow readers, on their shard: {clients.in_a_line(found)}")
     checks.expect("100 clients beside slow readers", (found["bad"], found["errors"]), (0, ""))
-    checks.expect("none of them waits for seconds", found["p99"] < 2000, True)
+    checks.within("the milliseconds that 99 of 100 of them wait", found["p99"], Between(0, 2000))
     for client in held:
         client.close()
     checks.expect("720,000 bytes", decision(once(ask_of_large(12))), "Permit")

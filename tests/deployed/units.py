@@ -6,7 +6,9 @@ import shutil
 import sqlite3
 import subprocess
 
-from .clients import Deciders, Makers, Operator, many, once, policy_text
+from checks import Between
+
+from .clients import Deciders, Makers, making, many, once
 from .clients import status as status_of
 from .machine import LIBRARY, PAGE, SETTINGS, TOP, pid, sh, shards
 
@@ -25,7 +27,7 @@ def walk(machine, checks):
     for command, said in machine.walk():
         count += 1
         checks.say(f"$ {command}" + "".join(f"\n    {line}" for line in said.splitlines()[-3:]))
-    checks.expect(f"{count} commands and that of the packages", count <= 9, True)
+    checks.within("commands, beside that of the packages", count, range(10))
     listed = sh(f'{CURL} -H "Authorization: Bearer $(cat /etc/pdpd/token)" {DOMAINS}')
     checks.expect("the list over TLS", listed, '{"Domain":["acme"]}')
     second = sh(f'{CURL} --http1.1 -o /dev/null -w "%{{http_code}}" {DOMAINS}')
@@ -110,7 +112,7 @@ def installed(machine, checks):
     checks.expect("a program that is another", "FAILED" in said, True)
     with open(folder / "pdpd", "r+b") as program:
         program.truncate(os.path.getsize(folder / "pdpd") - 1)
-    checks.expect("the archive", archive.stat().st_size > 10_000, True)
+    checks.within("the bytes of the archive", archive.stat().st_size, Between(10_001))
     drawn = sh(f"{TOP}/deploy/draw.py --show")
     checks.expect("the drawing is that of its text", drawn, (TOP / "docs" / "guide" / "deployment.svg").read_text())
 
@@ -122,17 +124,16 @@ def calls(machine, checks):
     (at / "shards.conf").write_text(f"DATA={at}\nFIRST_PORT={TRACED}\n")
     surroundings = {**os.environ, "PDPD_SETTINGS": str(at / "shards.conf"), "LC_ALL": "C"}
     words = ["strace", "-f", "-o", at / "trace", LIBRARY / "pdpd-run", "0"]
-    operator = Operator(pathlib.Path("/etc/pdpd/token").read_text().strip())
-    messages = operator.making("acme", "acme-token-1", policy_text())
+    messages = making("acme", "acme-token-1", operator=pathlib.Path("/etc/pdpd/token").read_text().strip())
     with subprocess.Popen(words, env=surroundings, stdout=subprocess.PIPE) as traced:
         traced.stdout.readline()
         try:
-            answers = [status_of(once(data, TRACED)) for data in messages]
+            answers = [status_of(once(data, TRACED)) for data, _ in messages]
         finally:
             sh(f"kill $(cat /proc/{traced.pid}/task/{traced.pid}/children)")
     checks.expect("its answers", answers, [201, 200, 201, 200, 200])
     made = set(re.findall(r"(?m)^\d+ +(\w+)\(", (at / "trace").read_text()))
-    checks.expect("it makes system calls", {"execve", "fdatasync", "accept4"} <= made, True)
+    checks.expect("it makes system calls: those that it doesn't", {"execve", "fdatasync", "accept4"} - made, set())
     checks.expect("and none that the unit forbids", sorted(made - allowed_by(unit)), [])
 
 
@@ -145,7 +146,10 @@ def allowed_by(unit):
             name = word
         elif word and not word.startswith("#"):
             sets.setdefault(name, []).append(word)
-    members = lambda word: set().union(*map(members, sets[word])) if word in sets else {word}
+
+    def members(word):
+        return set().union(*map(members, sets[word])) if word in sets else {word}
+
     allowed = set()
     for line in re.findall(r"(?m)^SystemCallFilter=(.*)", unit):
         named = set().union(*map(members, line.lstrip("~").split()))
@@ -165,9 +169,9 @@ def certificate(machine, checks):
     openssl req -x509 -newkey ec -pkeyopt ec_paramgen_curve:P-256 -nodes -days 30 -subj /CN=localhost \
         -addext subjectAltName=DNS:localhost -keyout pdpd.key -out pdpd.crt 2>&1; cat pdpd.crt pdpd.key > pdpd.pem""")
     shards("reload")
-    code = lambda trusted: sh(f'curl --silent --cacert {trusted} -o /dev/null -w "%{{http_code}}" {DOMAINS} || true')
-    found = code("/etc/haproxy/pdpd.crt"), code(machine.folder / "old.crt")
-    checks.expect("the new certificate, and the old one", found, ("401", "000"))
+    found = [sh(f'curl --silent --cacert {trusted} -o /dev/null -w "%{{http_code}}" {DOMAINS} || true')
+             for trusted in ("/etc/haproxy/pdpd.crt", machine.folder / "old.crt")]
+    checks.expect("the new certificate, and the old one", found, ["401", "000"])
 
 
 def upgrade(machine, checks):
@@ -181,7 +185,7 @@ def upgrade(machine, checks):
     with Deciders(asks, 6) as deciders, Makers(machine.operator, "u") as makers:
         sh(f"mkdir {machine.folder}/again && tar xf {archive} -C {machine.folder}/again")
         sh(f"{machine.folder}/again/pdpd-*/deploy/install /usr/local")
-        told = shards("upgrade")
+        said = shards("upgrade")
     checks.expect("no decision is lost, or another's", deciders.wrong, [])
     checks.expect("no change is lost, or made twice", makers.wrong + makers.unanswered, [])
     made = set(makers.acknowledged)
@@ -189,7 +193,7 @@ def upgrade(machine, checks):
     checks.expect("what still runs as before", [name for name in names if service(name) == before[name]], [])
     runs = {os.path.samefile(f"/proc/{pid(shard)}/exe", LIBRARY / "pdpd") for shard in range(4)}
     checks.expect("all shards run what is installed", runs, {True})
-    checks.expect("each is told", told.count("is restarted"), 4)
+    checks.expect("each is told", said.count("is restarted"), 4)
     checks.say(f"an upgrade: {deciders.answered} decisions, the longest after {deciders.longest:.2f} s, and "
                f"{len(made)} changes")
     another_schema(machine, checks)
@@ -213,7 +217,7 @@ def another_schema(machine, checks):
     ran = subprocess.run(words, capture_output=True, text=True, check=False, timeout=20)
     found = ran.returncode, "not a store of this program (schema)" in ran.stderr
     checks.expect(f"another schema: {ran.stderr}", found, (4, True))
-    checks.expect("and the file stays", (folder / "pdpd.db").read_bytes() == before, True)
+    checks.expect("and the file stays", (folder / "pdpd.db").read_bytes(), before)
 
 
 def status(machine, checks):

@@ -71,24 +71,24 @@ def body_of(reply):
     return reply.partition(b"\r\n\r\n")[2]
 
 
-def places_of(tree):
+def nodes_of(tree):
     """The policies, sets and references of a tree that have no document."""
-    return 1 if tree == LEAF else 1 + sum(map(places_of, tree.children))
+    return 1 if tree == LEAF else 1 + sum(map(nodes_of, tree.children))
 
 
-def places(deciders):
-    """The places of the tree that decides; none where there is no root, or its tree is too large."""
+def nodes(deciders):
+    """The nodes of the tree that decides; none where there is no root, or its tree is too large."""
     if deciders.root is None:
         return 0
     try:
-        return places_of(linked(deciders.active, deciders.root))
+        return nodes_of(linked(deciders.active, deciders.root))
     except TooLarge:
         return 0
 
 
 def size_of_view(state):
     """The memory that a view of the domain takes, by the server's estimate."""
-    return 8 * sum(map(len, texts_read(state))) + 512 * len(state.rows) + 24 * places(view(state)) + 524_288
+    return 8 * sum(map(len, texts_read(state))) + 512 * len(state.rows) + 24 * nodes(view(state)) + 524_288
 
 
 def texts_read(state):

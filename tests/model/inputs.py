@@ -131,7 +131,7 @@ COMMANDS = {
     "list": "List",
     "root": "SetRoot",
     "source": "SetSource",
-    "rows": "Source",
+    "rows": "ShowSource",
     "document": "Show",
     "delete": "Delete",
     "activate": "Activate",

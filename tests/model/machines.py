@@ -154,7 +154,7 @@ def set_source(state, asked):
     return DONE, state._replace(rows=rows)
 
 
-def source(state, _):
+def show_rows(state, _):
     return reply(200, rows_shown(state.rows)), state
 
 
@@ -172,7 +172,7 @@ COMMANDS = {
     "deactivate": set_active(False),
     "root": set_root,
     "source": set_source,
-    "rows": source,
+    "rows": show_rows,
 }
 
 

@@ -7,7 +7,7 @@ import itertools
 
 from combining import BY_DECISIONS
 from contexts import CLOCK, ENVIRONMENT, Context, moment_as
-from expressions import FALSE, TRUE, Matching, first_of, listed, status
+from expressions import FALSE, TRUE, Evaluation, Matching, first_of, listed, status
 from functions import BAG_FUNCTIONS, FUNCTIONS, HIGHER_ORDER, bag_function_named, boolean
 from json_texts import NotJson
 from linking import TooLarge, linked
@@ -220,7 +220,7 @@ def is_at_once(verb, inner, arguments):
     return compares and verb in ("any-of-any", "all-of-any", "all-of-all") and len(arguments) == 2 and all(isinstance(held, list) for _, held in arguments)
 
 
-class Charged:
+class Charged(Evaluation):
     """The values of expressions, as each step to them is charged."""
 
     def __init__(self, context, definitions=()):
@@ -298,17 +298,6 @@ class Charged:
             if self.value(argument)[1] == stop:
                 return boolean(stop)
         return boolean(not stop)
-
-    def n_of(self, count, *arguments):
-        wanted = self.value(count)[1]
-        if not 0 <= wanted <= len(arguments):
-            raise Fault("Position")
-        found = 0
-        for left in range(len(arguments), 0, -1):
-            if found == wanted or found + left < wanted:
-                break
-            found += self.value(arguments[-left])[1]
-        return boolean(found == wanted)
 
     def higher(self, verb, inner, arguments):
         self.spend(LIST)

@@ -1,0 +1,171 @@
+"""Inputs that a tenant may send or upload, of a size: rows for the program xa_trials."""
+from functools import partial
+
+from functions import V1, V3
+from unit_documents import (
+    apply, designator, literal, match, policy, policy_set, rule, target, to_policy, to_set, written)
+from worst_ends import MOST_DOCUMENT, ask, to_ones
+
+# how much more time twice the size may take
+LINEAR = 2.7
+
+
+# ---- functions
+
+def higher(function, called, first, second):
+    """A function of a function over two bags of so many values."""
+    def row(size):
+        bags = [[f"bag:{data_type}", *map(value, range(size))] for data_type, value in (first, second)]
+        return ["higher", function, called, *bags[0], *bags[1]]
+    return row
+
+
+def integers(start):
+    return ("integer", lambda i: f"+{start + i}")
+
+
+def all_equal(value):
+    return ("integer", lambda i: f"+{value}")
+
+
+def texts(start):
+    return ("string", lambda i: f"+a text that is somewhat longer {start + i}")
+
+
+def choices(called, *first):
+    """Any-of-any over so many bags of two values, after a bag of so many numbers where the function takes one."""
+    return lambda size: ["higher", V3 + "any-of-any", V1 + called, *first, *["+1"] * (size if first else 0),
+                         *["bag:boolean", "+false", "+false"] * size]
+
+
+def contains(size):
+    return ["apply", V3 + "string-contains", "string:" + "a" * size + "b", "string:" + "a" * (4 * size)]
+
+
+def variables(size):
+    """An expression that names each of so many variables, and each of these the one before it."""
+    fields = ["let:v0", "integer:1"]
+    for place in range(1, size):
+        fields += [f"let:v{place}", f"({V1}integer-abs", f"variable:v{place - 1}", ")"]
+    return ["evaluate", *fields, f"({V1}integer-add", *(f"variable:v{place}" for place in range(size)), ")"]
+
+
+# ---- documents
+
+def lost_references(size):
+    """A set with references to one set so often that the tree has 1,000, each with this many references that lead to
+    nothing."""
+    documents = [policy_set("s", [to_set("t")] * 999), policy_set("t", [to_set("none")] * size),
+                 *(policy(f"p{i}") for i in range(1_020))]
+    return ["link", "set|s|||", *map(written, documents)]
+
+
+def versions(size, count=250, wanted="1.{}"):
+    """A root of this many references to so many versions of a policy, by patterns."""
+    documents = []
+    for minor in range(count):
+        document = policy("p")
+        document["Policy"]["Version"] = f"1.{minor}"
+        documents.append(document)
+    children = [{"PolicyIdReference": {"Id": "p", "Version": wanted.format(i % count)}} for i in range(size)]
+    return ["link", "set|s|||", *map(written, [policy_set("s", children), *documents])]
+
+
+def decide(documents, root, request):
+    return ["decide", *("active:" + written(draft) for draft in documents), f"root:{root}", written(request)]
+
+
+def obligations_carried(size):
+    """So many obligations, carried up through 120 nested sets."""
+    duty = {"ObligationId": "urn:o", "FulfillOn": "Permit"}
+    documents, child = [policy("end", Rule=[rule()], ObligationExpressions=[duty] * size)], to_policy("end")
+    for level in range(15):
+        for place in range(7):
+            child = policy_set(f"inner{place}", [child])
+        documents.append(policy_set(f"s{level}", [child]))
+        child = to_set(f"s{level}")
+    return decide(documents, "set|s14|||", {"Request": {}})
+
+
+def policies_named(size):
+    """A set of so many references to one policy, and 64 individual requests that ask which policies led to their
+    decisions."""
+    references = {"RequestReference": [{"ReferenceId": []}] * 64}
+    request = {"Request": {"ReturnPolicyIdList": True, "MultiRequests": references}}
+    return decide([to_ones(size), policy("p", Rule=[rule()])], "set|s|||", request)
+
+
+def request_of(values):
+    """A request of one resource, whose attribute has these values."""
+    return {"Request": {"Resource": {"Attribute": [{"AttributeId": "urn:a", "Value": values}]}}}
+
+
+def matches(function, count, values):
+    """A policy of so many matches that are all false, on a bag of so many texts."""
+    draft = policy("p", Target=target(match(function, "string", "value none", "urn:a"), alternatives=count))
+    assert len(written(draft)) <= MOST_DOCUMENT
+    return decide([draft], "policy|p|||", request_of([f"value {i}" for i in range(values)]))
+
+
+def bag_named(count, values):
+    """A condition that names a bag of so many integers so often, and looks in it for one that it hasn't."""
+    each = apply(V1 + "integer-is-in", literal("integer", 2), designator("urn:a", "integer"))
+    draft = policy("p", Rule=[rule(Condition=apply(V1 + "or", *[each] * count))])
+    assert len(written(draft)) <= MOST_DOCUMENT
+    return decide([draft], "policy|p|||", request_of([1] * values))
+
+
+# ---- messages
+
+def head(size):
+    """A head of so many bytes that comes a byte a piece."""
+    text = "GET / HTTP/1.1\\r\\n" + "x:yyyyyyyyyyyyyyyyyyyyyyyyyyyyyyyyyyyyyyyyyyyyyyyyyyyyyyyyyyyyyyyyyyy"
+    pieces, at = [], 0
+    while len(pieces) < size:
+        step = 2 if text[at % len(text)] == "\\" else 1
+        pieces.append(text[at:at + step] if at < len(text) else "y")
+        at += step
+    return ["stream", *pieces]
+
+
+def asks_at_once(count):
+    """So many asks in one piece."""
+    text = ask({"Request": {}}).removeprefix("piece:")
+    return ["server_in_memory", "domain:acme", "ask:acme-token-1", "document:" + written(policy("p")),
+            "root:policy|p|||", "piece:" + text * count]
+
+
+EQUAL, STARTS = V1 + "string-equal", V3 + "string-starts-with"
+# what it is, its row of a size, a size, and how much more time twice that may take
+LINES = [
+    ("any-of-any of equal integers, two bags of n",
+     higher(V3 + "any-of-any", V1 + "integer-equal", integers(0), integers(10**6)), 80_000, LINEAR),
+    ("any-of-any of equal texts, two bags of n",
+     higher(V3 + "any-of-any", V1 + "string-equal", texts(0), texts(10**6)), 40_000, LINEAR),
+    ("all-of-any of equal integers, two bags of n",
+     higher(V1 + "all-of-any", V1 + "integer-equal", integers(0), integers(0)), 80_000, LINEAR),
+    ("all-of-all of equal integers, two bags of n",
+     higher(V1 + "all-of-all", V1 + "integer-equal", all_equal(7), all_equal(7)), 160_000, LINEAR),
+    ("any-of-any by order, two bags of n",
+     higher(V3 + "any-of-any", V1 + "integer-greater-than", integers(0), integers(10**6)), 160_000, LINEAR),
+    ("all-of-all by order, two bags of n",
+     higher(V1 + "all-of-all", V1 + "integer-less-than", integers(0), integers(10**6)), 160_000, LINEAR),
+    ("any-of-any of or over n bags of two", choices("or"), 80_000, LINEAR),
+    ("any-of-any of and over n bags of two", choices("and"), 80_000, LINEAR),
+    ("any-of-any of n-of by n numbers over n bags of two", choices("n-of", "bag:integer"), 80_000, LINEAR),
+    ("string-contains, n in 4n", contains, 500_000, LINEAR),
+    ("an expression that names n variables", variables, 8_000, LINEAR),
+    ("a tree of 1,000 sets with n references each that lead nowhere", lost_references, 600, LINEAR),
+    ("a root of n references over 250 versions", versions, 250, LINEAR),
+    ("a root of n references that look at 1,000 versions in vain", partial(versions, count=1_000, wanted="*.1.{}"),
+     600, LINEAR),
+    ("n obligations through 120 nested sets", obligations_carried, 500, LINEAR),
+    ("n policies that each of 64 individuals names", policies_named, 499, LINEAR),
+    ("a head of n bytes, a byte a piece", head, 4_000, LINEAR),
+    ("256 matches by equality on a bag of n texts", partial(matches, EQUAL, 256), 40_000, LINEAR),
+    ("n matches by equality on a bag of 80,000 texts", partial(matches, EQUAL, values=80_000), 128, LINEAR),
+    ("n namings of a bag of 130,000 integers", partial(bag_named, values=130_000), 64, LINEAR),
+    ("130 namings of a bag of n integers", partial(bag_named, 130), 65_000, LINEAR),
+    ("n asks in one piece", asks_at_once, 2_000, LINEAR),
+    ("200 matches by string-starts-with on a bag of n texts", partial(matches, STARTS, 200), 5_000, LINEAR),
+]

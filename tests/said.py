@@ -1,0 +1,49 @@
+"""What the program says on standard error (docs/guide/RUNNING.md): whole lines, and what it advises about a subject."""
+
+USAGE = (b"usage: pdpd serve DATABASE ADDRESS TOKEN-FILE CONNECTIONS, or pdpd replay OPERATOR-TOKEN "
+         b"(8 to 64 visible ASCII characters); pdpd --help says more\n")
+FAILED = b"pdpd: standard input or output failed\n"
+NO_MEMORY, NO_MEMORY_TO_SERVE = b"pdpd: out of memory\n", b"pdpd serve: out of memory\n"
+NO_OUTPUT = b"pdpd serve: standard output failed\n"
+
+# ---- settings of the environment
+
+WORK_BAD = b"pdpd serve: PDPD_WORK is to be a number of units of work, or 0 for no limit\n"
+REPLY_BAD = b"pdpd serve: PDPD_REPLY is to be a number of bytes, or 0 for no limit\n"
+READING_BAD = b"pdpd serve: PDPD_READING is to be a number of bytes of policies, or 0 for no limit\n"
+VIEWS_BAD = b"pdpd serve: PDPD_VIEWS is to be a number of bytes of memory, or 0 for none\n"
+IDLE_BAD = b"pdpd serve: PDPD_IDLE is to be a number of seconds, or 0 for no limit\n"
+
+# ---- the token file and the address
+
+TOKEN_UNREAD = "can't be read; its first line is to be the operator's token (8 to 64 visible ASCII characters)"
+TOKEN_BAD = "its first line is no token (8 to 64 visible ASCII characters)"
+SHARED = "others than its owner can read the operator's token; chmod 600"
+ADDRESS_BAD = "not an IP address, `:` and a port, such as 127.0.0.1:8080"
+TAKEN = "no connections can be taken there; another program may have the port, or this machine another address"
+NOT_TAKEN = "taking a connection failed; start the program again"
+
+# ---- the store
+
+NO_DATABASE = "not a database of SQLite that can be read; name another file"
+SCHEMA = "not a store of this program (schema); name another file"
+ROW = "a row of the store is damaged; put back a backup"
+OTHER_TABLES = ("other tables, indexes or views stand beside the program's, or its own were made otherwise; "
+                "it is served, but nothing is proved of what is kept there")
+NO_FOLDER = "can't be opened; its folder isn't there, make that first"
+UNOPENED = ("can't be opened; it has to be a file, and this user has to be allowed to read and write it, "
+            "and to write in its folder")
+BUSY = "in use: another program has it open; stop that one first"
+LOG_ALONE = ("the file isn't there, or is empty, and a store's log is (-wal); put the file back, "
+             "or move the log away to begin a new store")
+FILE_ALONE = ("the file has no tables, and its log isn't there (-wal); put the log back, "
+              "or move the file away to begin a new store")
+NO_LOG = ("its log isn't there (-wal); if the file wasn't closed, by `pdpd` or by SQLite, "
+          "the last changes are missing")
+OPEN_FILE = "others than its owner can read what is kept; chmod 600, and its log too (-wal)"
+SHUT = "writing or reading it failed, and it can't go on; look after the disk, then start the program again"
+
+
+def line(subject, advice):
+    """The line of `pdpd serve` about a file, an address or a word."""
+    return f"pdpd serve: {subject}: {advice}\n".encode()
