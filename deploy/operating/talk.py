@@ -22,6 +22,8 @@ LEASE = 10
 TURN = 0.02
 # after how long a process of HAProxy has gone once another has begun (`hard-stop-after`)
 HARD_STOP = 15
+# what is raised if there is no reply, or a part of one alone
+NO_REPLY = OSError, http.client.HTTPException
 
 
 class OtherToken(Wrong):
@@ -72,7 +74,7 @@ def is_up(settings, shard, timeout=5.0):
     try:
         # without a token: 401
         return asked(settings, shard, "GET", "/operator/domains", "-", timeout=timeout)[0] == 401
-    except OSError:
+    except NO_REPLY:
         return False
 
 
@@ -92,7 +94,7 @@ def wait_for_turn(settings, shard):
         began = time.time()
         try:
             status, _ = asked(settings, shard, "GET", "/operator/domains", "-", in_turn=True)
-        except OSError:
+        except NO_REPLY:
             status = 0
         if status == 401:
             return
@@ -109,9 +111,10 @@ def domains_of(settings, shard):
     """The names of the domains that a shard has."""
     try:
         status, body = asked(settings, shard, "GET", "/operator/domains", settings.operator())
-    except OSError as fault:
-        raise Wrong(f"HAProxy doesn't answer at {settings.haproxy_run}/inner.sock ({fault.strerror or fault}): it "
-                    "doesn't run, or its log says why") from None
+    except NO_REPLY as fault:
+        why = getattr(fault, "strerror", None) or fault
+        raise Wrong(f"HAProxy doesn't answer at {settings.haproxy_run}/inner.sock ({why}): it doesn't run, or its log "
+                    "says why") from None
     if status == 401:
         raise OtherToken(f"shard {shard} was started with another operator's token: pdpd-shards restart {shard}")
     if status != 200:

@@ -3,8 +3,9 @@
 Each second each shard is asked for a decision through HAProxy, before all others in its queue: so the
 question waits for the message that is being answered, and for no other. Stuck is a program that takes
 connections and gives no reply for five seconds, which is more than a message may take under the limit of
-work. Its process is killed; what it has answered is kept. A shard that takes no connections is down, or
-still opening its file: its supervisor's affair. So is one that has begun to take them meanwhile.
+work that is set by default. Its process is killed; what it has answered is kept. A shard that takes no
+connections is down, or still opening its file: its supervisor's affair. So is one that has begun to take
+them meanwhile.
 """
 import contextlib
 import os
@@ -41,8 +42,8 @@ def found(settings, shard):
         status, _ = talk.asked(settings, shard, "POST", path, "-", timeout=LIMIT, body=b"{}")
     except TimeoutError:
         status = 504
-    except OSError:
-        return "down", before  # HAProxy isn't there
+    except talk.NO_REPLY:
+        return "down", before  # HAProxy isn't there, or has cut its reply
     if status == 504:
         # (the question may have waited for a program that has only just begun)
         is_same = before and listening(settings.port(shard)) == before
@@ -64,20 +65,26 @@ def tell(what):
     sys.stderr.flush()
 
 
+def look(shard, before):
+    """Looks at a shard, tells if it is otherwise than before, kills what is stuck, and gives how it is now."""
+    settings = setting.read()
+    now, socket = found(settings, shard)
+    if now != before:
+        tell(f"shard {shard} is {now}")
+    if now == "stuck":
+        kill(settings, shard, socket)
+    return now
+
+
 def watch(shard):
     """Watches a shard for ever."""
-    before = "up"
+    now = "up"
     while True:
-        settings = setting.read()
-        now, socket = found(settings, shard)
-        if now != before:
-            tell(f"shard {shard} is {now}")
-        if now == "stuck":
-            try:
-                kill(settings, shard, socket)
-            except (setting.Wrong, OSError) as fault:
-                tell(fault)
-        before = now
+        try:
+            now = look(shard, now)
+        except Exception as fault:  # pylint: disable=broad-exception-caught
+            # a thread that ended would leave its shard unwatched
+            tell(f"shard {shard} wasn't looked at: {fault!r}")
         time.sleep(PAUSE)
 
 

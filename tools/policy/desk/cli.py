@@ -115,7 +115,7 @@ def print_asked(options: argparse.Namespace, answer: ask.Answer, moment: int, re
         return
     print_remarks(remarks)
     if answer.is_refused:
-        print(f'400 Bad Request: {{"Error":"{answer.body[1:]}"}}')
+        print(answer.refusal)
         return
     print(laid_out.shown(answer.results()))
     print(f"\nat {setting.moment_shown(moment)}, by "
@@ -135,7 +135,7 @@ def print_explained(options: argparse.Namespace, answer: ask.Answer, shown: list
         return
     print_remarks(remarks)
     if answer.is_refused:
-        print(f'400 Bad Request: {{"Error":"{answer.body[1:]}"}}')
+        print(answer.refusal)
     elif shown is None:
         print(laid_out.shown(answer.results()))
         print("    because: the request as a whole isn't decided: it is no request of the profile, "

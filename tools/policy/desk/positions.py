@@ -64,7 +64,7 @@ class Node:
 
     @property
     def place(self) -> Place:
-        """Where the letter at the offset stands."""
+        """Where the value begins."""
         return self.source.place(self.start)
 
     @property

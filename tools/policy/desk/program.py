@@ -119,7 +119,7 @@ def built() -> int:
         print(f"{name} is proved, and of these sources.")
         return 0
     if shutil.which("rt") is None:
-        print("The toolchain's command rt isn't on the path: see CONTRIBUTING.md.")
+        print("The toolchain's command rt isn't on the path: see README.md, What it stands on.")
         return 1
     print("Proving and building xa_trials; from nothing this takes long, after small changes a minute.", flush=True)
     made_of = programs.begun([CRATE.name])

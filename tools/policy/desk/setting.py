@@ -81,7 +81,7 @@ class Setting:
         """The tree of the root; None without a root, or where it is too large."""
         try:
             return None if self.root is None else linking.linked(self.active, self.root)
-        except linking.TooLarge:
+        except (linking.TooLarge, linking.TooManyLooks):
             return None
 
     def fields(self) -> list[str]:
