@@ -210,8 +210,10 @@ def main():
     steps = Steps()
     pdpd, xa_trials = (Program(name, "--proved" in sys.argv) for name in ("pdpd", "xa_trials"))
     with ThreadPoolExecutor(max(2, len(os.sched_getaffinity(0)))) as pool:
-        for lane in all_steps(pdpd, xa_trials):
-            pool.submit(lambda lane=lane: [steps.take(*step) for step in lane])
+        lanes = [pool.submit(lambda lane=lane: [steps.take(*step) for step in lane])
+                 for lane in all_steps(pdpd, xa_trials)]
+    for lane in lanes:
+        lane.result()  # raises what has ended a lane, if anything has
     print(f"The tests took {time.time() - steps.began:.0f} s.")
     if pdpd.is_proved and xa_trials.is_proved:
         print("The programs are proved, and built of these very sources.")
