@@ -74,6 +74,15 @@ def memory_of(process):
     return 0
 
 
+def name_of(process):
+    """What a process works at: the crate that it compiles or proves, else its program's name."""
+    words = [b""]
+    with contextlib.suppress(OSError):
+        words = pathlib.Path(f"/proc/{process}/cmdline").read_bytes().split(b"\0")
+    at = words.index(b"--crate-name") + 1 if b"--crate-name" in words[:-1] else 0
+    return words[at].decode(errors="replace").rpartition("/")[2] or "unknown"
+
+
 def die_with_parent(behind=0):
     """Has the process that is being started end when this one does, however it ends (PR_SET_PDEATHSIG), and
     stand back that much."""
@@ -89,15 +98,21 @@ def wait_for(is_so):
 
 
 class Watch:
-    """The times of what happens, and the most memory that is held at once."""
+    """The times of what happens, and the most memory that is held at once: how much, when, and by whom."""
 
     def __init__(self):
         self.began, self.most, self.proved, self.kept, self.marks = time.time(), 0, {}, set(), {}
+        self.most_at, self.held_by = 0, {}
         threading.Thread(target=self.look, daemon=True).start()
 
     def look(self):
         while True:
-            self.most = max(self.most, sum(map(memory_of, descendants())))
+            held = [(process, memory_of(process)) for process in descendants()]
+            if (most := sum(memory for _, memory in held)) > self.most:
+                self.most, self.most_at, self.held_by = most, self.minutes(), {}
+                for process, memory in held:
+                    name = name_of(process)
+                    self.held_by[name] = self.held_by.get(name, 0) + memory / 1e9
             time.sleep(LOOKED_EVERY)
 
     def minutes(self):
@@ -316,7 +331,8 @@ def figures(watch):
     """What the gate took."""
     used = resource.getrusage(resource.RUSAGE_CHILDREN)
     return {**machine(), "clock": watch.minutes(), "processor": (used.ru_utime + used.ru_stime) / 60,
-            "most": watch.most / 1e9, "marks": watch.marks, "proved": watch.proved,
+            "most": watch.most / 1e9, "most at": watch.most_at, "held by": watch.held_by,
+            "marks": watch.marks, "proved": watch.proved,
             "kept": sorted(watch.kept - set(watch.proved))}
 
 
@@ -332,6 +348,9 @@ def tell(found):
     print(f"The gate took {found['clock']:.1f} minutes by the clock and {found['processor']:.1f} processor-minutes, "
           f"and {found['most']:.1f} GB of memory at the most,\non {found['processors']} processors "
           f"({found['model']}, {found['memory']} GB; {found['kit']}).")
+    by = sorted(found["held by"].items(), key=lambda it: -it[1])
+    print(f"That memory was held after {found['most at']:.1f} minutes, in GB, by "
+          f"{', '.join(f'{name} {held:.1f}' for name, held in by if held >= 0.05)}.")
 
 
 def judged(watch):
