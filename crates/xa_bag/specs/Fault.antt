@@ -1,5 +1,5 @@
--- The status code for which the fault of a bag or higher-order function stands (XACML 3.0, core, section 7.5 and
--- appendix B.8).
+-- The status code for which the fault of a bag or higher-order function stands (XACML 3.0, core, appendices
+-- A.3.10, A.3.12 and B.8).
 use Rattle.xa_func.specs.declared.fault.FuncFault.{FuncFault}
 use Rattle.xa_func.specs.declared.status.Status.{Status}
 use Rattle.xa_func.specs.declared.status.Status.TheVariants.{ProcessingError}

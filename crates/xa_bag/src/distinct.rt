@@ -35,7 +35,7 @@ impl<'a> Model for Distinct<'a> {
 }
 
 impl<'a> Distinct<'a> {
-    /// An empty bag of the type. `most` is how many values will be put; more only take longer.
+    /// An empty bag of the type. At most `most` values will be put; more only take longer.
     pub(crate) fn new(alloc: Global, data_type: DataType, most: usize) -> Distinct<'a>
         ensures { result ≡ bag_of data_type [] }
     {
@@ -48,7 +48,7 @@ impl<'a> Distinct<'a> {
         Distinct { bag, keys }
     }
 
-    /// The same bag, with the value at the end unless it is there.
+    /// The same bag, with the value at the end unless it is in the bag already.
     fn with(self, value: &'a Value) -> Result<Distinct<'a>, AllocError>
         requires { type_of value.now ≡ self.data_type }
         ensures { IfOk result (λ d. d ≡ bag_of self.entry.data_type
@@ -114,7 +114,7 @@ impl<'a> Distinct<'a> {
     }
 }
 
-/// Puts the value at the end of the bag, unless it is there.
+/// Puts the value at the end of the bag, unless it is in the bag already.
 fn push_new(bag: &mut Bag, value: &Value) -> Result<(), AllocError>
     requires { type_of value.now ≡ bag.old.data_type }
     ensures { IfOk result (λ _. bag.new ≡ bag_of bag.old.data_type

@@ -7,8 +7,8 @@ use thiserror::Error;
 use xa_func::{FuncFault, Status};
 use xa_value::OrMemory;
 
-/// Why a function of bags gives no value (XACML 3.0, core, section 7.5 and appendix B.8). `F` says why its
-/// inner function gives none.
+/// Why a function of bags gives no value (XACML 3.0, core, appendices A.3.10, A.3.12 and B.8). `F` says why
+/// its inner function gives none.
 #[derive(Clone, Copy, Debug, PartialEq, Eq, Error)]
 pub enum BagFault<F> {
     /// One-and-only was given a bag that does not have exactly one value; or all-of-any or all-of-all was

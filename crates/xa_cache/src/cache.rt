@@ -22,6 +22,7 @@ const MAX_KEPT_BYTES: usize = 16_384;
 /// first.
 #[derive(Drop)]
 pub struct Cache {
+    /// The bodies, the most recently used first.
     bodies: LruCache<Key, Items<u8>, Seeded>,
 }
 

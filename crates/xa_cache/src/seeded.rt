@@ -12,6 +12,7 @@ const TWO_TO_61: u128 = 1 << 61;
 /// Hashers that begin with a secret: who doesn't know it can't choose bodies of one hash.
 #[derive(Clone, Copy)]
 pub(crate) struct Seeded {
+    /// The hasher before the first part of a body.
     start: Polynomial,
 }
 
@@ -19,10 +20,15 @@ pub(crate) struct Seeded {
 /// value so far.
 #[derive(Clone, Copy)]
 pub(crate) struct Polynomial {
+    /// The secret point.
     point: u64,
+    /// The point's square.
     square: u64,
+    /// The point's third power.
     cube: u64,
+    /// The point's fourth power.
     fourth: u64,
+    /// The polynomial's value so far.
     value: u64,
 }
 

@@ -27,8 +27,9 @@ pub const LOOK: u64 = STEP / 4;
 /// them once more.
 pub(crate) const VALUE: u64 = 16;
 
-/// How often the units of the arguments are taken at most. From this many values and searches on
-/// (`ORDERED_FROM` of `xa_bag`) the values are ordered, and a search takes the logarithm of their number.
+/// How often the units of the arguments are taken at most: with how many values one that is searched for
+/// is compared at most. From this many values and searches on (`ORDERED_FROM` of `xa_bag`) the values are
+/// ordered, and one that is searched for is compared with as many as the logarithm of their number.
 const MOST_COMPARISONS: u64 = 32;
 
 /// What is left of the work that a message may ask for, in units. A unit is a byte of text or of a value

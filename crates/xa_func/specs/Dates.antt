@@ -93,7 +93,7 @@ date_time_after_nanos d nanos = date_time_at (local_nanos d +ℤ nanos) d.zone
 abbrev pub nanos_in_utc : ClockTime → Option ℤ → ℤ
 nanos_in_utc t zone = pos t.nanos -ℤ offset_of (option_or t.zone zone) *ℤ pos 60_000_000_000
 
--- the nanoseconds from one time of day to the next occurrence of the other
+-- the nanoseconds from one time of day to the next occurrence of the other, 0 if they are the same
 abbrev pub distance : ℤ → ℤ → ℕ
 distance from to = unsigned_abs (int_rem_euclid (to -ℤ from) (pos day_nanos))
 

@@ -175,7 +175,7 @@ fn nanos_in_utc(time: Time, zone: Option<Offset>) -> i128
     i128::from(time.nanos()) - i128::from(minutes) * i128::from(MINUTE_NANOS)
 }
 
-/// The nanoseconds from one time of day to the next occurrence of the other.
+/// The nanoseconds from one time of day to the next occurrence of the other, 0 if they are the same.
 fn distance(from: i128, to: i128) -> u64
     requires start { IsWithin 1_000_000_000_000_000 from }
     requires end { IsWithin 1_000_000_000_000_000 to }

@@ -35,6 +35,7 @@ const VERSION_PART: usize = 6;
 /// The routes of all that is served. They are made once, for all messages.
 #[derive(Drop)]
 pub struct Routes {
+    /// Where each path leads.
     router: Router<Place>,
     ghost whole: { router ≡ table },
 }

@@ -42,6 +42,7 @@ pub enum Look {
 /// The messages of one stream, in whatever pieces its bytes come.
 #[derive(Drop)]
 pub struct Session {
+    /// Where memory comes from.
     alloc: Global,
     /// The bytes that have come. Those before the start were answered, and aren't dropped yet.
     buffer: Vec<u8>,

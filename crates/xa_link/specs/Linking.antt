@@ -42,8 +42,8 @@ replaced_in replacement None = Unresolved
 replaced_in replacement (Some parsed) = replaced replacement parsed.document
 
 -- a document to which a path leads back makes a circle. Documents are told apart by their places in the list. Places
--- and documents give the same circles, since two references to one kind, id and version stand for one place
--- (`one_place_for_each_version`)
+-- and documents give the same circles, since two references that stand for documents of one kind, id and version
+-- stand for one place (`one_place_for_each_version`)
 abbrev pub unless_circular : List ℕ → Option ℕ → Option ℕ
 unless_circular path None = None
 unless_circular path (Some place) = if list_any (λ p. p == place) path then None else Some place

@@ -359,8 +359,8 @@ fn child_unless_another<C: Context>(
 /// The tree's decision (XACML 3.0, core, sections 7.9 to 7.15 and 7.18), with its status, obligations and
 /// advice, and, if `names_policies`, the policies and sets named with it (5.49). No child is evaluated after
 /// the one that settles its parent, and none if its parent's target is No match. Want of memory is the only
-/// error, also if the context refuses more work. Each policy, set and rule that is looked at is counted,
-/// beside what expressions count: tenants nest and repeat them as they like.
+/// error; it also comes if the context refuses more work. Each policy, set and rule that is looked at is
+/// counted, beside what expressions count: tenants nest and repeat them as they like.
 #[tactic(auto, using(crate::proofs::IdLemmas::asked_from_none))]
 pub fn evaluate<C: Context>(
     alloc: Global,

@@ -25,9 +25,9 @@ use xa_value::{Items, Text};
 /// a number and an epoch, and the next number.
 ///
 /// Each method reads that map or makes one change of it, for the domain named and no other. After a
-/// refusal or a failure nothing has changed. After `Store` one exception holds: if the process crashes,
-/// the change may be there when the storage is opened again. The clauses speak of the map only if the
-/// keeper is `sound` after the call, and then it was sound before.
+/// refusal or a failure nothing has changed. After `Store` one exception holds: if the storage is opened
+/// again, after an orderly end or a crash, the change may be there, as a whole. The clauses speak of the
+/// map only if the keeper is `sound` after the call, and then it was sound before.
 pub trait Records {
     /// What is told of the keeper: what it keeps, and whether it is sound.
     ghost custody: { Self → Custody };

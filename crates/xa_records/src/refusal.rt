@@ -28,8 +28,8 @@ pub enum Refusal {
     StillActive,
 }
 
-/// Why a keeper gave no answer. Nothing has changed. After `Store` one exception holds: if the process
-/// crashes, the change may be there when the storage is opened again.
+/// Why a keeper gave no answer. Nothing has changed. After `Store` one exception holds: if the storage is
+/// opened again, after an orderly end or a crash, the change may be there, as a whole.
 #[derive(Clone, Copy, Debug, PartialEq, Eq, Error)]
 pub enum Failure {
     /// There was no memory for it.

@@ -5,8 +5,8 @@ use Rattle.std.specs.List.{AllByRecursion, list_any}
 use Rattle.xa_notation.specs.declared.document.Parsed.{Parsed}
 use Rattle.xa_notation.specs.Document.{document_of}
 
--- what contracts see of a shelf: the texts whose documents it holds, the one that was asked for last first, and how
--- many texts weren't held, and so were read
+-- what contracts see of a shelf: the texts whose documents it holds, the last asked for first, and how many texts
+-- weren't held, and so were read
 pub record Shelved : Type 0 where
   pub texts : List (List ℕ)
   pub readings : ℕ
