@@ -5,7 +5,7 @@ use Rattle.xa_store.proofs.Common.{Command, Begin, Rollback, IsPlain, Row, Schem
 use Rattle.sqlite.specs.Listing.{understood}
 use Rattle.sqlite.specs.State.{CommitsBy, text_of}
 use Rattle.sqlite_tied.specs.Compute.{everything}
-use Rattle.xa_store.specs.Check.{Begun, Checked, Ended, IsIdle, Tested, Undone}
+use Rattle.xa_store.specs.Check.{Begins, Checked, IsIdle, IsUndone, Tested, Undoes}
 use Rattle.xa_store.specs.Opening.{IsFailure, IsRefusal}
 
 -- ---- the two statements
@@ -54,21 +54,21 @@ module _ (old new : State) where
   begin_survives survived =
       survives_weaker old new _ _ (λ _ db h. let it = commits_as begin_text [] old Begin (begin_is old.now.schema) (begin_plain old.now.schema) db h in begins_alone old it.0 it.1 db it.2) survived
 
-  pub begun : (count : ℕ) → Survives old new (CommitsBy begin_text [] old) → (HasCleanDisk new → Executes begin_text [] old new (Ok count)) → Begun old new (Ok tt)
+  pub begun : (count : ℕ) → Survives old new (CommitsBy begin_text [] old) → (HasCleanDisk new → Executes begin_text [] old new (Ok count)) → Begins old new (Ok tt)
   begun count survived ran = record {
     survives = begin_survives survived;
     begins = λ clean. (runs_as begin_text [] old new old.now.schema refl Begin (begin_is old.now.schema) (begin_plain old.now.schema) count (ran clean)).1;
     fails = tt;
   }
 
-  pub not_begun : (e : OpenError) → IsFailure e → Survives old new (CommitsBy begin_text [] old) → Begun old new (Err e)
+  pub not_begun : (e : OpenError) → IsFailure e → Survives old new (CommitsBy begin_text [] old) → Begins old new (Err e)
   not_begun e is survived = record { survives = begin_survives survived; begins = λ clean. tt; fails = is }
 
   module _ (inside : IsTrue old.in_transaction) (survived : Survives old new (CommitsBy end_text [] old)) where
     end_survives : Survives old new (λ _. ⊥)
     end_survives = survives_weaker old new _ _ (λ _ db h. let it = commits_as end_text [] old Rollback (end_is old.now.schema) (end_plain old.now.schema) db h in ends_alone old it.0 it.1 db inside it.2) survived
 
-    undone : IsRolledBack old new → Undone old new
+    undone : IsRolledBack old new → IsUndone old new
     undone h = record {
       was_open = h.was_open;
       committed = λ up. (h.undone up).1;
@@ -76,14 +76,14 @@ module _ (old new : State) where
       idle = h.autocommit;
     }
 
-    pub ended : (count : ℕ) → (HasCleanDisk new → Executes end_text [] old new (Ok count)) → Ended old new (Ok tt)
+    pub ended : (count : ℕ) → (HasCleanDisk new → Executes end_text [] old new (Ok count)) → Undoes old new (Ok tt)
     ended count ran = record {
       survives = end_survives;
       undone = λ clean. undone (runs_as end_text [] old new old.now.schema refl Rollback (end_is old.now.schema) (end_plain old.now.schema) count (ran clean)).1;
       fails = tt;
     }
 
-    pub not_ended : (e : OpenError) → IsFailure e → Ended old new (Err e)
+    pub not_ended : (e : OpenError) → IsFailure e → Undoes old new (Err e)
     not_ended e is = record { survives = end_survives; undone = λ clean. tt; fails = is }
 
 -- a call that leaves a connection alone
@@ -97,7 +97,7 @@ survives_still s = record {
   crash = λ clean db may. inl may;
 }
 
-pub ended_before : (s : State) → s.in_transaction ≡ false → Ended s s (Ok tt)
+pub ended_before : (s : State) → s.in_transaction ≡ false → Undoes s s (Ok tt)
 ended_before s idle = record {
   survives = survives_still s;
   undone = λ clean. record { was_open = λ up. up; committed = λ up. refl; now = λ up. ap (λ b. cond b s.committed s.now) (sym idle); idle = idle };
@@ -139,19 +139,19 @@ module _ (version : SchemaVersion) (a : State) (quiet : IsIdle a) (other : a.now
     sound = λ clean. tt;
   }
 
-  pub not_apart : (b : State) (e : OpenError) → Begun a b (Err e) → Tested version a b (Err e)
+  pub not_apart : (b : State) (e : OpenError) → Begins a b (Err e) → Tested version a b (Err e)
   not_apart b e begun = tested b (Err e) begun.survives (λ clean up refusal. absurd (fails_no_refusal e begun.fails refusal)) (inr (e, refl))
 
-  module _ (b c d : State) (x : Unit {0}) (first : Begun a b (Ok x)) (r : Result (Unit {0}) OpenError) (check : Checked version b c r) where
+  module _ (b c d : State) (x : Unit {0}) (first : Begins a b (Ok x)) (r : Result (Unit {0}) OpenError) (check : Checked version b c r) where
     inside : HasCleanDisk b → IsTrue b.in_transaction
     inside clean = (first.begins clean).mode
 
-    survived : (r2 : Result (Unit {0}) OpenError) → Ended c d r2 → Survives a d (λ _. ⊥)
+    survived : (r2 : Result (Unit {0}) OpenError) → Undoes c d r2 → Survives a d (λ _. ⊥)
     survived r2 last =
         let two = survives_then b c d _ (λ _. ⊥) (λ db. b.in_transaction ≡ false) (λ _ db h. h.1) (λ _ db h. absurd h) check.asks.survives last.survives in
         survives_then a b d (λ _. ⊥) (λ db. b.in_transaction ≡ false) (λ _. ⊥) (λ _ db h. h) (λ clean db h. true≢false (sym (inside (omega (arith, two.clean, clean))) ∙ h)) first.survives two
 
-    same : (y : Unit {0}) → Ended c d (Ok y) → HasCleanDisk d → IsTrue d.is_open → SameNow a d
+    same : (y : Unit {0}) → Undoes c d (Ok y) → HasCleanDisk d → IsTrue d.is_open → SameNow a d
     same y last clean up =
         let at_c : HasCleanDisk c = omega (arith, last.survives.clean) in
         let at_b : HasCleanDisk b = omega (arith, check.asks.survives.clean) in
@@ -167,11 +167,11 @@ module _ (version : SchemaVersion) (a : State) (quiet : IsIdle a) (other : a.now
           idle = back.idle;
         }
 
-    pub apart_unended : (e : OpenError) → Ended c d (Err e) → Tested version a d (Err e)
+    pub apart_unended : (e : OpenError) → Undoes c d (Err e) → Tested version a d (Err e)
     apart_unended e last = tested d (Err e) (survived (Err e) last) (λ clean up refusal. absurd (fails_no_refusal e last.fails refusal)) (inr (e, refl))
 
-    pub apart_sound : (y : Unit {0}) → Ended c d (Ok y) → Tested version a d (Ok false)
+    pub apart_sound : (y : Unit {0}) → Undoes c d (Ok y) → Tested version a d (Ok false)
     apart_sound y last = tested d (Ok false) (survived (Ok y) last) (λ clean up. tt) (inl refl)
 
-    pub apart_refused : (e : OpenError) (y : Unit {0}) → Ended c d (Ok y) → Tested version a d (Err e)
+    pub apart_refused : (e : OpenError) (y : Unit {0}) → Undoes c d (Ok y) → Tested version a d (Err e)
     apart_refused e y last = tested d (Err e) (survived (Ok y) last) (λ clean up refusal. same y last clean up) (inr (e, refl))

@@ -1,6 +1,6 @@
 -- The texts in the columns of roots and of rows of sources: of rows that opening finds sound, and in rows that the keeper writes.
 use Rattle.std.proofs.Common.{◌≡◌, ℕ, zero, suc, ℤ, Bool, true, List, [], ◌∷◌, map, drop, Option, Some, None, refl, sym, ap, ◌∙◌, true≢false}
-use Rattle.xa_store.proofs.Common.{is_utf8, Row, column, Value, Null, Int, Real, Text, Blob, first_of_both, second_of_both, int_of, bytes_of, or_null, unless_null, Roots, Sources, as_read, holds_text, holds_text_if_any, holds_value, is_pattern, is_version, is_whole_row, attribute_in, root_in, text_at, AreRootTexts, AreSourceTexts, is_if_any}
+use Rattle.xa_store.proofs.Common.{is_utf8, Row, column, Value, Null, Int, Real, Text, Blob, first_of_both, second_of_both, int_of, bytes_of, or_null, unless_null, Roots, Sources, as_read, holds_text, holds_text_if_any, holds_value, is_pattern, is_version, is_whole_row, placed_row_in, root_in, text_at, AreRootTexts, AreSourceTexts, is_if_any}
 use Rattle.xa_store.proofs.ShapeLemmas.{int_held, text_held}
 use Rattle.xa_store.proofs.ShapedLemmas.{value_back, whole_source}
 
@@ -58,7 +58,7 @@ root_texts next row whole =
       text_read is_version (drop 4 row) 2 (ap (holds_text_if_any is_version) (sym (past row 2)) ∙ second_of_both _ _ rest),
     )
 
-pub source_texts : (next : ℤ) (row : Row) → is_whole_row Sources next (as_read Sources row) ≡ true → AreSourceTexts (attribute_in row).row
+pub source_texts : (next : ℤ) (row : Row) → is_whole_row Sources next (as_read Sources row) ≡ true → AreSourceTexts (placed_row_in row).row
 source_texts next row whole =
     let both = whole_source next row whole in
     let rest = second_of_both _ _ both.0 in

@@ -6,8 +6,8 @@ use Rattle.xa_records.proofs.FinMapLemmas.{get_put, get_taken, put_again}
 use Rattle.xa_store.specs.declared.query.document_row.DocumentFound.{DocumentFound}
 use Rattle.xa_store.specs.declared.query.domain.DomainFound.{DomainFound}
 use Rattle.xa_store.specs.Lookup.{FindsDocument, IsDomain}
-use Rattle.xa_store.specs.Plan.{IsUploadPlanned, RaisesTo}
-use Rattle.xa_store.specs.declared.step.Step.TheVariants.{AddDocument, SetActive, DropDocument, SetEpoch}
+use Rattle.xa_store.specs.Plan.{IsUploadPlanned, RaisesTo, epoch_step}
+use Rattle.xa_store.specs.declared.step.Step.TheVariants.{AddDocument, SetActive, DropDocument}
 use Rattle.xa_store.specs.Steps.{KeyReads, is_document, with_epoch}
 use Rattle.xa_store.specs.Turns.{Plans}
 use Rattle.xa_store.proofs.ChangeLemmas.{IsOnly, Rewrote, number_of}
@@ -78,7 +78,7 @@ module _ (rows : Rows) (name : List ℕ) (d : DomainRow) (one : IsOnly name d ro
       present : get state.documents key ≡ Some (stored x)
       present = got (Some x) found
 
-      pub activity_planned : (active : Bool) → x.active ≢ active → Plans (SetActive n key active ∷ SetEpoch n epoch ∷ []) (within (activity_set key active)) name rows
+      pub activity_planned : (active : Bool) → x.active ≢ active → Plans (SetActive n key active ∷ epoch_step n epoch ∷ []) (within (activity_set key active)) name rows
       activity_planned active other =
           let f : DocumentRow → DocumentRow = λ x. record x { active = active } in
           let documents = update_where (is_document n key) f rows.documents in
@@ -89,10 +89,10 @@ module _ (rows : Rows) (name : List ℕ) (d : DomainRow) (one : IsOnly name d ro
           let differs : state.documents ≢ target = λ same. other (let both : ◌≡◌ {A = Option StoredDocument} (Some (stored x)) (Some put) = sym present ∙ ap (λ m. get m key) same ∙ get_put keys_total state.documents key put in
           let it : stored x ≡ put = cc in ap (λ (s : StoredDocument). s.active) it) in
           planned rows name d one (activity_set key active) are (with_documents target state) (ap (λ o. or_absent o >>= (λ document. Ok (with_document key document.text active state))) present)
-          (SetActive n key active ∷ SetEpoch n epoch ∷ []) epoch up (reads, (tt, tt)) (rewrote documents target here others differs) (next_epoch documents target here others differs)
+          (SetActive n key active ∷ epoch_step n epoch ∷ []) epoch up (reads, (tt, tt)) (rewrote documents target here others differs) (next_epoch documents target here others differs)
           (columns documents (λ whole. all_update (IsWholeDocument rows.next) (is_document n key) f (λ x h. h) rows.documents whole.documents))
 
-      pub drop_planned : x.active ≡ false → Plans (DropDocument n key ∷ SetEpoch n epoch ∷ []) (within (deleted key)) name rows
+      pub drop_planned : x.active ≡ false → Plans (DropDocument n key ∷ epoch_step n epoch ∷ []) (within (deleted key)) name rows
       drop_planned idle =
           let documents = delete_where (is_document n key) rows.documents in
           let target = remove state.documents key in
@@ -101,7 +101,7 @@ module _ (rows : Rows) (name : List ℕ) (d : DomainRow) (one : IsOnly name d ro
           let differs : state.documents ≢ target = λ same. let both : ◌≡◌ {A = Option StoredDocument} (Some (stored x)) None = sym present ∙ ap (λ m. get m key) same ∙ get_taken keys_total state.documents key in cc in
           planned rows name d one (deleted key) are (with_documents target state)
           (ap (λ o. or_absent o >>= (λ document. cond document.active (Err StillActive) (Ok (with_documents target state)))) present ∙ ap (λ b. cond b (Err StillActive) (Ok (with_documents target state))) idle)
-          (DropDocument n key ∷ SetEpoch n epoch ∷ []) epoch up (reads, (tt, tt)) (rewrote documents target here others differs) (next_epoch documents target here others differs)
+          (DropDocument n key ∷ epoch_step n epoch ∷ []) epoch up (reads, (tt, tt)) (rewrote documents target here others differs) (next_epoch documents target here others differs)
           (columns documents (λ whole. all_filter (IsWholeDocument rows.next) (λ x. not (is_document n key x)) rows.documents whole.documents))
 
     -- ---- a document that isn't there
@@ -110,7 +110,7 @@ module _ (rows : Rows) (name : List ℕ) (d : DomainRow) (one : IsOnly name d ro
       missing : get state.documents key ≡ None
       missing = got None (find_none has_key xs (sym among ∙ none))
 
-      pub upload_planned : (body : List ℕ) → IsDocumentOf key body → nat_lt (len state.documents) 1_024 ≡ true → Plans (AddDocument n key body ∷ SetEpoch n epoch ∷ []) (within (uploaded key body)) name rows
+      pub upload_planned : (body : List ℕ) → IsDocumentOf key body → nat_lt (len state.documents) 1_024 ≡ true → Plans (AddDocument n key body ∷ epoch_step n epoch ∷ []) (within (uploaded key body)) name rows
       upload_planned body document room =
           let new : DocumentRow = record { rowid = next_key (λ x. x.rowid) rows.documents; number = n; key = key; text = body; active = false } in
           let documents = rows.documents ++ new ∷ [] in
@@ -121,7 +121,7 @@ module _ (rows : Rows) (name : List ℕ) (d : DomainRow) (one : IsOnly name d ro
           let others = λ (m : ℤ) (apart : m ≢ n). filter_push_apart (λ x. int_eq x.number m) rows.documents new (int_eq_apart n m (λ same. apart (sym same))) in
           let differs : state.documents ≢ target = λ same. let both : ◌≡◌ {A = Option StoredDocument} None (Some put) = sym missing ∙ ap (λ m. get m key) same ∙ get_put keys_total state.documents key put in cc in
           planned rows name d one (uploaded key body) are (with_documents target state) (ap (uploaded_over key body state) missing ∙ ap (λ b. cond b (Ok (with_document key body false state)) (Err Quota)) room)
-          (AddDocument n key body ∷ SetEpoch n epoch ∷ []) epoch up ((none, reads, of_key key body document), (tt, tt)) (rewrote documents target here others differs) (next_epoch documents target here others differs)
+          (AddDocument n key body ∷ epoch_step n epoch ∷ []) epoch up ((none, reads, of_key key body document), (tt, tt)) (rewrote documents target here others differs) (next_epoch documents target here others differs)
           (columns documents (λ whole. all_push (IsWholeDocument rows.next) rows.documents new whole.documents (its_domain rows whole name d one).0))
 
   -- ---- if nothing is done
@@ -178,26 +178,26 @@ module _ (rows : Rows) (name : List ℕ) (found : DomainFound) (are : AreNumbere
     still_fits = subst (λ k. k < 2 ^ 63) (sym one_more) raise.1
 
     pub plan_activity : (there : DocumentFound) → FindsDocument found.number key rows (Some there) → (active : Bool) → (there.active ≡ active → ⊥)
-        → Plans (SetActive found.number key active ∷ SetEpoch found.number next ∷ []) (within (activity_set key active)) name rows
+        → Plans (SetActive found.number key active ∷ epoch_step found.number next ∷ []) (within (activity_set key active)) name rows
     plan_activity there finds active other =
         let own = finds_own (Some there) finds in
         let same : own.0.active ≡ there.active = ap (λ (f : DocumentFound). f.active) own.2 in
-        subst (λ n. Plans (SetActive n key active ∷ SetEpoch n next ∷ []) (within (activity_set key active)) name rows) (sym is.number)
+        subst (λ n. Plans (SetActive n key active ∷ epoch_step n next ∷ []) (within (activity_set key active)) name rows) (sym is.number)
         (activity_planned rows name is.row is.only up are key reads next one_more still_fits own.0 own.1 active (λ e. other (sym same ∙ e)))
 
-    pub plan_drop : (there : DocumentFound) → FindsDocument found.number key rows (Some there) → there.active ≡ false → Plans (DropDocument found.number key ∷ SetEpoch found.number next ∷ []) (within (deleted key)) name rows
+    pub plan_drop : (there : DocumentFound) → FindsDocument found.number key rows (Some there) → there.active ≡ false → Plans (DropDocument found.number key ∷ epoch_step found.number next ∷ []) (within (deleted key)) name rows
     plan_drop there finds idle =
         let own = finds_own (Some there) finds in
         let same : own.0.active ≡ there.active = ap (λ (f : DocumentFound). f.active) own.2 in
-        subst (λ n. Plans (DropDocument n key ∷ SetEpoch n next ∷ []) (within (deleted key)) name rows) (sym is.number)
+        subst (λ n. Plans (DropDocument n key ∷ epoch_step n next ∷ []) (within (deleted key)) name rows) (sym is.number)
         (drop_planned rows name is.row is.only up are key reads next one_more still_fits own.0 own.1 (same ∙ idle))
 
     pub plan_upload : (body : List ℕ) → IsDocumentOf key body → (count : ℕ) → count ≡ len (state_at rows found.number).documents → FindsDocument found.number key rows None → nat_lt count 1_024 ≡ true
-        → IsUploadPlanned key body name rows (Ok (AddDocument found.number key body ∷ SetEpoch found.number next ∷ []))
+        → IsUploadPlanned key body name rows (Ok (AddDocument found.number key body ∷ epoch_step found.number next ∷ []))
     plan_upload body document count all finds room =
         let own = finds_own None finds in
         let own_count : count ≡ len (state_at rows is.row.number).documents = all ∙ ap (λ n. len (state_at rows n).documents) is.number in (
-          subst (λ n. Plans (AddDocument n key body ∷ SetEpoch n next ∷ []) (within (uploaded key body)) name rows) (sym is.number)
+          subst (λ n. Plans (AddDocument n key body ∷ epoch_step n next ∷ []) (within (uploaded key body)) name rows) (sym is.number)
               (upload_planned rows name is.row is.only up are key reads next one_more still_fits own body document (subst (λ k. nat_lt k 1_024 ≡ true) own_count room)),
           sym (ap (upload_of key) (its_state rows name is.row is.only) ∙ ap (λ o. cond (is_some o) Same New) (nowhere rows name is.row is.only up are key reads own)),
         )

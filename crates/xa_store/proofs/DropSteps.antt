@@ -1,6 +1,6 @@
 -- What the statement that takes a domain out makes of the rows: all that is in it goes too.
 use Rattle.std.proofs.Common.{◌≡◌, ◌≢◌, inl, inr, ℕ, ℤ, List, [], ◌∷◌, map, drop, filter, find, option_map, true, false, cond, Some, unwrap_or, Ok, refl, sym, ap, subst, ◌∙◌, int_eq}
-use Rattle.xa_store.proofs.Common.{edit_of, Row, Given, Edited, State, Executes, col, Trees, Int, Enforced, Eq, has_rowid, value_cmp-Int, works, Leads, ids_of, IsNoIndex, without_all, row_at, delete_where, all_of, same_int, deletes-map, at_ints, last_term, DomainRow, domain_row, domain_in, token_row, token_in, document_row, document_in, root_row, root_in, attribute_row, attribute_in, AreTables, our_schema, domains, tokens, policies, attributes, sources, rows_of}
+use Rattle.xa_store.proofs.Common.{edit_of, Row, Given, Edited, State, Executes, col, Trees, Int, Enforced, Eq, has_rowid, value_cmp-Int, works, Leads, ids_of, IsNoIndex, without_all, row_at, delete_where, all_of, same_int, deletes-map, at_ints, last_term, DomainRow, domain_row, domain_in, token_row, token_in, document_row, document_in, root_row, root_in, placed_row, placed_row_in, AreTables, our_schema, domains, tokens, policies, attributes, sources, rows_of}
 use Rattle.xa_store.specs.declared.step.Step.TheVariants.{DropDomain}
 use Rattle.xa_store.specs.Steps.{without_domain}
 use Rattle.xa_store.specs.Texts as text
@@ -44,20 +44,20 @@ module _ (db last : Trees) (was : AreTables db) (d : DomainRow) (first : Trees) 
   -- no row of a source is left where schema 2 has none
   none_left : last 8 ≡ []
   none_left =
-      gone (λ a. a.rowid) attribute_row (λ _. refl) d (by_number attributes) (λ a. a.number) (λ a. child_at d (Int a.rowid) a.number (drop 2 (attribute_row a)) attributes) [] tt
+      gone (λ a. a.rowid) placed_row (λ _. refl) d (by_number attributes) (λ a. a.number) (λ a. child_at d (Int a.rowid) a.number (drop 2 (placed_row a)) attributes) [] tt
       last (by_number sources ∷ []) (its_root ∷ by_number policies ∷ by_number tokens ∷ []) first (at_first 8 refl ∙ was.left_empty) acted refl refl
 
-  attributes_left : last 10 ≡ map attribute_row (delete_where (λ a. int_eq a.number d.number) (map attribute_in (db 10)))
-  attributes_left =
-      gone (λ a. a.rowid) attribute_row (λ _. refl) d (by_number sources) (λ a. a.number) (λ a. child_at d (Int a.rowid) a.number (drop 2 (attribute_row a)) sources) (map attribute_in (db 10)) was.attributes.rise
-      last [] (by_number attributes ∷ its_root ∷ by_number policies ∷ by_number tokens ∷ []) first (at_first 10 refl ∙ was.attributes.written) acted refl refl
+  sources_left : last 10 ≡ map placed_row (delete_where (λ a. int_eq a.number d.number) (map placed_row_in (db 10)))
+  sources_left =
+      gone (λ a. a.rowid) placed_row (λ _. refl) d (by_number sources) (λ a. a.number) (λ a. child_at d (Int a.rowid) a.number (drop 2 (placed_row a)) sources) (map placed_row_in (db 10)) was.sources.rise
+      last [] (by_number attributes ∷ its_root ∷ by_number policies ∷ by_number tokens ∷ []) first (at_first 10 refl ∙ was.sources.written) acted refl refl
 
   pub emptied : Hold last (without_domain d.number (rows_of db))
   emptied =
       hold last (without_domain d.number (rows_of db)) (untouched last d all_children first acted 0 refl ∙ at_first 0 refl ∙ was.meta)
       (went_out (λ x. int_eq x.number d.number) was.domains domains_left) (went_out (λ t. int_eq t.number d.number) was.tokens tokens_left)
       (went_out (λ x. int_eq x.number d.number) was.documents documents_left) (went_out (λ r. int_eq r.number d.number) was.roots roots_left)
-      none_left (went_out (λ a. int_eq a.number d.number) was.attributes attributes_left)
+      none_left (went_out (λ a. int_eq a.number d.number) was.sources sources_left)
 
 -- ---- the step
 

@@ -1,6 +1,6 @@
 -- Which rows pass the tests of the statements.
 use Rattle.std.proofs.Common.{◌≡◌, ℕ, ℤ, Bool, true, false, ◌&&◌, List, [], ◌∷◌, Ordering, Less, Equal, Greater, is_eq, nat_cmp, int_eq, refl, sym, ap, ap₂, ◌∙◌, true≢false, inl, inr}
-use Rattle.xa_store.proofs.Common.{eq_by_cmp, ordering_then, nat_list_cmp_total, Trees, Int, Text, Blob, Eq, at_ints, at_texts, at_blobs, then_term, last_term, turn_eq, same_bytes, bytes_eq_refl, DocumentKey, DocumentKind, compare_keys, place_of_kind, version_text, compare_bytes, keys_exact, DomainRow, TokenRow, DocumentRow, RootRow, AttributeRow, domain_row, token_row, document_row, root_row, attribute_row, kind_number, version_in, col}
+use Rattle.xa_store.proofs.Common.{eq_by_cmp, ordering_then, nat_list_cmp_total, Trees, Int, Text, Blob, Eq, at_ints, at_texts, at_blobs, then_term, last_term, turn_eq, same_bytes, bytes_eq_refl, DocumentKey, DocumentKind, compare_keys, place_of_kind, version_text, compare_bytes, keys_exact, DomainRow, TokenRow, DocumentRow, RootRow, PlacedRow, domain_row, token_row, document_row, root_row, placed_row, kind_number, version_in, col}
 use Rattle.xa_policy.specs.declared.reference.DocumentKind.TheVariants.{Policy, PolicySet}
 use Rattle.xa_records.proofs.FinMapLemmas.{here_or_elsewhere}
 use Rattle.xa_store.specs.Steps.{is_named, is_token, is_document}
@@ -32,8 +32,8 @@ pub root_hit : (number : ℤ) (db : Trees) (r : RootRow)
     → hits 7 (is 0 0 ∷ []) (col 1 2 ∷ col 1 3 ∷ col 1 4 ∷ col 1 5 ∷ col 1 6 ∷ []) [] db refl (Int number ∷ []) (root_row r) ≡ int_eq r.number number
 root_hit number db r = last_term (at_ints false Eq r.number number)
 
-pub source_hit : (number : ℤ) (db : Trees) (a : AttributeRow)
-    → hits 10 (is 1 0 ∷ []) (col 1 3 ∷ col 1 4 ∷ col 1 5 ∷ col 1 6 ∷ col 1 7 ∷ col 1 8 ∷ []) (2 ∷ []) db refl (Int number ∷ []) (attribute_row a) ≡ int_eq a.number number
+pub source_hit : (number : ℤ) (db : Trees) (a : PlacedRow)
+    → hits 10 (is 1 0 ∷ []) (col 1 3 ∷ col 1 4 ∷ col 1 5 ∷ col 1 6 ∷ col 1 7 ∷ col 1 8 ∷ []) (2 ∷ []) db refl (Int number ∷ []) (placed_row a) ≡ int_eq a.number number
 source_hit number db a = last_term (at_ints false Eq a.number number)
 
 -- ---- a document by its key

@@ -1,6 +1,6 @@
 -- Tables of which one was written.
 use Rattle.std.proofs.Common.{◌≡◌, ◌≢◌, ℕ, ℤ, List, [], ◌∷◌, ◌++◌, map, Bool, false, true, not, ◌&&◌, ◌==◌, refl, sym, ap, subst, ◌∙◌, eq-eqb, true≢false}
-use Rattle.xa_store.proofs.Common.{AllByRecursion, list_all, and_parts, Row, Trees, IsNoIndex, IsKeyedBy, insert_by, next_key, update_where, delete_where, AreApart, all-filter, IsKeyedBy-delete_where, IsKeyedBy-update_where, apart_delete, apart_update, DomainRow, TokenRow, DocumentRow, RootRow, AttributeRow, meta_row, next_in, domain_row, domain_in, token_row, token_in, document_row, document_in, root_row, root_in, attribute_row, attribute_in, AreRows, AreTables, same_name, same_token, same_document, same_place, our_schema, Rows, rows_of}
+use Rattle.xa_store.proofs.Common.{AllByRecursion, list_all, and_parts, Row, Trees, IsNoIndex, IsKeyedBy, insert_by, next_key, update_where, delete_where, AreApart, all-filter, IsKeyedBy-delete_where, IsKeyedBy-update_where, apart_delete, apart_update, DomainRow, TokenRow, DocumentRow, RootRow, PlacedRow, meta_row, next_in, domain_row, domain_in, token_row, token_in, document_row, document_in, root_row, root_in, placed_row, placed_row_in, AreRows, AreTables, same_name, same_token, same_document, same_place, our_schema, Rows, rows_of}
 use Rattle.sqlite_schema.specs.declared.schema.Index.{Index}
 use Rattle.xa_store.proofs.LastLemmas.{stands_last, keyed_last, all_last, apart_last}
 use Rattle.xa_store.proofs.WriteLemmas.{Wrote}
@@ -102,12 +102,12 @@ HasDocuments = ReadsAs document_row document_in (λ d. d.rowid) same_document
 abbrev pub HasRoots : List Row → List RootRow → Type 0
 HasRoots = ReadsAs root_row root_in (λ r. r.number) (λ a b. false)
 
-abbrev pub HasAttributes : List Row → List AttributeRow → Type 0
-HasAttributes = ReadsAs attribute_row attribute_in (λ a. a.rowid) same_place
+abbrev pub HasSources : List Row → List PlacedRow → Type 0
+HasSources = ReadsAs placed_row placed_row_in (λ a. a.rowid) same_place
 
 pub hold : (db : Trees) (rows : Rows) → db 0 ≡ meta_row rows.next ∷ [] → HasDomains (db 1) rows.domains → HasTokens (db 3) rows.tokens → HasDocuments (db 5) rows.documents
-    → HasRoots (db 7) rows.roots → db 8 ≡ [] → HasAttributes (db 10) rows.attributes → Hold db rows
-hold db rows meta domains tokens documents roots left attributes = (
+    → HasRoots (db 7) rows.roots → db 8 ≡ [] → HasSources (db 10) rows.sources → Hold db rows
+hold db rows meta domains tokens documents roots left sources = (
   record {
     meta = meta ∙ ap (λ rows. meta_row (next_in rows) ∷ []) (sym meta);
     domains = domains.are;
@@ -115,7 +115,7 @@ hold db rows meta domains tokens documents roots left attributes = (
     documents = documents.are;
     roots = roots.are;
     left_empty = left;
-    attributes = attributes.are;
+    sources = sources.are;
   },
   λ i. record {
     next = next_in (meta i);
@@ -123,7 +123,7 @@ hold db rows meta domains tokens documents roots left attributes = (
     tokens = tokens.reads i;
     documents = documents.reads i;
     roots = roots.reads i;
-    attributes = attributes.reads i;
+    sources = sources.reads i;
   },
 )
 
@@ -131,29 +131,29 @@ module _ (old new : Trees) (was : AreTables old) where
   pub meta_now : (next : ℤ) → Wrote old new 0 (meta_row next ∷ []) → Hold new (record (rows_of old) { next = next })
   meta_now next w =
       hold new (record (rows_of old) { next = next }) w.rows (stay (kept w 1 refl) was.domains) (stay (kept w 3 refl) was.tokens) (stay (kept w 5 refl) was.documents)
-      (stay (kept w 7 refl) was.roots) (kept w 8 refl ∙ was.left_empty) (stay (kept w 10 refl) was.attributes)
+      (stay (kept w 7 refl) was.roots) (kept w 8 refl ∙ was.left_empty) (stay (kept w 10 refl) was.sources)
 
   pub domains_now : (xs : List DomainRow) {content : List Row} → Wrote old new 1 content → HasDomains (new 1) xs → Hold new (record (rows_of old) { domains = xs })
   domains_now xs w now =
       hold new (record (rows_of old) { domains = xs }) (kept w 0 refl ∙ was.meta) now (stay (kept w 3 refl) was.tokens) (stay (kept w 5 refl) was.documents)
-      (stay (kept w 7 refl) was.roots) (kept w 8 refl ∙ was.left_empty) (stay (kept w 10 refl) was.attributes)
+      (stay (kept w 7 refl) was.roots) (kept w 8 refl ∙ was.left_empty) (stay (kept w 10 refl) was.sources)
 
   pub tokens_now : (xs : List TokenRow) {content : List Row} → Wrote old new 3 content → HasTokens (new 3) xs → Hold new (record (rows_of old) { tokens = xs })
   tokens_now xs w now =
       hold new (record (rows_of old) { tokens = xs }) (kept w 0 refl ∙ was.meta) (stay (kept w 1 refl) was.domains) now (stay (kept w 5 refl) was.documents)
-      (stay (kept w 7 refl) was.roots) (kept w 8 refl ∙ was.left_empty) (stay (kept w 10 refl) was.attributes)
+      (stay (kept w 7 refl) was.roots) (kept w 8 refl ∙ was.left_empty) (stay (kept w 10 refl) was.sources)
 
   pub documents_now : (xs : List DocumentRow) {content : List Row} → Wrote old new 5 content → HasDocuments (new 5) xs → Hold new (record (rows_of old) { documents = xs })
   documents_now xs w now =
       hold new (record (rows_of old) { documents = xs }) (kept w 0 refl ∙ was.meta) (stay (kept w 1 refl) was.domains) (stay (kept w 3 refl) was.tokens) now
-      (stay (kept w 7 refl) was.roots) (kept w 8 refl ∙ was.left_empty) (stay (kept w 10 refl) was.attributes)
+      (stay (kept w 7 refl) was.roots) (kept w 8 refl ∙ was.left_empty) (stay (kept w 10 refl) was.sources)
 
   pub roots_now : (xs : List RootRow) {content : List Row} → Wrote old new 7 content → HasRoots (new 7) xs → Hold new (record (rows_of old) { roots = xs })
   roots_now xs w now =
       hold new (record (rows_of old) { roots = xs }) (kept w 0 refl ∙ was.meta) (stay (kept w 1 refl) was.domains) (stay (kept w 3 refl) was.tokens)
-      (stay (kept w 5 refl) was.documents) now (kept w 8 refl ∙ was.left_empty) (stay (kept w 10 refl) was.attributes)
+      (stay (kept w 5 refl) was.documents) now (kept w 8 refl ∙ was.left_empty) (stay (kept w 10 refl) was.sources)
 
-  pub attributes_now : (xs : List AttributeRow) {content : List Row} → Wrote old new 10 content → HasAttributes (new 10) xs → Hold new (record (rows_of old) { attributes = xs })
-  attributes_now xs w now =
-      hold new (record (rows_of old) { attributes = xs }) (kept w 0 refl ∙ was.meta) (stay (kept w 1 refl) was.domains) (stay (kept w 3 refl) was.tokens)
+  pub sources_now : (xs : List PlacedRow) {content : List Row} → Wrote old new 10 content → HasSources (new 10) xs → Hold new (record (rows_of old) { sources = xs })
+  sources_now xs w now =
+      hold new (record (rows_of old) { sources = xs }) (kept w 0 refl ∙ was.meta) (stay (kept w 1 refl) was.domains) (stay (kept w 3 refl) was.tokens)
       (stay (kept w 5 refl) was.documents) (stay (kept w 7 refl) was.roots) (kept w 8 refl ∙ was.left_empty) now

@@ -34,7 +34,7 @@ pub mod HitLemmas
 pub mod DomainLemmas
 pub mod LastLemmas
 pub mod DocumentSteps
-pub mod AttributeSteps
+pub mod SourceSteps
 pub mod DomainSteps
 pub mod CascadeLemmas
 pub mod RunLemmas

@@ -3,7 +3,7 @@ use Rattle.std.proofs.Common.{◌≡◌, inl, inr, [], true, false, Result, Ok, 
 use Rattle.xa_store.proofs.Common.{both_ways, Database, Held, state, State, HasCleanDisk, KeepsCommit, KeepsCounts, Shows, Survives, Ghosts, Trees, Error, survives_begin, survives_then, IsSound, OpenError, Schema1, SameNow}
 use Rattle.sqlite.specs.Steps.{FailsToCommit}
 use Rattle.xa_store.specs.declared.schema.creation.Part.TheVariants as parts
-use Rattle.xa_store.specs.Check.{IsSoundIn, Made, Migrated}
+use Rattle.xa_store.specs.Check.{IsSoundIn, MakesTables, MigratesTables}
 use Rattle.xa_store.specs.Creation.{AreMade, IsBefore}
 use Rattle.xa_store.specs.Migration.{IsDone, IsFirst, IsSoundFirst}
 use Rattle.xa_store.specs.Opening.{AreNewTables, IsBlank, IsFailure, IsMigrated}
@@ -51,7 +51,7 @@ module _ {S : Type 0} (g : Ghosts S) (old mid last : Held S) where
 
       pub made : {X : Type 0} (x : X)
           → (HasCleanDisk (state g last) → IsTrue (state g mid).in_transaction × Shows (state g mid) (state g last) (state g mid).now (state g mid).now false × KeepsCounts (state g mid) (state g last) × ((state g last).marks ≡ []))
-          → Made (state g old) (state g last) (Ok x)
+          → MakesTables (state g old) (state g last) (Ok x)
       made x shown = record {
         survives = leaves_made;
         made = λ clean blank.
@@ -63,15 +63,15 @@ module _ {S : Type 0} (g : Ghosts S) (old mid last : Held S) where
       }
 
       pub unmade : {X : Type 0} (f : OpenError) (e : Error) → IsFailure f → (HasCleanDisk (state g mid) → IsTrue (state g mid).in_transaction) → (state g last).in_transaction ≡ false
-          → (HasCleanDisk (state g last) → FailsToCommit (state g mid) (state g last) e) → Made {X = X} (state g old) (state g last) (Err f)
+          → (HasCleanDisk (state g last) → FailsToCommit (state g mid) (state g last) e) → MakesTables {X = X} (state g old) (state g last) (Err f)
       unmade f e is goes_on ended failed =
           record { survives = leaves_made; made = λ clean blank. tt; same = λ clean blank up. undone e goes_on ended blank.settled clean up (failed clean); fails = is }
 
       -- a commit whose error is told as a failure
       pub made_or_not : (P : Error → OpenError → Type 0) → ((e : Error) (f : OpenError) → P e f → IsFailure f) → (done : Result (Unit {0}) Error) (r : Result (Unit {0}) OpenError) → MatchResult done (λ x. r ≡ Ok x) (λ e. IsErrAnd r (P e))
           → (HasCleanDisk (state g mid) → IsTrue (state g mid).in_transaction) → (state g last).in_transaction ≡ false → (HasCleanDisk (state g last) → OnOk done (IsTrue (state g mid).in_transaction × Shows (state g mid) (state g last) (state g mid).now (state g mid).now false × KeepsCounts (state g mid) (state g last) × ((state g last).marks ≡ [])))
-          → (HasCleanDisk (state g last) → IfErr done (FailsToCommit (state g mid) (state g last))) → Made (state g old) (state g last) r
-      made_or_not P told (Ok x) r h goes_on ended shown failed = subst (λ (r : Result (Unit {0}) OpenError). Made (state g old) (state g last) r) (sym h) (made x shown)
+          → (HasCleanDisk (state g last) → IfErr done (FailsToCommit (state g mid) (state g last))) → MakesTables (state g old) (state g last) r
+      made_or_not P told (Ok x) r h goes_on ended shown failed = subst (λ (r : Result (Unit {0}) OpenError). MakesTables (state g old) (state g last) r) (sym h) (made x shown)
       made_or_not P told (Err e) (Ok x) h goes_on ended shown failed = absurd h
       made_or_not P told (Err e) (Err f) h goes_on ended shown failed = unmade f e (told e f h) goes_on ended failed
 
@@ -97,7 +97,7 @@ module _ {S : Type 0} (g : Ghosts S) (old mid last : Held S) where
 
       pub migrated : {X : Type 0} (x : X)
           → (HasCleanDisk (state g last) → IsTrue (state g mid).in_transaction × Shows (state g mid) (state g last) (state g mid).now (state g mid).now false × KeepsCounts (state g mid) (state g last) × ((state g last).marks ≡ []))
-          → Migrated (state g old) (state g last) (Ok x)
+          → MigratesTables (state g old) (state g last) (Ok x)
       migrated x shown = record {
         survives = leaves_migrated;
         migrated = λ clean sound.
@@ -109,14 +109,14 @@ module _ {S : Type 0} (g : Ghosts S) (old mid last : Held S) where
       }
 
       pub unmigrated : {X : Type 0} (f : OpenError) (e : Error) → IsFailure f → (HasCleanDisk (state g mid) → IsTrue (state g mid).in_transaction) → (state g last).in_transaction ≡ false
-          → (HasCleanDisk (state g last) → FailsToCommit (state g mid) (state g last) e) → Migrated {X = X} (state g old) (state g last) (Err f)
+          → (HasCleanDisk (state g last) → FailsToCommit (state g mid) (state g last) e) → MigratesTables {X = X} (state g old) (state g last) (Err f)
       unmigrated f e is goes_on ended failed =
           record { survives = leaves_migrated; migrated = λ clean sound. tt; same = λ clean rests up. undone e goes_on ended rests.settled clean up (failed clean); fails = is }
 
       -- a commit whose error is told as a failure
       pub migrated_or_not : (P : Error → OpenError → Type 0) → ((e : Error) (f : OpenError) → P e f → IsFailure f) → (done : Result (Unit {0}) Error) (r : Result (Unit {0}) OpenError) → MatchResult done (λ x. r ≡ Ok x) (λ e. IsErrAnd r (P e))
           → (HasCleanDisk (state g mid) → IsTrue (state g mid).in_transaction) → (state g last).in_transaction ≡ false → (HasCleanDisk (state g last) → OnOk done (IsTrue (state g mid).in_transaction × Shows (state g mid) (state g last) (state g mid).now (state g mid).now false × KeepsCounts (state g mid) (state g last) × ((state g last).marks ≡ [])))
-          → (HasCleanDisk (state g last) → IfErr done (FailsToCommit (state g mid) (state g last))) → Migrated (state g old) (state g last) r
-      migrated_or_not P told (Ok x) r h goes_on ended shown failed = subst (λ (r : Result (Unit {0}) OpenError). Migrated (state g old) (state g last) r) (sym h) (migrated x shown)
+          → (HasCleanDisk (state g last) → IfErr done (FailsToCommit (state g mid) (state g last))) → MigratesTables (state g old) (state g last) r
+      migrated_or_not P told (Ok x) r h goes_on ended shown failed = subst (λ (r : Result (Unit {0}) OpenError). MigratesTables (state g old) (state g last) r) (sym h) (migrated x shown)
       migrated_or_not P told (Err e) (Ok x) h goes_on ended shown failed = absurd h
       migrated_or_not P told (Err e) (Err f) h goes_on ended shown failed = unmigrated f e (told e f h) goes_on ended failed

@@ -1,6 +1,6 @@
 -- Tables that were brought into schema 2 are sound, and mean what those of schema 1 meant.
 use Rattle.std.proofs.Common.{◌≡◌, ℕ, ◌+◌, ◌<◌, ℤ, pos, true, ◌&&◌, cond, List, [], ◌∷◌, map, filter, int_cmp, int_eq, int_lt, Ok, Err, refl, sym, ap, subst, ◌∙◌, arith}
-use Rattle.xa_store.proofs.Common.{from_entries, list_all, on, ints, Database, Row, Trees, IsSound, sort_by, filter-map, map-map, map_same, first_of_both, second_of_both, sort_by-map, SourceRow, Damaged, CheckedTable, Domains, Tokens, Documents, Roots, Attributes, Sources, Schema1, Schema2, are_counted, are_rising, are_sound_rows, as_read, is_count, is_empty, is_left_empty, is_sound, is_sound_row, is_sound_table, is_whole_row, checked, tables_in, known_next, opened, place_in, read_meta, row_number, AttributeRow, DomainRow, attribute_in, document_in, domain_in, meta_row, nat_of, next_in, root_in, token_in, unissued_in, attributes_at, documents_at, domain_entry, first_rows_of, first_world_of, library_of, roles_of, root_at, rows_of, source_of, state_at, tokens_at, world_of}
+use Rattle.xa_store.proofs.Common.{from_entries, list_all, on, ints, Database, Row, Trees, IsSound, sort_by, filter-map, map-map, map_same, first_of_both, second_of_both, sort_by-map, SourceRow, Damaged, CheckedTable, Domains, Tokens, Documents, Roots, Attributes, Sources, Schema1, Schema2, are_counted, are_rising, are_sound_rows, as_read, is_count, is_empty, is_left_empty, is_sound, is_sound_row, is_sound_table, is_whole_row, checked, tables_in, known_next, opened, place_in, read_meta, row_number, PlacedRow, DomainRow, placed_row_in, document_in, domain_in, meta_row, nat_of, next_in, root_in, token_in, unissued_in, sources_at, documents_at, domain_entry, first_rows_of, first_world_of, library_of, roles_of, root_at, rows_of, source_of, state_at, tokens_at, world_of}
 use Rattle.xa_store.specs.Migration.{IsDone, IsSoundFirst, moved_row, moved_rows}
 use Rattle.xa_store.specs.Opening.{IsMigrated}
 use Rattle.xa_store.proofs.MigratingLemmas.{its_meta}
@@ -39,24 +39,24 @@ places_same k (row ∷ rows) = ap (λ l. place_in row ∷ l) (places_same (k + 1
 abbrev Core : Type 0
 Core = ℤ × ℤ × SourceRow
 
-abbrev core : AttributeRow → Core
+abbrev core : PlacedRow → Core
 core a = (a.number, a.place, a.row)
 
 abbrev source_by_core : List Core → ℤ → List SourceRow
 source_by_core cores n = map (λ (c : Core). c.2) (sort_by (on (λ (c : Core). c.1) int_cmp) (filter (λ (c : Core). int_eq c.0 n) cores))
 
-by_core : (all : List AttributeRow) (n : ℤ) → source_by_core (map core all) n ≡ source_of (attributes_at all n)
+by_core : (all : List PlacedRow) (n : ℤ) → source_by_core (map core all) n ≡ source_of (sources_at all n)
 by_core all n =
     ap (λ l. map (λ (c : Core). c.2) (sort_by (on (λ (c : Core). c.1) int_cmp) l)) (filter-map (λ (c : Core). int_eq c.0 n) core all)
-    ∙ ap (map (λ (c : Core). c.2)) (sort_by-map (on (λ (c : Core). c.1) int_cmp) core (attributes_at all n))
-    ∙ map-map (λ (c : Core). c.2) core (sort_by (on (λ (a : AttributeRow). a.place) int_cmp) (attributes_at all n))
+    ∙ ap (map (λ (c : Core). c.2)) (sort_by-map (on (λ (c : Core). c.1) int_cmp) core (sources_at all n))
+    ∙ map-map (λ (c : Core). c.2) core (sort_by (on (λ (a : PlacedRow). a.place) int_cmp) (sources_at all n))
 
-cores_same : (k : ℕ) (rows : List Row) → map core (map attribute_in (moved_rows k rows)) ≡ map core (map unissued_in rows)
+cores_same : (k : ℕ) (rows : List Row) → map core (map placed_row_in (moved_rows k rows)) ≡ map core (map unissued_in rows)
 cores_same k [] = refl
 cores_same k (row ∷ rows) = ap (λ l. core (unissued_in row) ∷ l) (cores_same (k + 1) rows)
 
-source_same : (rows : List Row) (n : ℤ) → source_of (attributes_at (map attribute_in (moved_rows 1 rows)) n) ≡ source_of (attributes_at (map unissued_in rows) n)
-source_same rows n = sym (by_core (map attribute_in (moved_rows 1 rows)) n) ∙ ap (λ l. source_by_core l n) (cores_same 1 rows) ∙ by_core (map unissued_in rows) n
+source_same : (rows : List Row) (n : ℤ) → source_of (sources_at (map placed_row_in (moved_rows 1 rows)) n) ≡ source_of (sources_at (map unissued_in rows) n)
+source_same rows n = sym (by_core (map placed_row_in (moved_rows 1 rows)) n) ∙ ap (λ l. source_by_core l n) (cores_same 1 rows) ∙ by_core (map unissued_in rows) n
 
 -- ---- all tables
 
@@ -108,7 +108,7 @@ module _ (first : Trees) (sound : IsSoundFirst first) (d : Database) (done : IsD
     tokens = roles_of (tokens_at (map token_in (done.others.1.0 i)) n);
     documents = library_of (documents_at (map document_in (done.others.1.1.0 i)) n);
     root = root_at (map root_in (done.others.1.1.1.0 i)) n;
-    source = (ap (λ rows. source_of (attributes_at (map attribute_in rows) n)) done.sources ∙ source_same (first 8) n) i;
+    source = (ap (λ rows. source_of (sources_at (map placed_row_in rows) n)) done.sources ∙ source_same (first 8) n) i;
   }
 
   entries : map (domain_entry (rows_of db)) (map domain_in (db 1)) ≡ map (domain_entry (first_rows_of first)) (map domain_in (first 1))

@@ -1,6 +1,6 @@
 -- What the statements make that bring schema 1 into schema 2.
 use Rattle.std.proofs.Common.{◌≡◌, ℕ, ◌+◌, ℤ, pos, ◌+ℤ◌, List, [], ◌∷◌, ◌++◌, map, true, false, Less, None, Ok, refl, sym, ap, subst, ◌∙◌, append-nil, append_assoc, arith, IsPermutation}
-use Rattle.xa_store.proofs.Common.{AllByRecursion, Row, column, overlay, Output, output_cmp, Chosen, State, Executes, col, Trees, Null, Int, Text, one_step, IsSound, Datatype, Enforced, IsSureAnswer, Eq, output_cmp_total, put_row, cast_row, numbered, put_all, with_rowid, IsKeyedBy, next_key, all_map, all_of, ascending-map, filter_none, map-map, second_of_both, sorted_unique, puts-map, at_ints, last_term, Attributes, Schema1, are_rising, is_number, row_number, AttributeRow, attribute_in, attribute_row, meta_row, meta_row_of, next_in, type_number, value_text, AreRows, same_place, attributes, first_schema, meta, our_schema, sources}
+use Rattle.xa_store.proofs.Common.{AllByRecursion, Row, column, overlay, Output, output_cmp, Chosen, State, Executes, col, Trees, Null, Int, Text, one_step, IsSound, Datatype, Enforced, IsSureAnswer, Eq, output_cmp_total, put_row, cast_row, numbered, put_all, with_rowid, IsKeyedBy, next_key, all_map, all_of, ascending-map, filter_none, map-map, second_of_both, sorted_unique, puts-map, at_ints, last_term, Attributes, Schema1, are_rising, is_number, row_number, PlacedRow, placed_row_in, placed_row, meta_row, meta_row_of, next_in, type_number, value_text, AreRows, same_place, attributes, first_schema, meta, our_schema, sources}
 use Rattle.std.proofs.lemmas.List.Sums.{fold-append}
 use Rattle.sqlite_rules.specs.Edit.{edit_of}
 use Rattle.xa_store.specs.declared.schema.migration.Stage.{Stage}
@@ -27,7 +27,7 @@ use Rattle.xa_store.proofs.WriteLemmas.{next_rowid_is, row_updated, rows_removed
 
 -- ---- what is known of tables of schema 1 that are sound
 
-abbrev rowid_of : AttributeRow → ℤ
+abbrev rowid_of : PlacedRow → ℤ
 rowid_of a = a.rowid
 
 module _ (first : Trees) (sound : IsSoundFirst first) where
@@ -37,13 +37,13 @@ module _ (first : Trees) (sound : IsSoundFirst first) where
   pub its_meta : first 0 ≡ meta_row_of (pos 1) next ∷ []
   its_meta = meta_is Schema1 next first_schema first (sound.database.obeys.rules Datatype).0 (found Schema1 first sound.opens).1
 
-  pub its_rows : AreRows attribute_row attribute_in rowid_of same_place (first 8)
+  pub its_rows : AreRows placed_row placed_row_in rowid_of same_place (first 8)
   its_rows = first_sources_are first next sound.database (in_kind Schema1 first next (found Schema1 first sound.opens).2).1.1.1.1.0
 
   numbers : HasNumbers Attributes first
   numbers =
       subst (AllByRecursion (λ row. is_number (column row 0) ≡ true)) (sym its_rows.written)
-      (all_map (λ row. is_number (column row 0) ≡ true) attribute_row (map attribute_in (first 8)) (all_of _ (λ a. refl) (map attribute_in (first 8))))
+      (all_map (λ row. is_number (column row 0) ≡ true) placed_row (map placed_row_in (first 8)) (all_of _ (λ a. refl) (map placed_row_in (first 8))))
 
   up : are_rising (map row_number (first 8)) ≡ true
   up =
@@ -53,39 +53,39 @@ module _ (first : Trees) (sound : IsSoundFirst first) where
 -- ---- the rows in the table of sources
 
 -- a row as it is moved, and all of them
-abbrev pub moved : ℕ → AttributeRow → AttributeRow
+abbrev pub moved : ℕ → PlacedRow → PlacedRow
 moved k a = record { rowid = pos k; number = a.number; place = a.place; row = record a.row { issuer = None }; is_full = true }
 
-abbrev pub all_moved : ℕ → List AttributeRow → List AttributeRow
+abbrev pub all_moved : ℕ → List PlacedRow → List PlacedRow
 all_moved k [] = []
 all_moved k (a ∷ rest) = moved k a ∷ all_moved (k + 1) rest
 
-pub moved_written : (k : ℕ) (rest : List AttributeRow) → moved_rows k (map attribute_row rest) ≡ map attribute_row (all_moved k rest)
+pub moved_written : (k : ℕ) (rest : List PlacedRow) → moved_rows k (map placed_row rest) ≡ map placed_row (all_moved k rest)
 moved_written k [] = refl
-moved_written k (a ∷ rest) = ap (λ l. attribute_row (moved k a) ∷ l) (moved_written (k + 1) rest)
+moved_written k (a ∷ rest) = ap (λ l. placed_row (moved k a) ∷ l) (moved_written (k + 1) rest)
 
 -- what the query shows of a row
 abbrev given : Row → Row
 given r = Null ∷ column r 1 ∷ column r 2 ∷ column r 3 ∷ column r 4 ∷ column r 5 ∷ column r 6 ∷ column r 7 ∷ Null ∷ []
 
-given_cast : (a : AttributeRow) → cast_row sources (given (attribute_row a)) ≡ given (attribute_row a)
+given_cast : (a : PlacedRow) → cast_row sources (given (placed_row a)) ≡ given (placed_row a)
 given_cast a = λ i.
     cast_null i ∷ cast_int a.number i ∷ cast_int a.place i ∷ Text a.row.category ∷ Text a.row.entity ∷ Text a.row.attribute_id ∷ cast_int (type_number a.row.value) i ∷ Text (value_text a.row.value)
     ∷ Null ∷ []
 
 -- after some that are there under the rowids below k
-module _ (done : List AttributeRow) (k : ℕ) (rise : IsKeyedBy rowid_of done) (free : next_key rowid_of done ≡ pos k) (a : AttributeRow) where
-  numbered_next : with_rowid Chosen (map attribute_row done) (cast_row sources (given (attribute_row a))) ≡ attribute_row (moved k a)
+module _ (done : List PlacedRow) (k : ℕ) (rise : IsKeyedBy rowid_of done) (free : next_key rowid_of done ≡ pos k) (a : PlacedRow) where
+  numbered_next : with_rowid Chosen (map placed_row done) (cast_row sources (given (placed_row a))) ≡ placed_row (moved k a)
   numbered_next =
-      ap (with_rowid Chosen (map attribute_row done)) (given_cast a)
+      ap (with_rowid Chosen (map placed_row done)) (given_cast a)
       ∙ ap
       (λ n. Int n ∷ Int a.number ∷ Int a.place ∷ Text a.row.category ∷ Text a.row.entity ∷ Text a.row.attribute_id ∷ Int (type_number a.row.value) ∷ Text (value_text a.row.value) ∷ Null ∷ [])
-      (next_rowid_is attribute_row rowid_of (λ _. refl) done ∙ free)
+      (next_rowid_is placed_row rowid_of (λ _. refl) done ∙ free)
 
-  put_next : put_row (attribute_row (moved k a)) (map attribute_row done) ≡ map attribute_row (done ++ moved k a ∷ [])
+  put_next : put_row (placed_row (moved k a)) (map placed_row done) ≡ map placed_row (done ++ moved k a ∷ [])
   put_next =
-      puts-map rowid_of attribute_row (λ _. refl) (moved k a ∷ []) done
-      ∙ ap (map attribute_row) (stands_last rowid_of same_place (λ _. Unit {0}) done (moved k a) rise (sym free))
+      puts-map rowid_of placed_row (λ _. refl) (moved k a ∷ []) done
+      ∙ ap (map placed_row) (stands_last rowid_of same_place (λ _. Unit {0}) done (moved k a) rise (sym free))
 
   up_next : IsKeyedBy rowid_of (done ++ moved k a ∷ [])
   up_next = keyed_last rowid_of same_place (λ _. Unit {0}) done (moved k a) rise (sym free)
@@ -93,23 +93,23 @@ module _ (done : List AttributeRow) (k : ℕ) (rise : IsKeyedBy rowid_of done) (
   next_next : next_key rowid_of (done ++ moved k a ∷ []) ≡ pos (k + 1)
   next_next = fold-append (λ _ x. rowid_of x +ℤ pos 1) (pos 1) done (moved k a ∷ [])
 
-all_numbered : (rest done : List AttributeRow) (k : ℕ) → IsKeyedBy rowid_of done → next_key rowid_of done ≡ pos k
-    → numbered Chosen (map attribute_row done) (map (λ r. cast_row sources (given r)) (map attribute_row rest)) ≡ map attribute_row (all_moved k rest)
+all_numbered : (rest done : List PlacedRow) (k : ℕ) → IsKeyedBy rowid_of done → next_key rowid_of done ≡ pos k
+    → numbered Chosen (map placed_row done) (map (λ r. cast_row sources (given r)) (map placed_row rest)) ≡ map placed_row (all_moved k rest)
 all_numbered [] done k rise free = refl
 all_numbered (a ∷ rest) done k rise free =
     let it = numbered_next done k rise free a in
-    let more = map (λ r. cast_row sources (given r)) (map attribute_row rest) in
-    ap (λ r. r ∷ numbered Chosen (put_row r (map attribute_row done)) more) it
-    ∙ ap (λ rows. attribute_row (moved k a) ∷ numbered Chosen rows more) (put_next done k rise free a)
-    ∙ ap (λ l. attribute_row (moved k a) ∷ l) (all_numbered rest (done ++ moved k a ∷ []) (k + 1) (up_next done k rise free a) (next_next done k rise free a))
+    let more = map (λ r. cast_row sources (given r)) (map placed_row rest) in
+    ap (λ r. r ∷ numbered Chosen (put_row r (map placed_row done)) more) it
+    ∙ ap (λ rows. placed_row (moved k a) ∷ numbered Chosen rows more) (put_next done k rise free a)
+    ∙ ap (λ l. placed_row (moved k a) ∷ l) (all_numbered rest (done ++ moved k a ∷ []) (k + 1) (up_next done k rise free a) (next_next done k rise free a))
 
-all_put : (rest done : List AttributeRow) (k : ℕ) → IsKeyedBy rowid_of done → next_key rowid_of done ≡ pos k
-    → put_all (map attribute_row done) (map attribute_row (all_moved k rest)) ≡ map attribute_row (done ++ all_moved k rest)
-all_put [] done k rise free = ap (map attribute_row) (sym (append-nil done))
+all_put : (rest done : List PlacedRow) (k : ℕ) → IsKeyedBy rowid_of done → next_key rowid_of done ≡ pos k
+    → put_all (map placed_row done) (map placed_row (all_moved k rest)) ≡ map placed_row (done ++ all_moved k rest)
+all_put [] done k rise free = ap (map placed_row) (sym (append-nil done))
 all_put (a ∷ rest) done k rise free =
-    ap (λ rows. put_all rows (map attribute_row (all_moved (k + 1) rest))) (put_next done k rise free a)
+    ap (λ rows. put_all rows (map placed_row (all_moved (k + 1) rest))) (put_next done k rise free a)
     ∙ all_put rest (done ++ moved k a ∷ []) (k + 1) (up_next done k rise free a) (next_next done k rise free a)
-    ∙ ap (map attribute_row) (append_assoc done (moved k a ∷ []) (all_moved (k + 1) rest))
+    ∙ ap (map placed_row) (append_assoc done (moved k a ∷ []) (all_moved (k + 1) rest))
 
 -- ---- the stages
 
@@ -117,11 +117,11 @@ module _ (first : Trees) (sound : IsSoundFirst first) (old new : State) (count :
   abbrev db : Trees
   db = old.now.trees
 
-  abbrev xs : List AttributeRow
-  xs = map attribute_in (first 8)
+  abbrev xs : List PlacedRow
+  xs = map placed_row_in (first 8)
 
   -- the rows that the query gives, in their order
-  rows_given : db 8 ≡ first 8 → (rows : List Row) → IsSureAnswer filled_query (overlay db []) [] rows → rows ≡ map given (map attribute_row xs)
+  rows_given : db 8 ≡ first 8 → (rows : List Row) → IsSureAnswer filled_query (overlay db []) [] rows → rows ≡ map given (map placed_row xs)
   rows_given there rows answer =
       let it = sorted_is 8 filled_given filled_collations db refl rows answer in
       let out = out_by_rowid 8 filled_given filled_collations db refl in
@@ -136,9 +136,9 @@ module _ (first : Trees) (sound : IsSoundFirst first) (old new : State) (count :
       let rows = rows_given before.attributes adds.0 adds.1.answer in
       let edit = edit_of db sources [] Chosen 0 adds.0 in
       let it = one_step our_schema Enforced db new.now.trees edit (works_of_coming 10 edit.news) adds.2.edited in
-      let news : edit.news ≡ map attribute_row (all_moved 1 xs) =
-      ap (λ l. numbered Chosen (db 10) (map (cast_row sources) l)) rows ∙ ap (numbered Chosen (db 10)) (map-map (cast_row sources) given (map attribute_row xs))
-      ∙ ap (λ l. numbered Chosen l (map (λ r. cast_row sources (given r)) (map attribute_row xs))) before.sources ∙ all_numbered xs [] 1 tt refl in
+      let news : edit.news ≡ map placed_row (all_moved 1 xs) =
+      ap (λ l. numbered Chosen (db 10) (map (cast_row sources) l)) rows ∙ ap (numbered Chosen (db 10)) (map-map (cast_row sources) given (map placed_row xs))
+      ∙ ap (λ l. numbered Chosen l (map (λ r. cast_row sources (given r)) (map placed_row xs))) before.sources ∙ all_numbered xs [] 1 tt refl in
       let stays = of_other 10 (λ t. new.now.trees t ≡ db t) it.others in
       record {
         schema = adds.2.schema;
@@ -146,7 +146,7 @@ module _ (first : Trees) (sound : IsSoundFirst first) (old new : State) (count :
         meta = stays 0 refl ∙ before.meta;
         attributes = stays 8 refl ∙ before.attributes;
         sources =
-            it.rows ∙ ap (λ l. put_all (db 10) l) news ∙ ap (λ l. put_all l (map attribute_row (all_moved 1 xs))) before.sources ∙ all_put xs [] 1 tt refl
+            it.rows ∙ ap (λ l. put_all (db 10) l) news ∙ ap (λ l. put_all l (map placed_row (all_moved 1 xs))) before.sources ∙ all_put xs [] 1 tt refl
             ∙ sym (moved_written 1 xs) ∙ ap (moved_rows 1) (sym (its_rows first sound).written);
         others = (stays 1 refl ∙ before.others.0, (stays 3 refl ∙ before.others.1.0, (stays 5 refl ∙ before.others.1.1.0, (stays 7 refl ∙ before.others.1.1.1.0, tt))));
       }
@@ -155,15 +155,15 @@ module _ (first : Trees) (sound : IsSoundFirst first) (old new : State) (count :
   emptied before h =
       let edits = deletes text.attributes_emptied [] old new before.schema 5 attributes refl count attributes_emptied_query attributes_emptied_is h in
       let answer = answered 8 [] (col 1 0 ∷ []) [] db refl [] edits.rows edits.answer.answer in
-      let there : db 8 ≡ map attribute_row xs = before.attributes ∙ (its_rows first sound).written in
-      let wrote = rows_removed attribute_row rowid_of (λ _. refl) attributes db new.now.trees xs there (its_rows first sound).rise [] (col 1 0 ∷ []) refl [] (λ _. true) (all_of _ (λ _. refl) xs)
+      let there : db 8 ≡ map placed_row xs = before.attributes ∙ (its_rows first sound).written in
+      let wrote = rows_removed placed_row rowid_of (λ _. refl) attributes db new.now.trees xs there (its_rows first sound).rise [] (col 1 0 ∷ []) refl [] (λ _. true) (all_of _ (λ _. refl) xs)
       (λ _. refl) refl edits.rows answer edits.edited in
       let stays = of_other 8 (λ t. new.now.trees t ≡ db t) wrote.others in
       record {
         schema = edits.schema;
         database = subst (λ schema. IsSound schema new.now.trees) (sym edits.schema) edits.database;
         meta = stays 0 refl ∙ before.meta;
-        attributes = wrote.rows ∙ ap (map attribute_row) (filter_none (λ _. false) xs (all_of _ (λ _. refl) xs));
+        attributes = wrote.rows ∙ ap (map placed_row) (filter_none (λ _. false) xs (all_of _ (λ _. refl) xs));
         sources = stays 10 refl ∙ before.sources;
         others = (stays 1 refl ∙ before.others.0, (stays 3 refl ∙ before.others.1.0, (stays 5 refl ∙ before.others.1.1.0, (stays 7 refl ∙ before.others.1.1.1.0, tt))));
       }

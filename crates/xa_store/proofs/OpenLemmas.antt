@@ -3,7 +3,7 @@ use Rattle.std.proofs.Common.{◌≡◌, ◌⊎◌, inl, inr, Bool, true, false,
 use Rattle.xa_store.proofs.Common.{Database, IsDatabase, Held, state, State, HasCleanDisk, Survives, Ghosts, Trees, clean_if_open, survives_then, survives_weaker, second_of_both, OpenError, Store, SchemaVersion, Schema1, Schema2, opened, schema_of, Ours, Rests, RestsIn, SameNow, first_schema, world_of}
 use Rattle.sqlite_schema.specs.Names.{same_name}
 use Rattle.sqlite_catalog.specs.Listing.{IsSound as IsSoundUnder}
-use Rattle.xa_store.specs.Check.{Checked, IsIdle, IsSoundIn, Loads, Made, Migrated, Tested}
+use Rattle.xa_store.specs.Check.{Checked, IsIdle, IsSoundIn, Loads, MakesTables, MigratesTables, Tested}
 use Rattle.xa_store.specs.Keeper.{Keeper, IsKeeper, IsSound}
 use Rattle.xa_store.specs.Opening.{AreNewTables, GivesOrFails, IsBlank, IsFailure, IsKnown, IsMigrated, IsRefusal, LeavesAlone, Makes, MayLeaveTables, Migrates, Opens, Settles, has_room, is_free, no_tables, schema_version_in}
 use Rattle.xa_store.proofs.ApartLemmas.{fails_no_refusal, survives_still}
@@ -129,10 +129,10 @@ module _ (a b : State) (room : IsTrue (has_room a.now.schema)) where
     stays = λ clean h. tt;
   }
 
-  pub not_made : (e : OpenError) → Made {X = Unit {0}} a b (Err e) → Loads a b (Err e)
+  pub not_made : (e : OpenError) → MakesTables {X = Unit {0}} a b (Err e) → Loads a b (Err e)
   not_made e made = failed_loads b e made.fails (survives_weaker a b _ (MayLeaveTables a) (λ _ db h. leaves db h) made.survives) (λ clean blank up. inl (made.same clean blank up))
 
-  module _ (c : State) (x : Unit {0}) (made : Made a b (Ok x)) where
+  module _ (c : State) (x : Unit {0}) (made : MakesTables a b (Ok x)) where
     module _ (r : Result Bool OpenError) (test : Tested Schema2 b c r) where
       between : HasCleanDisk c → HasCleanDisk b
       between clean = omega (arith, test.survives.clean)
@@ -226,7 +226,7 @@ module _ (a b : State) (full : has_room a.now.schema ≡ false) (first : schema_
     sound : HasCleanDisk b → RestsIn first_schema a → IsSoundIn Schema1 b
     sound clean rests = test.sound clean (test.known rests)
 
-    module _ (r : Result (Unit {0}) OpenError) (moved : Migrated b c r) where
+    module _ (r : Result (Unit {0}) OpenError) (moved : MigratesTables b c r) where
       first_between : HasCleanDisk c → HasCleanDisk b
       first_between clean = omega (arith, moved.survives.clean)
 
@@ -239,7 +239,7 @@ module _ (a b : State) (full : has_room a.now.schema ≡ false) (first : schema_
             λ rests. subst (λ (d : Database). IsMigrated d.trees db) (first_same (first_between clean) rests).committed (h (sound (first_between clean) rests)),
           )) test.survives moved.survives
 
-    pub migrated_loads : (x : Unit {0}) → Migrated b c (Ok x) → Loads a c (Ok own)
+    pub migrated_loads : (x : Unit {0}) → MigratesTables b c (Ok x) → Loads a c (Ok own)
     migrated_loads x moved = record {
       survives = first_left_at_last (Ok x) moved;
       left = tt;
@@ -257,7 +257,7 @@ module _ (a b : State) (full : has_room a.now.schema ≡ false) (first : schema_
       stays = λ clean h. first_known (λ rests. (moved.migrated clean (sound (first_between (Ok x) moved clean) rests)).0) h;
     }
 
-    pub unmigrated_loads : (e : OpenError) → Migrated {X = Unit {0}} b c (Err e) → Loads a c (Err e)
+    pub unmigrated_loads : (e : OpenError) → MigratesTables {X = Unit {0}} b c (Err e) → Loads a c (Err e)
     unmigrated_loads e moved = record {
       survives = first_left_at_last (Err e) moved;
       left = λ refusal. absurd (fails_no_refusal e moved.fails refusal);

@@ -1,6 +1,6 @@
 -- Tables that opening finds sound are those of a keeper, and tables as they are made are sound.
 use Rattle.std.proofs.Common.{◌≡◌, ℕ, ℤ, pos, Bool, true, false, ◌&&◌, cond, List, [], ◌∷◌, map, Option, Some, None, Result, Ok, Err, refl, sym, ap, subst, ◌∙◌, true≢false}
-use Rattle.xa_store.proofs.Common.{from_entries, AllByRecursion, list_all, IsDatabase, Row, column, State, Trees, IsSound, all_from_test, all_map, all_weaker, map-map, first_of_both, second_of_both, Datatype, int_of, is_domain_name, IsDocumentOf, nothing_kept, OpenError, Damaged, CheckedTable, Domains, Tokens, Documents, Roots, Sources, SchemaVersion, Schema2, are_counted, as_read, count_from, holds_int, is_assigned, is_count, is_digest, is_empty, is_left_empty, is_sound, is_sound_table, is_whole_row, checked, tables_in, known_next, opened, place_in, places_of, read_meta, sources_in, tree_of, attribute_in, document_in, domain_in, meta_row, nat_of, next_in, root_in, token_in, AreDocuments, AreNumbered, AreTables, AreWhole, Ours, Rests, place_of, our_schema, domain_entry, rows_of, world_of}
+use Rattle.xa_store.proofs.Common.{from_entries, AllByRecursion, list_all, IsDatabase, Row, column, State, Trees, IsSound, all_from_test, all_map, all_weaker, map-map, first_of_both, second_of_both, Datatype, int_of, is_domain_name, IsDocumentOf, nothing_kept, OpenError, Damaged, CheckedTable, Domains, Tokens, Documents, Roots, Sources, SchemaVersion, Schema2, are_counted, as_read, count_from, holds_int, is_assigned, is_count, is_digest, is_empty, is_left_empty, is_sound, is_sound_table, is_whole_row, checked, tables_in, known_next, opened, place_in, places_of, read_meta, sources_in, tree_of, placed_row_in, document_in, domain_in, meta_row, nat_of, next_in, root_in, token_in, AreDocuments, AreNumbered, AreTables, AreWhole, Ours, Rests, place_of, our_schema, domain_entry, rows_of, world_of}
 use Rattle.xa_store.specs.Opening.{AreNewTables}
 use Rattle.xa_store.proofs.AreRowsLemmas.{domains_are, sources_are, tokens_are, whole}
 use Rattle.xa_store.proofs.ColumnLemmas.{root_texts, source_texts}
@@ -10,7 +10,7 @@ use Rattle.xa_store.proofs.NumberedLemmas.{numbers_are}
 use Rattle.xa_store.proofs.RootRowLemmas.{meta_is, roots_are}
 use Rattle.xa_store.proofs.ShapeLemmas.{blob_held, int_held, text_held}
 use Rattle.xa_store.proofs.ShapedLemmas.{whole_source}
-use Rattle.xa_store.proofs.WholeLemmas.{IsWholeAttribute, IsWholeDocument, IsWholeDomain, IsWholeRoot, IsWholeToken}
+use Rattle.xa_store.proofs.WholeLemmas.{IsWholeDocument, IsWholeDomain, IsWholePlacedRow, IsWholeRoot, IsWholeToken}
 
 -- ---- what opening has found
 
@@ -76,7 +76,7 @@ module _ (db : Trees) (next : ℤ) (live : IsSound our_schema db) (known : known
     documents = documents_are db next live all.1.1.0;
     roots = roots_are db next live all.1.1.1.0;
     left_empty = empty_from (db 8) (left_empty Schema2 db next sound);
-    attributes = sources_are db next live all.1.1.1.1.0;
+    sources = sources_are db next live all.1.1.1.1.0;
   }
 
   -- ---- columns
@@ -109,11 +109,11 @@ module _ (db : Trees) (next : ℤ) (live : IsSound our_schema db) (known : known
   root_whole : (row : Row) → IsWhole Roots row → IsWholeRoot next (root_in row)
   root_whole row h = (number_assigned row 0 (first_of_both _ _ (first_of_both _ _ (first_of_both _ _ (first_of_both _ _ (first_of_both _ _ (second_of_both _ _ h)))))), root_texts next row h)
 
-  attribute_whole : (row : Row) → IsWhole Sources row → IsWholeAttribute next (attribute_in row)
-  attribute_whole row h = (number_assigned row 1 (first_of_both _ _ (first_of_both _ _ (first_of_both _ _ (first_of_both _ _ (second_of_both _ _ (whole_source next row h).0))))), source_texts next row h)
+  placed_row_whole : (row : Row) → IsWhole Sources row → IsWholePlacedRow next (placed_row_in row)
+  placed_row_whole row h = (number_assigned row 1 (first_of_both _ _ (first_of_both _ _ (first_of_both _ _ (first_of_both _ _ (second_of_both _ _ (whole_source next row h).0))))), source_texts next row h)
 
-  places : (n : ℤ) → count_from (pos 0) (places_of (map place_of (map attribute_in (db 10))) n) ≡ true
-  places n = ap (λ l. count_from (pos 0) (places_of l n)) (map-map place_of attribute_in (db 10)) ∙ counted_each (map place_in (db 10)) (places_counted Schema2 db next sound) n
+  places : (n : ℤ) → count_from (pos 0) (places_of (map place_of (map placed_row_in (db 10))) n) ≡ true
+  places n = ap (λ l. count_from (pos 0) (places_of l n)) (map-map place_of placed_row_in (db 10)) ∙ counted_each (map place_in (db 10)) (places_counted Schema2 db next sound) n
 
   columns : AreWhole (rows_of db)
   columns = subst (λ n. AreWhole (record (rows_of db) { next = n })) next_is (record {
@@ -122,7 +122,7 @@ module _ (db : Trees) (next : ℤ) (live : IsSound our_schema db) (known : known
     tokens = each Tokens all.1.0 token_in (IsWholeToken next) token_whole;
     documents = each Documents all.1.1.0 document_in (IsWholeDocument next) document_assigned;
     roots = each Roots all.1.1.1.0 root_in (IsWholeRoot next) root_whole;
-    attributes = each Sources all.1.1.1.1.0 attribute_in (IsWholeAttribute next) attribute_whole;
+    sources = each Sources all.1.1.1.1.0 placed_row_in (IsWholePlacedRow next) placed_row_whole;
     places = places;
   })
 

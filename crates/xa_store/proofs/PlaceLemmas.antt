@@ -1,6 +1,6 @@
 -- What the query for the places of the rows of sources tells, and the query of the first table.
 use Rattle.std.proofs.Common.{◌≡◌, ℕ, Bool, true, false, ◌&&◌, List, [], ◌∷◌, map, filter, length, Ordering, is_eq, int_cmp, refl, sym, ap, subst, ◌∙◌, arith, IsPermutation}
-use Rattle.xa_store.proofs.Common.{nil_from_length, length_permutation, IsPermutation-map, IsPlain, understood, Row, Output, State, Shown, col, Trees, Int, reads_as, one_permutation, sort_by, all_of, ascending-map, ascending_weaker, filter_all, map-map, sort_by-map, IsAscending, then_key, last_key, value_cmp-Int, SchemaVersion, Schema1, Schema2, Place, are_counted, is_empty, is_left_empty, known_next, place_in, read_meta, schema_of, sources_in, tree_of, AttributeRow, attribute_in, attribute_row, AreRows, Rests, RestsIn, same_place, our_schema}
+use Rattle.xa_store.proofs.Common.{nil_from_length, length_permutation, IsPermutation-map, IsPlain, understood, Row, Output, State, Shown, col, Trees, Int, reads_as, one_permutation, sort_by, all_of, ascending-map, ascending_weaker, filter_all, map-map, sort_by-map, IsAscending, then_key, last_key, value_cmp-Int, SchemaVersion, Schema1, Schema2, SourcePlace, are_counted, is_empty, is_left_empty, known_next, place_in, read_meta, schema_of, sources_in, tree_of, PlacedRow, placed_row_in, placed_row, AreRows, Rests, RestsIn, same_place, our_schema}
 use Rattle.xa_store.specs.Check.{counts, counts_on, no_place, places_query}
 use Rattle.xa_store.specs.Texts.{meta_shown}
 use Rattle.xa_store.proofs.CountedLemmas.{count_on, place_cmp, walk_counts}
@@ -23,20 +23,20 @@ meta_plain version = (meta_read_is version).2
 
 -- ---- places
 
-abbrev place_of : AttributeRow → Place
-place_of a = record { domain = a.number; place = a.place }
+abbrev place_of : PlacedRow → SourcePlace
+place_of a = record { domain = a.number; index = a.place }
 
-abbrev shown_of : AttributeRow → Row
+abbrev shown_of : PlacedRow → Row
 shown_of a = Int a.number ∷ Int a.place ∷ []
 
-counted : (last : Place) (xs : List AttributeRow) → counts last (map shown_of xs) ≡ count_on last (map place_of xs)
+counted : (last : SourcePlace) (xs : List PlacedRow) → counts last (map shown_of xs) ≡ count_on last (map place_of xs)
 counted last [] = refl
 counted last (x ∷ xs) = ap (λ b. counts_on last (place_of x) && b) (counted (place_of x) xs)
 
-abbrev by_place : AttributeRow → AttributeRow → Ordering
+abbrev by_place : PlacedRow → PlacedRow → Ordering
 by_place a b = place_cmp (place_of a) (place_of b)
 
-module _ (version : SchemaVersion) (old new : State) (rests : RestsIn (schema_of version) old) (are : AreRows attribute_row attribute_in (λ a. a.rowid) same_place (old.now.trees (tree_of (sources_in version))))
+module _ (version : SchemaVersion) (old new : State) (rests : RestsIn (schema_of version) old) (are : AreRows placed_row placed_row_in (λ a. a.rowid) same_place (old.now.trees (tree_of (sources_in version))))
     (rows : List Row) (shown : Shown (places_query version) [] old new rows) where
   abbrev db : Trees
   db = old.now.trees
@@ -44,10 +44,10 @@ module _ (version : SchemaVersion) (old new : State) (rests : RestsIn (schema_of
   abbrev t : ℕ
   t = tree_of (sources_in version)
 
-  abbrev all : List AttributeRow
-  all = map attribute_in (db t)
+  abbrev all : List PlacedRow
+  all = map placed_row_in (db t)
 
-  abbrev always : AttributeRow → Bool
+  abbrev always : PlacedRow → Bool
   always a = true
 
   every : filter always all ≡ all
@@ -64,14 +64,14 @@ module _ (version : SchemaVersion) (old new : State) (rests : RestsIn (schema_of
 
   sorted : rows ≡ map shown_of (sort_by by_place all)
   sorted =
-      found_sorted t [] (col 1 1 ∷ col 1 2 ∷ []) (1 ∷ 2 ∷ []) db (bare (sources_in version) db) [] attribute_row attribute_in are.written always (all_of _ (λ a. refl) all) by_place
+      found_sorted t [] (col 1 1 ∷ col 1 2 ∷ []) (1 ∷ 2 ∷ []) db (bare (sources_in version) db) [] placed_row placed_row_in are.written always (all_of _ (λ a. refl) all) by_place
       (λ a b. then_key (value_cmp-Int a.number b.number) (last_key (value_cmp-Int a.place b.place))) (subst (IsAscending (λ a b. is_eq (by_place a b) ≡ false)) (sym every) untied) rows answer
       ∙ ap (λ l. map shown_of (sort_by by_place l)) every
 
   pub places_count : counts no_place rows ≡ are_counted (map place_in (db t))
   places_count =
       ap (counts no_place) sorted ∙ counted no_place (sort_by by_place all) ∙ ap (count_on no_place) (sym (sort_by-map place_cmp place_of all))
-      ∙ walk_counts (map place_of all) (ascending-map (λ a b. is_eq (place_cmp a b) ≡ false) place_of all untied) ∙ ap are_counted (map-map place_of attribute_in (db t))
+      ∙ walk_counts (map place_of all) (ascending-map (λ a b. is_eq (place_cmp a b) ≡ false) place_of all untied) ∙ ap are_counted (map-map place_of placed_row_in (db t))
 
 -- ---- the table that schema 2 leaves empty
 

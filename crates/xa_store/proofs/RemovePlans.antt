@@ -1,6 +1,6 @@
 -- The plan of a domain that is removed.
 use Rattle.std.proofs.Common.{◌≡◌, ◌≢◌, ℕ, ◌<◌, ℤ, pos, List, [], ◌∷◌, map, filter, find, not, Bool, true, false, cond, Option, Some, None, option_map, int_cmp, int_eq, slice_get, refl, sym, ap, subst, ◌∙◌, arith}
-use Rattle.xa_store.proofs.Common.{AllByRecursion, eq_by_cmp, get, ints, both_ways, IsKeyedBy, get_by, delete_where, sort_by, int_eq_apart, same_int, all_weaker, slice_get-filter, same_bytes, removed, compare_bytes, Domain, Becomes, IsChanged, IsNextNumber, numbered_changed, count_from, places_of, AttributeRow, DomainRow, RootRow, nat_of, reference_of, AreNumbered, AreWhole, place_of, Rows, attributes_at, roles_of, library_of, root_at, source_of, state_at, domain_of, kept_of}
+use Rattle.xa_store.proofs.Common.{AllByRecursion, eq_by_cmp, get, ints, both_ways, IsKeyedBy, get_by, delete_where, sort_by, int_eq_apart, same_int, all_weaker, slice_get-filter, same_bytes, removed, compare_bytes, Domain, Becomes, IsChanged, IsNextNumber, numbered_changed, count_from, places_of, PlacedRow, DomainRow, RootRow, nat_of, reference_of, AreNumbered, AreWhole, place_of, Rows, sources_at, roles_of, library_of, root_at, source_of, state_at, domain_of, kept_of}
 use Rattle.xa_store.specs.declared.query.domain.DomainFound.{DomainFound}
 use Rattle.xa_store.specs.declared.step.Step.TheVariants.{DropDomain}
 use Rattle.xa_store.specs.Lookup.{IsDomain}
@@ -12,7 +12,7 @@ use Rattle.xa_store.proofs.FilterLemmas.{filter_delete_all, filter_delete_others
 use Rattle.xa_store.proofs.KeyLemmas.{get_by-without_key}
 use Rattle.xa_store.proofs.PlanLemmas.{its_state}
 use Rattle.xa_store.proofs.TextsKept.{all_filter}
-use Rattle.xa_store.proofs.WholeLemmas.{IsWholeAttribute, IsWholeDocument, IsWholeDomain, IsWholeRoot, IsWholeToken, places_at}
+use Rattle.xa_store.proofs.WholeLemmas.{IsWholeDocument, IsWholeDomain, IsWholePlacedRow, IsWholeRoot, IsWholeToken, places_at}
 
 find_same : {X : Type 0} (p : X → Bool) (xs ys : List X) → filter p xs ≡ filter p ys → find p xs ≡ find p ys
 find_same p xs ys same = sym (slice_get-filter p xs) ∙ ap (λ l. slice_get l 0) same ∙ slice_get-filter p ys
@@ -51,11 +51,11 @@ module _ (rows : Rows) (name : List ℕ) (d : DomainRow) (up : IsKeyedBy number_
   same_state n apart =
       let tokens = still_there (λ t. t.number) d.number n apart rows.tokens in
       let documents = still_there (λ d. d.number) d.number n apart rows.documents in
-      let attributes = still_there (λ a. a.number) d.number n apart rows.attributes in
+      let sources = still_there (λ a. a.number) d.number n apart rows.sources in
       let other : int_eq d.number n ≡ false = int_eq_apart d.number n (λ same. apart (sym same)) in
       let root : root_at after.roots n ≡ root_at rows.roots n =
       ap (option_map reference_of) (get_by-without_key (λ (r : RootRow). r.number) d.number n rows.roots ∙ ap (λ b. cond b None (get_by (λ r. r.number) rows.roots n)) other) in
-      λ i. record { tokens = roles_of (tokens i); documents = library_of (documents i); root = root i; source = source_of (attributes i) }
+      λ i. record { tokens = roles_of (tokens i); documents = library_of (documents i); root = root i; source = source_of (sources i) }
 
   found_again : (other : List ℕ) → other ≢ name → find (is_named other) after.domains ≡ find (is_named other) rows.domains
   found_again other apart =
@@ -91,20 +91,20 @@ module _ (rows : Rows) (name : List ℕ) (d : DomainRow) (up : IsKeyedBy number_
 
   -- ---- the columns
 
-  abbrev sorted : List AttributeRow → List ℤ
-  sorted xs = sort_by int_cmp (map (λ (a : AttributeRow). a.place) xs)
+  abbrev sorted : List PlacedRow → List ℤ
+  sorted xs = sort_by int_cmp (map (λ (a : PlacedRow). a.place) xs)
 
-  places_left : AreWhole rows → (m : ℤ) → count_from (pos 0) (places_of (map place_of after.attributes) m) ≡ true
-  places_left whole m = ap (count_from (pos 0)) (places_at after.attributes m) ∙ go (int_eq m d.number) refl
+  places_left : AreWhole rows → (m : ℤ) → count_from (pos 0) (places_of (map place_of after.sources) m) ≡ true
+  places_left whole m = ap (count_from (pos 0)) (places_at after.sources m) ∙ go (int_eq m d.number) refl
     where
-      go : (b : Bool) → int_eq m d.number ≡ b → count_from (pos 0) (sorted (attributes_at after.attributes m)) ≡ true
+      go : (b : Bool) → int_eq m d.number ≡ b → count_from (pos 0) (sorted (sources_at after.sources m)) ≡ true
       go true is =
-          ap (λ k. count_from (pos 0) (sorted (attributes_at after.attributes k))) (same_int m d.number is)
-          ∙ ap (λ l. count_from (pos 0) (sorted l)) (filter_delete_all (λ (a : AttributeRow). int_eq a.number d.number) rows.attributes)
+          ap (λ k. count_from (pos 0) (sorted (sources_at after.sources k))) (same_int m d.number is)
+          ∙ ap (λ l. count_from (pos 0) (sorted l)) (filter_delete_all (λ (a : PlacedRow). int_eq a.number d.number) rows.sources)
       go false is =
           let own : int_eq d.number d.number ≡ true = grind (arith, ints) in
           let apart : m ≢ d.number = λ same. both_ways _ is (ap (λ k. int_eq k d.number) same ∙ own) in
-          ap (λ l. count_from (pos 0) (sorted l)) (still_there (λ (a : AttributeRow). a.number) d.number m apart rows.attributes) ∙ ap (count_from (pos 0)) (sym (places_at rows.attributes m)) ∙ whole.places m
+          ap (λ l. count_from (pos 0) (sorted l)) (still_there (λ (a : PlacedRow). a.number) d.number m apart rows.sources) ∙ ap (count_from (pos 0)) (sym (places_at rows.sources m)) ∙ whole.places m
 
   whole_left : AreWhole rows → AreWhole after
   whole_left whole = record {
@@ -113,7 +113,7 @@ module _ (rows : Rows) (name : List ℕ) (d : DomainRow) (up : IsKeyedBy number_
     tokens = all_filter (IsWholeToken rows.next) (λ t. not (int_eq t.number d.number)) rows.tokens whole.tokens;
     documents = all_filter (IsWholeDocument rows.next) (λ x. not (int_eq x.number d.number)) rows.documents whole.documents;
     roots = all_filter (IsWholeRoot rows.next) (λ r. not (int_eq r.number d.number)) rows.roots whole.roots;
-    attributes = all_filter (IsWholeAttribute rows.next) (λ a. not (int_eq a.number d.number)) rows.attributes whole.attributes;
+    sources = all_filter (IsWholePlacedRow rows.next) (λ a. not (int_eq a.number d.number)) rows.sources whole.sources;
     places = places_left whole;
   }
 

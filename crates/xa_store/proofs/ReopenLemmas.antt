@@ -1,13 +1,13 @@
 -- A keeper's own tables are such as opening finds sound.
 use Rattle.std.proofs.Common.{◌≡◌, ℕ, ℤ, ◌<ℤ◌, Bool, true, false, ◌&&◌, cond, bytes_eq, List, [], ◌∷◌, map, int_eq, int_lt, Option, Ok, Err, refl, sym, ap, subst, ◌∙◌, arith}
-use Rattle.xa_store.proofs.Common.{AllByRecursion, list_all, ints, is_eq-slice_cmp, Row, column, State, Trees, Int, Text, all_both, all_map, all_weaker, ascending-map, map-map, map_same, test_from_all, IsAscending, bytes_eq_refl, DocumentKey, version_text, Parsed, document_of, is_domain_name, IsDocumentOf, Damaged, CheckedTable, Domains, Tokens, Documents, Roots, Sources, Schema2, are_counted, are_rising, as_read, holds_key, holds_text_if_any, holds_value, is_assigned, is_bit, is_count, is_digest, is_empty, is_left_empty, is_pattern, is_sound, is_sound_table, is_version, is_whole_row, checked, tables_in, known_next, opened, place_in, read_meta, row_number, tree_of, is_utf8, AttributeRow, DocumentRow, DomainRow, RootRow, TokenRow, attribute_in, attribute_row, bit, document_in, document_row, domain_in, domain_row, issuer_columns, kind_number, next_in, role_number, root_in, root_row, token_in, token_row, type_number, value_text, AreDocuments, AreOurs, AreRows, AreTables, AreWhole, Ours, is_if_any, place_of, rows_of}
+use Rattle.xa_store.proofs.Common.{AllByRecursion, list_all, ints, is_eq-slice_cmp, Row, column, State, Trees, Int, Text, all_both, all_map, all_weaker, ascending-map, map-map, map_same, test_from_all, IsAscending, bytes_eq_refl, DocumentKey, version_text, Parsed, document_of, is_domain_name, IsDocumentOf, Damaged, CheckedTable, Domains, Tokens, Documents, Roots, Sources, Schema2, are_counted, are_rising, as_read, holds_key, holds_text_if_any, holds_value, is_assigned, is_bit, is_count, is_digest, is_empty, is_left_empty, is_pattern, is_sound, is_sound_table, is_version, is_whole_row, checked, tables_in, known_next, opened, place_in, read_meta, row_number, tree_of, is_utf8, PlacedRow, DocumentRow, DomainRow, RootRow, TokenRow, placed_row_in, placed_row, bit, document_in, document_row, domain_in, domain_row, issuer_columns, kind_number, next_in, role_number, root_in, root_row, token_in, token_row, type_number, value_text, AreDocuments, AreOurs, AreRows, AreTables, AreWhole, Ours, is_if_any, place_of, rows_of}
 use Rattle.xa_store.proofs.ColumnLemmas.{held_if_any, text_written}
 use Rattle.xa_store.proofs.ColumnNumbers.{of_activity, of_kind, of_role}
 use Rattle.xa_store.proofs.CountedLemmas.{each_counted}
 use Rattle.xa_store.proofs.KeyLemmas.{own_number}
 use Rattle.xa_store.proofs.ReadLemmas.{numbers_read}
 use Rattle.xa_store.proofs.RiseLemmas.{both_true}
-use Rattle.xa_store.proofs.WholeLemmas.{IsWholeAttribute, IsWholeDocument, IsWholeDomain, IsWholeRoot, IsWholeToken}
+use Rattle.xa_store.proofs.WholeLemmas.{IsWholeDocument, IsWholeDomain, IsWholePlacedRow, IsWholeRoot, IsWholeToken}
 
 -- ---- one row as it is written
 
@@ -46,8 +46,8 @@ issuer_opens : (full : Bool) (issuer : Option (List ℕ)) → is_if_any is_utf8 
 issuer_opens true issuer h = held_if_any is_utf8 issuer h
 issuer_opens false issuer h = refl
 
-attribute_opens : (next : ℤ) (a : AttributeRow) → IsWholeAttribute next a → Whole Sources next attribute_row a
-attribute_opens next a h =
+placed_row_opens : (next : ℤ) (a : PlacedRow) → IsWholePlacedRow next a → Whole Sources next placed_row a
+placed_row_opens next a h =
     both_true _ (holds_text_if_any is_utf8 (column (issuer_columns a.is_full a.row.issuer) 0))
     (both_true _ (holds_value (type_number a.row.value) (value_text a.row.value))
     (both_true _ (is_utf8 a.row.attribute_id) (both_true _ (is_utf8 a.row.entity) (both_true (is_assigned next a.number) (is_utf8 a.row.category) h.0 h.1.0) h.1.1) h.1.2) h.1.3)
@@ -109,14 +109,14 @@ module _ (db : Trees) (tables : AreTables db) (documents : AreDocuments (rows_of
 
   in_sources : is_sound_table db next Sources ≡ true
   in_sources =
-      table_opens db next Sources attribute_row attribute_in (λ (a : AttributeRow). a.rowid) _ (λ r. refl) tables.attributes
-      (all_weaker (IsWholeAttribute next) (Whole Sources next attribute_row) (λ a h. attribute_opens next a h) (map attribute_in (db 10)) whole.attributes)
+      table_opens db next Sources placed_row placed_row_in (λ (a : PlacedRow). a.rowid) _ (λ r. refl) tables.sources
+      (all_weaker (IsWholePlacedRow next) (Whole Sources next placed_row) (λ a h. placed_row_opens next a h) (map placed_row_in (db 10)) whole.sources)
 
   all_tables : list_all (is_sound_table db next) (tables_in Schema2) ≡ true
   all_tables = test_from_all (is_sound_table db next) (tables_in Schema2) (in_domains, (in_tokens, (in_documents, (in_roots, (in_sources, tt)))))
 
   counted : are_counted (map place_in (db 10)) ≡ true
-  counted = ap are_counted (sym (map-map place_of attribute_in (db 10))) ∙ each_counted (map place_of (map attribute_in (db 10))) whole.places
+  counted = ap are_counted (sym (map-map place_of placed_row_in (db 10))) ∙ each_counted (map place_of (map placed_row_in (db 10))) whole.places
 
   sound : is_sound Schema2 db next ≡ true
   sound =

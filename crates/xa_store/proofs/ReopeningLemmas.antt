@@ -1,4 +1,4 @@
--- What a stop has left is our tables, if it doesn't leave just anything.
+-- What a crash has left is our tables, if it doesn't leave just anything.
 use Rattle.std.proofs.Common.{◌≡◌, ◌↔◌, Bool, true, false, Result, Ok, Err, IsTrue, refl, sym, ap, ◌∙◌}
 use Rattle.xa_store.proofs.Common.{Database, state, State, IsLive, Ghosts, Trees, OpenError, Schema2, opened, AreOurs, our_schema, world_of}
 use Rattle.sqlite_catalog.proofs.ReadLemmas.{lists_once}

@@ -1,6 +1,6 @@
 -- Sound rows are rows that the keeper writes.
 use Rattle.std.proofs.Common.{◌≡◌, ◌≤◌, ℕ, ℤ, pos, negsuc, ◌<ℤ◌, Bool, true, false, ◌&&◌, ◌==◌, not, cond, unwrap_or, codes, List, [], ◌∷◌, map, length, drop, slice_get, is_some, int_lt, int_eq, bytes_eq, Option, Some, None, Result, Ok, Err, refl, sym, ap, ap₂, ◌∙◌, true≢false, arith}
-use Rattle.xa_store.proofs.Common.{AllByRecursion, is_utf8, ints, Row, column, Value, Null, Int, Real, Text, Blob, IsKeyedBy, AreApart, all_from_test, all_weaker, all_both, all_unmap, ascending_from_map, none_from_any, any_from_none, first_of_both, second_of_both, are_present, are_typed, agree, clashes, differ, suits, is_null, Eq, Ne, IsAscending, int_of, bytes_of, or_null, unless_null, at_ints, then_term, last_term, same_bytes, is_eq-slice_cmp, type_of, printed, read, read_as, CheckedTable, Domains, Tokens, Attributes, Sources, is_domain_name, are_rising, as_read, holds_text, holds_text_if_any, holds_value, is_assigned, is_bit, is_count, is_digest, is_number, is_printed, is_value, is_whole_row, row_number, AttributeRow, attribute_in, attribute_row, domain_in, domain_row, given, issuer_columns, nat_of, role_in, role_number, token_in, token_row, type_number, same_place, attributes, domains, needed, own_key, rising, sources, tokens}
+use Rattle.xa_store.proofs.Common.{AllByRecursion, is_utf8, ints, Row, column, Value, Null, Int, Real, Text, Blob, IsKeyedBy, AreApart, all_from_test, all_weaker, all_both, all_unmap, ascending_from_map, none_from_any, any_from_none, first_of_both, second_of_both, are_present, are_typed, agree, clashes, differ, suits, is_null, Eq, Ne, IsAscending, int_of, bytes_of, or_null, unless_null, at_ints, then_term, last_term, same_bytes, is_eq-slice_cmp, type_of, printed, read, read_as, CheckedTable, Domains, Tokens, Attributes, Sources, is_domain_name, are_rising, as_read, holds_text, holds_text_if_any, holds_value, is_assigned, is_bit, is_count, is_digest, is_number, is_printed, is_value, is_whole_row, row_number, PlacedRow, placed_row_in, placed_row, domain_in, domain_row, given, issuer_columns, nat_of, role_in, role_number, token_in, token_row, type_number, same_place, attributes, domains, needed, own_key, rising, sources, tokens}
 use Rattle.sqlite.specs.Kind.TheVariants as kinds
 use Rattle.sqlite_schema.specs.declared.schema.Column.{Column}
 use Rattle.sqlite_value.specs.Keys.{first_key}
@@ -174,7 +174,7 @@ issuer_cells false v is = refl
 
 module _ (next : ℤ) (row : Row) where
   -- a row of one of the two tables
-  row_from : is_whole_row Attributes next (as_read Attributes row) ≡ true → (8 ≤ length row → column row 2 ≡ Int (int_of (column row 2))) → length row ≤ 9 → IsText (column row 8) → row ≡ attribute_row (attribute_in row)
+  row_from : is_whole_row Attributes next (as_read Attributes row) ≡ true → (8 ≤ length row → column row 2 ≡ Int (int_of (column row 2))) → length row ≤ 9 → IsText (column row 8) → row ≡ placed_row (placed_row_in row)
   row_from whole placed less issued =
       let rest = second_of_both _ _ whole in
       let first4 = first_of_both _ _ rest in
@@ -194,7 +194,7 @@ module _ (next : ℤ) (row : Row) where
       by_last 8 row more less ∙ (λ i. rowid i ∷ number.0 i ∷ place i ∷ category.0 i ∷ entity.0 i ∷ attribute.0 i ∷ (type.0 ∙ value.0) i ∷ (text.0 ∙ value.1) i ∷ issuer i)
 
   -- of schema 1, where it has no issuer
-  pub first_source_back : are_typed None 0 attributes.columns (drop 1 row) ≡ true → are_present None 0 attributes.columns row ≡ true → is_whole_row Attributes next (as_read Attributes row) ≡ true → row ≡ attribute_row (attribute_in row)
+  pub first_source_back : are_typed None 0 attributes.columns (drop 1 row) ≡ true → are_present None 0 attributes.columns row ≡ true → is_whole_row Attributes next (as_read Attributes row) ≡ true → row ≡ placed_row (placed_row_in row)
   first_source_back typed present whole =
       let less : length row ≤ 8 = row_short None attributes.columns row typed in
       let none = column_past 8 row less in
@@ -205,12 +205,12 @@ module _ (next : ℤ) (row : Row) where
       let rest = second_of_both _ _ whole in
       (both_true (is_number (column row 0)) _ (first_of_both _ _ whole) (first_of_both _ _ rest), second_of_both _ _ rest)
 
-  pub source_back : are_typed None 0 sources.columns (drop 1 row) ≡ true → are_present None 0 sources.columns row ≡ true → is_whole_row Sources next (as_read Sources row) ≡ true → row ≡ attribute_row (attribute_in row)
+  pub source_back : are_typed None 0 sources.columns (drop 1 row) ≡ true → are_present None 0 sources.columns row ≡ true → is_whole_row Sources next (as_read Sources row) ≡ true → row ≡ placed_row (placed_row_in row)
   source_back typed present whole =
       let both = whole_source whole in
       row_from both.0 (λ more. place_from (drop 2 sources.columns) row (omega (arith, more)) typed present) (row_short None sources.columns row typed) (text_if_any_held is_utf8 (column row 8) both.1)
 
-pub places_agree : (a b : AttributeRow) → agree rising (1 ∷ 2 ∷ []) (attribute_row a) (1 ∷ 2 ∷ []) (attribute_row b) ≡ same_place a b
+pub places_agree : (a b : PlacedRow) → agree rising (1 ∷ 2 ∷ []) (placed_row a) (1 ∷ 2 ∷ []) (placed_row b) ≡ same_place a b
 unfolding first_key
 places_agree a b = then_term (at_ints false Eq a.number b.number) (last_term (at_ints false Eq a.place b.place))
 

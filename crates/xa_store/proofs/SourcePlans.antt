@@ -1,6 +1,6 @@
 -- The plan of a source that is set.
 use Rattle.std.proofs.Common.{◌≡◌, ◌≢◌, inr, ◌+◌, ◌<◌, ◌≤◌, ◌^◌, ◌<ℤ◌, ℕ, ℤ, pos, ◌+ℤ◌, not, List, [], ◌∷◌, ◌++◌, map, filter, length, Bool, true, false, cond, nat_le, bytes_eq, unwrap_or, Result, Ok, Err, is_gt, refl, sym, ap, subst, ◌∙◌, arith, int_eq, int_cmp, true≢false}
-use Rattle.xa_store.proofs.Common.{AllByRecursion, on, is_utf8, ints, is_eq-slice_cmp, IsKeyedBy, next_key, delete_where, sort_by, insert_sorted, Less-from_lt, int_eq_apart, same_int, all-append, all_weaker, ascending-append, filter_none, first_of_both, second_of_both, sort_by-map, bytes_eq_refl, type_of, printed, read, SourceRow, Quota, source_set, within, DomainState, state_of, count_from, holds_value, is_assigned, is_count, is_printed, is_value, places_of, type_numbered, AttributeRow, DomainRow, given, nat_of, type_number, AreNumbered, AreWhole, Rows, attributes_at, kept_of, source_of, state_at}
+use Rattle.xa_store.proofs.Common.{AllByRecursion, on, is_utf8, ints, is_eq-slice_cmp, IsKeyedBy, next_key, delete_where, sort_by, insert_sorted, Less-from_lt, int_eq_apart, same_int, all-append, all_weaker, ascending-append, filter_none, first_of_both, second_of_both, sort_by-map, bytes_eq_refl, type_of, printed, read, SourceRow, Quota, source_set, within, DomainState, state_of, count_from, holds_value, is_assigned, is_count, is_printed, is_value, places_of, type_numbered, PlacedRow, DomainRow, given, nat_of, type_number, AreNumbered, AreWhole, Rows, sources_at, kept_of, source_of, state_at}
 use Rattle.xa_value.specs.declared.read_error.ReadError.{ReadError}
 use Rattle.xa_value.specs.declared.value.Value.{Value}
 use Rattle.xa_value.specs.declared.value.Value.TheVariants as value
@@ -19,7 +19,7 @@ use Rattle.xa_store.proofs.KeyLemmas.{own_number}
 use Rattle.xa_store.proofs.PlanLemmas.{planned, refused, unchanged}
 use Rattle.xa_store.proofs.RiseLemmas.{both_true}
 use Rattle.xa_store.proofs.TextsKept.{all_filter, all_push}
-use Rattle.xa_store.proofs.WholeLemmas.{IsWholeAttribute, count_after, epoch_whole, its_domain, places_at}
+use Rattle.xa_store.proofs.WholeLemmas.{IsWholePlacedRow, count_after, epoch_whole, its_domain, places_at}
 
 -- ---- a value that reads back
 
@@ -39,25 +39,25 @@ value_held v x text prints utf8 reads same =
 
 -- ---- rows in the order of their places
 
-abbrev place_in : AttributeRow → ℤ
+abbrev place_in : PlacedRow → ℤ
 place_in a = a.place
 
-abbrev row_in : AttributeRow → SourceRow
+abbrev row_in : PlacedRow → SourceRow
 row_in a = a.row
 
-sorted_stays : (xs : List AttributeRow) → IsKeyedBy place_in xs → sort_by (on place_in int_cmp) xs ≡ xs
+sorted_stays : (xs : List PlacedRow) → IsKeyedBy place_in xs → sort_by (on place_in int_cmp) xs ≡ xs
 sorted_stays [] up = refl
 sorted_stays (x ∷ xs) up = ap (insert_sorted (on place_in int_cmp) x) (sorted_stays xs up.1) ∙ first xs up.0
   where
-    first : (ys : List AttributeRow) → AllByRecursion (λ y. x.place <ℤ y.place) ys → insert_sorted (on place_in int_cmp) x ys ≡ x ∷ ys
+    first : (ys : List PlacedRow) → AllByRecursion (λ y. x.place <ℤ y.place) ys → insert_sorted (on place_in int_cmp) x ys ≡ x ∷ ys
     first [] low = refl
     first (y ∷ ys) low = ap (λ o. cond (is_gt o) (y ∷ insert_sorted (on place_in int_cmp) x ys) (x ∷ y ∷ ys)) (Less-from_lt x.place y.place low.0)
 
-map_push : (xs : List AttributeRow) (new : AttributeRow) (rest : List SourceRow) → map row_in (xs ++ new ∷ []) ++ rest ≡ map row_in xs ++ (new.row ∷ rest)
+map_push : (xs : List PlacedRow) (new : PlacedRow) (rest : List SourceRow) → map row_in (xs ++ new ∷ []) ++ rest ≡ map row_in xs ++ (new.row ∷ rest)
 map_push [] new rest = refl
 map_push (x ∷ xs) new rest = ap (λ l. x.row ∷ l) (map_push xs new rest)
 
-map_one_more : (xs : List AttributeRow) (new : AttributeRow) → map place_in (xs ++ new ∷ []) ≡ map place_in xs ++ (new.place ∷ [])
+map_one_more : (xs : List PlacedRow) (new : PlacedRow) → map place_in (xs ++ new ∷ []) ≡ map place_in xs ++ (new.place ∷ [])
 map_one_more [] new = refl
 map_one_more (x ∷ xs) new = ap (λ l. x.place ∷ l) (map_one_more xs new)
 
@@ -82,23 +82,23 @@ module _ (n : ℤ) where
   own : int_eq n n ≡ true
   own = grind (arith, ints)
 
-  abbrev of_number : AttributeRow → Bool
+  abbrev of_number : PlacedRow → Bool
   of_number a = int_eq a.number n
 
-  abbrev mine : Rows → List AttributeRow
-  mine rows = attributes_at rows.attributes n
+  abbrev mine : Rows → List PlacedRow
+  mine rows = sources_at rows.sources n
 
-  abbrev Low : ℕ → List AttributeRow → Type 0
+  abbrev Low : ℕ → List PlacedRow → Type 0
   Low p = AllByRecursion (λ a. a.place <ℤ pos p)
 
-  abbrev added : ℕ → SourceRow → Rows → AttributeRow
-  added p s rows = record { rowid = next_key (λ a. a.rowid) rows.attributes; number = n; place = pos p; row = s; is_full = true }
+  abbrev added : ℕ → SourceRow → Rows → PlacedRow
+  added p s rows = record { rowid = next_key (λ a. a.rowid) rows.sources; number = n; place = pos p; row = s; is_full = true }
 
   abbrev one_more : ℕ → SourceRow → Rows → Rows
   one_more p s rows = after (AddSourceRow n (pos p) s) rows
 
   mine_more : (p : ℕ) (s : SourceRow) (rows : Rows) → mine (one_more p s rows) ≡ mine rows ++ added p s rows ∷ []
-  mine_more p s rows = filter_push of_number rows.attributes (added p s rows) own
+  mine_more p s rows = filter_push of_number rows.sources (added p s rows) own
 
   low_more : (p : ℕ) (s : SourceRow) (rows : Rows) → Low p (mine rows) → Low (p + 1) (mine (one_more p s rows))
   low_more p s rows low =
@@ -116,9 +116,9 @@ module _ (n : ℤ) where
       subst (IsKeyedBy place_in) (sym (mine_more p s rows))
       (ascending-append (λ a b. a.place <ℤ b.place) (mine rows) (added p s rows ∷ []) up (tt, tt) (all_weaker (λ a. a.place <ℤ pos p) (λ a. AllByRecursion (λ b. a.place <ℤ b.place) (added p s rows ∷ [])) (λ a h. (h, tt)) (mine rows) low))
 
-  free : (p : ℕ) (rows : Rows) → Low p (mine rows) → filter (is_place n (pos p)) rows.attributes ≡ []
+  free : (p : ℕ) (rows : Rows) → Low p (mine rows) → filter (is_place n (pos p)) rows.sources ≡ []
   free p rows low =
-      filter_both of_number (λ a. int_eq a.place (pos p)) rows.attributes
+      filter_both of_number (λ a. int_eq a.place (pos p)) rows.sources
       ∙ filter_none (λ a. int_eq a.place (pos p)) (mine rows) (all_weaker (λ a. a.place <ℤ pos p) (λ a. int_eq a.place (pos p) ≡ false) (λ a h. unlike a.place h) (mine rows) low)
     where
       unlike : (m : ℤ) → m <ℤ pos p → int_eq m (pos p) ≡ false
@@ -136,17 +136,17 @@ module _ (n : ℤ) where
   keyed_after [] rows p low up = up
   keyed_after (s ∷ ss) rows p low up = keyed_after ss (one_more p s rows) (p + 1) (low_more p s rows low) (keyed_more p s rows low up)
 
-  others_after : (m : ℤ) → m ≢ n → (ss : List SourceRow) (rows : Rows) (p : ℕ) → attributes_at (after_all (row_steps n p ss) rows).attributes m ≡ attributes_at rows.attributes m
+  others_after : (m : ℤ) → m ≢ n → (ss : List SourceRow) (rows : Rows) (p : ℕ) → sources_at (after_all (row_steps n p ss) rows).sources m ≡ sources_at rows.sources m
   others_after m apart [] rows p = refl
   others_after m apart (s ∷ ss) rows p =
-      others_after m apart ss (one_more p s rows) (p + 1) ∙ filter_push_apart (λ a. int_eq a.number m) rows.attributes (added p s rows) (int_eq_apart n m (λ same. apart (sym same)))
+      others_after m apart ss (one_more p s rows) (p + 1) ∙ filter_push_apart (λ a. int_eq a.number m) rows.sources (added p s rows) (int_eq_apart n m (λ same. apart (sym same)))
 
   -- the columns of the rows that come
-  attributes_whole : (next : ℤ) → is_assigned next n ≡ true → (ss : List SourceRow) (rows : Rows) (p : ℕ) → HaveTexts ss → AllByRecursion (IsWholeAttribute next) rows.attributes
-      → AllByRecursion (IsWholeAttribute next) (after_all (row_steps n p ss) rows).attributes
-  attributes_whole next given [] rows p texts all = all
-  attributes_whole next given (s ∷ ss) rows p texts all =
-      attributes_whole next given ss (one_more p s rows) (p + 1) texts.1 (all_push (IsWholeAttribute next) rows.attributes (added p s rows) all (given, texts.0))
+  sources_whole : (next : ℤ) → is_assigned next n ≡ true → (ss : List SourceRow) (rows : Rows) (p : ℕ) → HaveTexts ss → AllByRecursion (IsWholePlacedRow next) rows.sources
+      → AllByRecursion (IsWholePlacedRow next) (after_all (row_steps n p ss) rows).sources
+  sources_whole next given [] rows p texts all = all
+  sources_whole next given (s ∷ ss) rows p texts all =
+      sources_whole next given ss (one_more p s rows) (p + 1) texts.1 (all_push (IsWholePlacedRow next) rows.sources (added p s rows) all (given, texts.0))
 
   -- their places count on
   ends_more : (p : ℕ) (s : SourceRow) (rows : Rows) → ends (pos 0) (map place_in (mine rows)) ≡ pos p → ends (pos 0) (map place_in (mine (one_more p s rows))) ≡ pos (p + 1)
@@ -166,17 +166,17 @@ module _ (n : ℤ) where
   counted_after (s ∷ ss) rows p is counts = counted_after ss (one_more p s rows) (p + 1) (ends_more p s rows is) (counts_more p s rows is counts)
 
   -- nothing but the rows of sources
-  abbrev only_attributes : List AttributeRow → Rows → Rows
-  only_attributes attributes rows = record {
+  abbrev only_sources : List PlacedRow → Rows → Rows
+  only_sources sources rows = record {
     next = rows.next;
     domains = rows.domains;
     tokens = rows.tokens;
     documents = rows.documents;
     roots = rows.roots;
-    attributes = attributes;
+    sources = sources;
   }
 
-  shape_after : (ss : List SourceRow) (rows : Rows) (p : ℕ) → after_all (row_steps n p ss) rows ≡ only_attributes (after_all (row_steps n p ss) rows).attributes rows
+  shape_after : (ss : List SourceRow) (rows : Rows) (p : ℕ) → after_all (row_steps n p ss) rows ≡ only_sources (after_all (row_steps n p ss) rows).sources rows
   shape_after [] rows p = refl
   shape_after (s ∷ ss) rows p = shape_after ss (one_more p s rows) (p + 1)
 
@@ -201,13 +201,13 @@ module _ (rows : Rows) (name : List ℕ) (d : DomainRow) (one : IsOnly name d ro
 
   -- the old rows are gone, and the epoch is set
   abbrev begun : Rows
-  begun = record rows { domains = with_epoch d.number epoch rows.domains; attributes = delete_where (λ a. int_eq a.number d.number) rows.attributes }
+  begun = record rows { domains = with_epoch d.number epoch rows.domains; sources = delete_where (λ a. int_eq a.number d.number) rows.sources }
 
   abbrev final : Rows
   final = after_all (source_steps d.number epoch ss) rows
 
   none_yet : mine d.number begun ≡ []
-  none_yet = filter_delete_all (λ (a : AttributeRow). int_eq a.number d.number) rows.attributes
+  none_yet = filter_delete_all (λ (a : PlacedRow). int_eq a.number d.number) rows.sources
 
   low_yet : Low d.number 0 (mine d.number begun)
   low_yet = subst (Low d.number 0) (sym none_yet) tt
@@ -215,17 +215,17 @@ module _ (rows : Rows) (name : List ℕ) (d : DomainRow) (one : IsOnly name d ro
   keyed_yet : IsKeyedBy place_in (mine d.number begun)
   keyed_yet = subst (IsKeyedBy place_in) (sym none_yet) tt
 
-  source_now : source_of (attributes_at final.attributes d.number) ≡ ss
+  source_now : source_of (sources_at final.sources d.number) ≡ ss
   source_now =
       ap (map row_in) (sorted_stays (mine d.number final) (keyed_after d.number ss begun 0 low_yet keyed_yet)) ∙ rows_after d.number ss begun 0 ∙ ap (λ l. map row_in l ++ ss) none_yet
 
-  source_there : (m : ℤ) → m ≢ d.number → attributes_at final.attributes m ≡ attributes_at rows.attributes m
+  source_there : (m : ℤ) → m ≢ d.number → sources_at final.sources m ≡ sources_at rows.sources m
   source_there m apart =
       others_after d.number m apart ss begun 0
-      ∙ filter_delete_others (λ (a : AttributeRow). int_eq a.number d.number) (λ a. int_eq a.number m)
-      (λ a here. int_eq_apart a.number m (λ same. apart (sym same ∙ same_int a.number d.number here))) rows.attributes
+      ∙ filter_delete_others (λ (a : PlacedRow). int_eq a.number d.number) (λ a. int_eq a.number m)
+      (λ a here. int_eq_apart a.number m (λ same. apart (sym same ∙ same_int a.number d.number here))) rows.sources
 
-  shape : final ≡ only_attributes d.number final.attributes begun
+  shape : final ≡ only_sources d.number final.sources begun
   shape = shape_after d.number ss begun 0
 
   rewrote : Rewrote rows final d epoch target
@@ -237,22 +237,22 @@ module _ (rows : Rows) (name : List ℕ) (d : DomainRow) (one : IsOnly name d ro
   }
 
   -- the places of all domains count from 0
-  places_now : AreWhole rows → (m : ℤ) → count_from (pos 0) (places_of (map placed final.attributes) m) ≡ true
+  places_now : AreWhole rows → (m : ℤ) → count_from (pos 0) (places_of (map placed final.sources) m) ≡ true
   places_now whole m = go (int_eq m d.number) refl
     where
-      own_places : places_of (map placed final.attributes) d.number ≡ map place_in (mine d.number final)
+      own_places : places_of (map placed final.sources) d.number ≡ map place_in (mine d.number final)
       own_places =
-          places_at final.attributes d.number ∙ sort_by-map int_cmp place_in (mine d.number final)
+          places_at final.sources d.number ∙ sort_by-map int_cmp place_in (mine d.number final)
           ∙ ap (map place_in) (sorted_stays (mine d.number final) (keyed_after d.number ss begun 0 low_yet keyed_yet))
 
       own_count : count_from (pos 0) (map place_in (mine d.number final)) ≡ true
       own_count = counted_after d.number ss begun 0 (ap (λ l. ends (pos 0) (map place_in l)) none_yet) (ap (λ l. count_from (pos 0) (map place_in l)) none_yet)
 
-      go : (b : Bool) → int_eq m d.number ≡ b → count_from (pos 0) (places_of (map placed final.attributes) m) ≡ true
-      go true is = ap (λ k. count_from (pos 0) (places_of (map placed final.attributes) k)) (same_int m d.number is) ∙ ap (count_from (pos 0)) own_places ∙ own_count
+      go : (b : Bool) → int_eq m d.number ≡ b → count_from (pos 0) (places_of (map placed final.sources) m) ≡ true
+      go true is = ap (λ k. count_from (pos 0) (places_of (map placed final.sources) k)) (same_int m d.number is) ∙ ap (count_from (pos 0)) own_places ∙ own_count
       go false is =
           let apart : m ≢ d.number = λ same. true≢false (sym (ap (λ k. int_eq k d.number) same ∙ own d.number) ∙ is) in
-          ap (count_from (pos 0)) (places_at final.attributes m ∙ ap (λ l. sort_by int_cmp (map place_in l)) (source_there m apart) ∙ sym (places_at rows.attributes m)) ∙ whole.places m
+          ap (count_from (pos 0)) (places_at final.sources m ∙ ap (λ l. sort_by int_cmp (map place_in l)) (source_there m apart) ∙ sym (places_at rows.sources m)) ∙ whole.places m
 
   whole_now : AreWhole rows → is_count epoch ≡ true → HaveTexts ss → AreWhole final
   whole_now whole counts texts = subst AreWhole (sym shape) (record {
@@ -261,8 +261,8 @@ module _ (rows : Rows) (name : List ℕ) (d : DomainRow) (one : IsOnly name d ro
     tokens = whole.tokens;
     documents = whole.documents;
     roots = whole.roots;
-    attributes = attributes_whole d.number rows.next (its_domain rows whole name d one).0 ss begun 0 texts
-        (all_filter (IsWholeAttribute rows.next) (λ a. not (int_eq a.number d.number)) rows.attributes whole.attributes);
+    sources = sources_whole d.number rows.next (its_domain rows whole name d one).0 ss begun 0 texts
+        (all_filter (IsWholePlacedRow rows.next) (λ a. not (int_eq a.number d.number)) rows.sources whole.sources);
     places = places_now whole;
   })
 

@@ -150,6 +150,6 @@ pub root_added_is : IsChange text.root_added (Insert 4 (Values (col 0 0 ∷ lit 
 unfolding understood everything
 root_added_is = (refl, (refl, refl))
 
-pub attribute_added_is : IsChange text.attribute_added (Insert 6 (Values (lit Null ∷ col 0 0 ∷ col 0 1 ∷ col 0 2 ∷ col 0 3 ∷ col 0 4 ∷ col 0 5 ∷ col 0 6 ∷ col 0 7 ∷ []) 9))
+pub source_row_added_is : IsChange text.source_row_added (Insert 6 (Values (lit Null ∷ col 0 0 ∷ col 0 1 ∷ col 0 2 ∷ col 0 3 ∷ col 0 4 ∷ col 0 5 ∷ col 0 6 ∷ col 0 7 ∷ []) 9))
 unfolding understood everything
-attribute_added_is = (refl, (refl, refl))
+source_row_added_is = (refl, (refl, refl))

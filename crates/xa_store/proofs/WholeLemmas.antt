@@ -1,6 +1,6 @@
 -- The columns of all rows hold what they should, also after rows have come, gone and changed.
 use Rattle.std.proofs.Common.{◌≡◌, ℕ, ◌+◌, ◌<◌, ◌^◌, ℤ, pos, negsuc, true, List, map, nat_lt, int_eq, int_le, int_lt, int_cmp, ap, subst, ◌∙◌, arith}
-use Rattle.xa_store.proofs.Common.{AllByRecursion, nat_tests, ints, insert_by, sort_by, all-insert_by, all_weaker, filter-map, map-map, first_of_both, second_of_both, is_domain_name, Place, is_assigned, is_count, is_digest, places_of, DomainRow, TokenRow, DocumentRow, RootRow, AttributeRow, nat_of, AreRootTexts, AreSourceTexts, AreWhole, place_of, Rows, attributes_at}
+use Rattle.xa_store.proofs.Common.{AllByRecursion, nat_tests, ints, insert_by, sort_by, all-insert_by, all_weaker, filter-map, map-map, first_of_both, second_of_both, is_domain_name, SourcePlace, is_assigned, is_count, is_digest, places_of, DomainRow, TokenRow, DocumentRow, RootRow, PlacedRow, nat_of, AreRootTexts, AreSourceTexts, AreWhole, place_of, Rows, sources_at}
 use Rattle.xa_store.specs.Steps.{is_named, with_epoch}
 use Rattle.xa_store.proofs.ChangeLemmas.{IsOnly}
 use Rattle.xa_store.proofs.RiseLemmas.{both_true, lt_trans}
@@ -20,8 +20,8 @@ IsWholeDocument next d = is_assigned next d.number ≡ true
 abbrev pub IsWholeRoot : ℤ → RootRow → Type 0
 IsWholeRoot next r = (is_assigned next r.number ≡ true) × AreRootTexts r
 
-abbrev pub IsWholeAttribute : ℤ → AttributeRow → Type 0
-IsWholeAttribute next a = (is_assigned next a.number ≡ true) × AreSourceTexts a.row
+abbrev pub IsWholePlacedRow : ℤ → PlacedRow → Type 0
+IsWholePlacedRow next a = (is_assigned next a.number ≡ true) × AreSourceTexts a.row
 
 -- ---- numbers
 
@@ -46,10 +46,10 @@ assigned_later next later n up h =
 
 -- ---- the places of one domain
 
-pub places_at : (xs : List AttributeRow) (n : ℤ) → places_of (map place_of xs) n ≡ sort_by int_cmp (map (λ (a : AttributeRow). a.place) (attributes_at xs n))
+pub places_at : (xs : List PlacedRow) (n : ℤ) → places_of (map place_of xs) n ≡ sort_by int_cmp (map (λ (a : PlacedRow). a.place) (sources_at xs n))
 places_at xs n =
     ap (sort_by int_cmp)
-    (ap (map (λ (p : Place). p.place)) (filter-map (λ (p : Place). int_eq p.domain n) place_of xs) ∙ map-map (λ (p : Place). p.place) place_of (attributes_at xs n))
+    (ap (map (λ (p : SourcePlace). p.index)) (filter-map (λ (p : SourcePlace). int_eq p.domain n) place_of xs) ∙ map-map (λ (p : SourcePlace). p.index) place_of (sources_at xs n))
 
 -- ---- all rows
 
@@ -63,17 +63,17 @@ module _ (rows : Rows) (whole : AreWhole rows) where
 
   pub tokens_whole : (tokens : List TokenRow) → AllByRecursion (IsWholeToken rows.next) tokens → AreWhole (record rows { tokens = tokens })
   tokens_whole tokens all =
-      record { next = whole.next; domains = whole.domains; tokens = all; documents = whole.documents; roots = whole.roots; attributes = whole.attributes; places = whole.places }
+      record { next = whole.next; domains = whole.domains; tokens = all; documents = whole.documents; roots = whole.roots; sources = whole.sources; places = whole.places }
 
   pub documents_whole : (documents : List DocumentRow) (domains : List DomainRow) → AllByRecursion (IsWholeDocument rows.next) documents → AllByRecursion (IsWholeDomain rows.next) domains
       → AreWhole (record rows { documents = documents; domains = domains })
   documents_whole documents domains all named =
-      record { next = whole.next; domains = named; tokens = whole.tokens; documents = all; roots = whole.roots; attributes = whole.attributes; places = whole.places }
+      record { next = whole.next; domains = named; tokens = whole.tokens; documents = all; roots = whole.roots; sources = whole.sources; places = whole.places }
 
   pub roots_whole : (roots : List RootRow) (domains : List DomainRow) → AllByRecursion (IsWholeRoot rows.next) roots → AllByRecursion (IsWholeDomain rows.next) domains
       → AreWhole (record rows { roots = roots; domains = domains })
   roots_whole roots domains all named =
-      record { next = whole.next; domains = named; tokens = whole.tokens; documents = whole.documents; roots = all; attributes = whole.attributes; places = whole.places }
+      record { next = whole.next; domains = named; tokens = whole.tokens; documents = whole.documents; roots = all; sources = whole.sources; places = whole.places }
 
   -- a domain comes, and the next number is a greater one
   pub created_whole : (later : ℤ) (made : DomainRow) → is_count later ≡ true → int_lt rows.next later ≡ true → IsWholeDomain later made
@@ -85,6 +85,6 @@ module _ (rows : Rows) (whole : AreWhole rows) where
     tokens = all_weaker (IsWholeToken rows.next) (IsWholeToken later) (λ t h. (assigned_later rows.next later t.number up h.0, h.1)) rows.tokens whole.tokens;
     documents = all_weaker (IsWholeDocument rows.next) (IsWholeDocument later) (λ d h. assigned_later rows.next later d.number up h) rows.documents whole.documents;
     roots = all_weaker (IsWholeRoot rows.next) (IsWholeRoot later) (λ r h. (assigned_later rows.next later r.number up h.0, h.1)) rows.roots whole.roots;
-    attributes = all_weaker (IsWholeAttribute rows.next) (IsWholeAttribute later) (λ a h. (assigned_later rows.next later a.number up h.0, h.1)) rows.attributes whole.attributes;
+    sources = all_weaker (IsWholePlacedRow rows.next) (IsWholePlacedRow later) (λ a h. (assigned_later rows.next later a.number up h.0, h.1)) rows.sources whole.sources;
     places = whole.places;
   }

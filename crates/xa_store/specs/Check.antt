@@ -17,7 +17,7 @@ use Rattle.sqlite.specs.Tree.{Trees}
 use Rattle.sqlite.specs.declared.error.Error.{Error}
 use Rattle.sqlite.specs.declared.error.Error.TheVariants.{SqliteFailure, SqlInputError}
 use Rattle.sqlite.specs.declared.error.ErrorCode.TheVariants.{NameTaken, OutOfMemory}
-use Rattle.xa_store.specs.declared.check.row.Place.{Place}
+use Rattle.xa_store.specs.declared.check.row.SourcePlace.{SourcePlace}
 use Rattle.xa_store.specs.declared.error.OpenError.{OpenError}
 use Rattle.xa_store.specs.declared.error.OpenError.TheVariants.{NotThisSchema, Damaged, Store, Memory}
 use Rattle.xa_store.specs.declared.schema.checked_table.CheckedTable.{CheckedTable}
@@ -29,7 +29,7 @@ use Rattle.xa_store.specs.Opened.{are_counted, as_read, is_left_empty, place_in,
 use Rattle.xa_store.specs.Opened.{int_in, is_number, is_whole_row, row_number, opened, schema_of}
 use Rattle.xa_store.specs.Opening.{AreNewTables, GivesOrFails, IsBlank, IsFailure, IsKnown, IsMigrated}
 use Rattle.xa_store.specs.Opening.{IsRefusal, MayLeaveTables}
-use Rattle.xa_store.specs.Rows.{attribute_in, attribute_row}
+use Rattle.xa_store.specs.Rows.{placed_row, placed_row_in}
 use Rattle.xa_store.specs.Sound.{AreRows, Ours, Rests, RestsIn, SameNow, same_place}
 use Rattle.xa_store.specs.Tables.{first_schema}
 
@@ -224,32 +224,32 @@ Orders table db result =
 -- ---- the places of the rows of sources
 
 -- the place comes after the one before: the first of a domain is 0
-abbrev pub counts_on : Place → Place → Bool
+abbrev pub counts_on : SourcePlace → SourcePlace → Bool
 counts_on last place =
-    if int_eq place.domain last.domain then int_eq place.place (last.place +ℤ pos 1) else int_eq place.place (pos 0)
+    if int_eq place.domain last.domain then int_eq place.index (last.index +ℤ pos 1) else int_eq place.index (pos 0)
 
 -- a place before the first of any domain
-abbrev pub no_place : Place
-no_place = record { domain = negsuc 0; place = negsuc 0 }
+abbrev pub no_place : SourcePlace
+no_place = record { domain = negsuc 0; index = negsuc 0 }
 
 -- a row shows a domain and a place
-abbrev pub place_told : Row → Option Place
+abbrev pub place_told : Row → Option SourcePlace
 place_told row =
-    option_and_then (λ domain. option_map (λ place. record { domain = domain; place = place }) (int_in (column row 1)))
+    option_and_then (λ domain. option_map (λ index. record { domain = domain; index = index }) (int_in (column row 1)))
     (int_in (column row 0))
 
-abbrev pub is_next : Place → Option Place → Bool
+abbrev pub is_next : SourcePlace → Option SourcePlace → Bool
 is_next last None = false
 is_next last (Some place) = counts_on last place
 
 -- each row shows a place that comes after the one before
-abbrev pub counts : Place → List Row → Bool
+abbrev pub counts : SourcePlace → List Row → Bool
 counts last [] = true
 counts last (row ∷ rows) = is_next last (place_told row) && counts (unwrap_or (place_told row) last) rows
 
 -- the rows of sources as a keeper writes them, in the table that the schema has for them
 abbrev pub AreSources : SchemaVersion → Trees → Type 0
-AreSources version db = AreRows attribute_row attribute_in (λ a. a.rowid) same_place (db (tree_of (sources_in version)))
+AreSources version db = AreRows placed_row placed_row_in (λ p. p.rowid) same_place (db (tree_of (sources_in version)))
 
 -- their places were checked, and whether none of them stands where the schema has none
 abbrev pub FindsRest : SchemaVersion → State → State → Result (Unit {0}) OpenError → Type 0
@@ -285,21 +285,21 @@ pub record IsIdle (s : State) : Type 0 where
   pub settled : IsTrue s.is_open → s.now ≡ s.committed
 
 -- a transaction was begun
-pub record Begun (old new : State) (result : Result (Unit {0}) OpenError) : Type 0 where
+pub record Begins (old new : State) (result : Result (Unit {0}) OpenError) : Type 0 where
   pub survives : Survives old new (λ _. ⊥)
   pub begins : HasCleanDisk new → OnOk result (Shows old new old.now old.committed true)
   pub fails : IfErr result IsFailure
 
 -- the transaction that was under way, if there was one, is undone
-pub record Undone (old new : State) : Type 0 where
+pub record IsUndone (old new : State) : Type 0 where
   pub was_open : IsTrue new.is_open → IsTrue old.is_open
   pub committed : IsTrue new.is_open → new.committed ≡ old.committed
   pub now : IsTrue new.is_open → new.now ≡ (if old.in_transaction then old.committed else old.now)
   pub idle : new.in_transaction ≡ false
 
-pub record Ended (old new : State) (result : Result (Unit {0}) OpenError) : Type 0 where
+pub record Undoes (old new : State) (result : Result (Unit {0}) OpenError) : Type 0 where
   pub survives : Survives old new (λ _. ⊥)
-  pub undone : HasCleanDisk new → OnOk result (Undone old new)
+  pub undone : HasCleanDisk new → OnOk result (IsUndone old new)
   pub fails : IfErr result IsFailure
 
 -- the connection holds the tables of that schema, and they are sound
@@ -320,14 +320,14 @@ pub record Tested (version : SchemaVersion) (old new : State) (result : Result B
   pub sound : HasCleanDisk new → IfOk result (λ ours. IsTrue ours → IsSoundIn version new)
 
 -- the tables were made, all or none
-pub record Made {X : Type 0} (old new : State) (result : Result X OpenError) : Type 0 where
+pub record MakesTables {X : Type 0} (old new : State) (result : Result X OpenError) : Type 0 where
   pub survives : Survives old new (λ db. IsBlank old → AreNewTables db)
   pub made : HasCleanDisk new → IsBlank old → OnOk result (IsTrue new.is_open × Rests new × AreNewTables new.now.trees)
   pub same : HasCleanDisk new → IsBlank old → IsTrue new.is_open → OnErr result (SameNow old new)
   pub fails : IfErr result IsFailure
 
 -- the tables of schema 1 were brought into schema 2, or stay as they were
-pub record Migrated {X : Type 0} (old new : State) (result : Result X OpenError) : Type 0 where
+pub record MigratesTables {X : Type 0} (old new : State) (result : Result X OpenError) : Type 0 where
   pub survives : Survives old new (λ db. IsSoundIn Schema1 old → IsMigrated old.committed.trees db)
   pub migrated : HasCleanDisk new → IsSoundIn Schema1 old
       → OnOk result (IsTrue new.is_open × Rests new × IsMigrated old.committed.trees new.now.trees)

@@ -28,7 +28,7 @@ use Rattle.xa_notation.specs.declared.document.Parsed.{Parsed}
 use Rattle.xa_notation.specs.declared.notation_error.NotationError.{NotationError}
 use Rattle.xa_notation.specs.Document.{document_of}
 use Rattle.xa_records.specs.DomainName.{is_domain_name}
-use Rattle.xa_store.specs.declared.check.row.Place.{Place}
+use Rattle.xa_store.specs.declared.check.row.SourcePlace.{SourcePlace}
 use Rattle.xa_store.specs.declared.error.OpenError.{OpenError}
 use Rattle.xa_store.specs.declared.error.OpenError.TheVariants.{NotThisSchema, Damaged}
 use Rattle.xa_store.specs.declared.schema.checked_table.CheckedTable.{CheckedTable}
@@ -171,13 +171,13 @@ are_sound_rows table next rows = list_all (is_whole_row table next) rows && are_
 
 -- ---- places
 
-abbrev pub place_in : Row → Place
-place_in row = record { domain = int_of (column row 1); place = int_of (column row 2) }
+abbrev pub place_in : Row → SourcePlace
+place_in row = record { domain = int_of (column row 1); index = int_of (column row 2) }
 
 -- the places in the source of one domain, sorted
-abbrev pub places_of : List Place → ℤ → List ℤ
+abbrev pub places_of : List SourcePlace → ℤ → List ℤ
 places_of places number =
-    sort_by int_cmp (map (λ place. place.place) (filter (λ place. int_eq place.domain number) places))
+    sort_by int_cmp (map (λ place. place.index) (filter (λ place. int_eq place.domain number) places))
 
 -- they are that number, the one after it, and so on
 abbrev pub count_from : ℤ → List ℤ → Bool
@@ -185,7 +185,7 @@ count_from n [] = true
 count_from n (place ∷ places) = int_eq place n && count_from (n +ℤ pos 1) places
 
 -- the places of the rows of each domain are 0 to n - 1, each once
-abbrev pub are_counted : List Place → Bool
+abbrev pub are_counted : List SourcePlace → Bool
 are_counted places = list_all (λ place. count_from (pos 0) (places_of places place.domain)) places
 
 -- ---- the two schemas

@@ -31,10 +31,14 @@ use Rattle.xa_store.specs.Steps.{ReadsBack}
 abbrev pub create_steps : List ℕ → ℤ → ℤ → List Step
 create_steps name number next = AddDomain number name ∷ SetNext next ∷ []
 
+-- the domain of that number gets this epoch
+abbrev pub epoch_step : ℤ → ℤ → Step
+epoch_step number epoch = SetEpoch (record { number = number; epoch = epoch })
+
 -- the root of the domain of that number is another, and its epoch this
 abbrev pub root_steps : ℤ → ℤ → Option Reference → List Step
-root_steps number epoch None = DropRoot number ∷ SetEpoch number epoch ∷ []
-root_steps number epoch (Some root) = DropRoot number ∷ AddRoot number root ∷ SetEpoch number epoch ∷ []
+root_steps number epoch None = DropRoot number ∷ epoch_step number epoch ∷ []
+root_steps number epoch (Some root) = DropRoot number ∷ AddRoot number root ∷ epoch_step number epoch ∷ []
 
 -- the root reads back from the texts of its row
 abbrev pub RootReads : ℤ → Option Reference → Type 0
@@ -53,7 +57,7 @@ row_steps number place (row ∷ rows) = AddSourceRow number (pos place) row ∷ 
 
 -- the source of the domain of that number has these rows, and its epoch is this
 abbrev pub source_steps : ℤ → ℤ → List SourceRow → List Step
-source_steps number epoch rows = DropSource number ∷ SetEpoch number epoch ∷ row_steps number 0 rows
+source_steps number epoch rows = DropSource number ∷ epoch_step number epoch ∷ row_steps number 0 rows
 
 -- the steps give it these rows, at places that count from 0; or there is nothing to do
 abbrev pub SetsSource : ℤ → List SourceRow → List Step → Type 0
@@ -91,7 +95,7 @@ module _ {S : Type 0} (g : Ghosts S) where
       → (name : List ℕ) → IsDomain name (rows_now (state g old)) found
       → IsPlanned change name (rows_now (state g old)) result
 
--- an upload that takes no steps has found its very text in place
+-- an upload that takes no steps has found the same text in place
 abbrev pub upload_by : List Step → Upload
 upload_by [] = Same
 upload_by (step ∷ steps) = New

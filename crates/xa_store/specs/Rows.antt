@@ -199,7 +199,7 @@ root_of number reference =
 -- ---- rows of sources, in the table of sources, and in that of attributes in schema 1; their places count from 0 in
 -- each domain
 
-pub record AttributeRow : Type 0 where
+pub record PlacedRow : Type 0 where
   pub rowid : ℤ
   pub number : ℤ
   pub place : ℤ
@@ -212,13 +212,13 @@ abbrev pub issuer_columns : Bool → Option (List ℕ) → Row
 issuer_columns true issuer = or_null Text issuer ∷ []
 issuer_columns false issuer = []
 
-abbrev pub attribute_row : AttributeRow → Row
-attribute_row a =
-    Int a.rowid ∷ Int a.number ∷ Int a.place ∷ Text a.row.category ∷ Text a.row.entity ∷ Text a.row.attribute_id
-    ∷ Int (type_number a.row.value) ∷ Text (value_text a.row.value) ∷ issuer_columns a.is_full a.row.issuer
+abbrev pub placed_row : PlacedRow → Row
+placed_row p =
+    Int p.rowid ∷ Int p.number ∷ Int p.place ∷ Text p.row.category ∷ Text p.row.entity ∷ Text p.row.attribute_id
+    ∷ Int (type_number p.row.value) ∷ Text (value_text p.row.value) ∷ issuer_columns p.is_full p.row.issuer
 
-abbrev pub attribute_in : Row → AttributeRow
-attribute_in row = record {
+abbrev pub placed_row_in : Row → PlacedRow
+placed_row_in row = record {
   rowid = int_of (column row 0);
   number = int_of (column row 1);
   place = int_of (column row 2);
@@ -233,5 +233,5 @@ attribute_in row = record {
 }
 
 -- a row of schema 1, which has no issuer
-abbrev pub unissued_in : Row → AttributeRow
-unissued_in row = let a : AttributeRow = attribute_in row in record a { row = record a.row { issuer = None } }
+abbrev pub unissued_in : Row → PlacedRow
+unissued_in row = let p : PlacedRow = placed_row_in row in record p { row = record p.row { issuer = None } }

@@ -16,12 +16,12 @@ use Rattle.xa_decide.specs.declared.source_row.SourceRow.{SourceRow}
 use Rattle.xa_records.specs.DomainName.{is_domain_name}
 use Rattle.xa_records.specs.DomainState.{IsDocumentOf, compare_bytes, new_domain}
 use Rattle.xa_records.specs.Kept.{IsNumbered, Kept}
-use Rattle.xa_store.specs.declared.check.row.Place.{Place}
+use Rattle.xa_store.specs.declared.check.row.SourcePlace.{SourcePlace}
 use Rattle.xa_store.specs.Opened.{count_from, holds_value, is_count, is_digest}
 use Rattle.xa_store.specs.Opened.{is_assigned, is_pattern, is_version, opened, places_of}
-use Rattle.xa_store.specs.Rows.{DomainRow, TokenRow, DocumentRow, RootRow, AttributeRow, meta_row, next_in}
+use Rattle.xa_store.specs.Rows.{DomainRow, TokenRow, DocumentRow, RootRow, PlacedRow, meta_row, next_in}
 use Rattle.xa_store.specs.Rows.{domain_row, domain_in, token_row, token_in, document_row, document_in, root_row}
-use Rattle.xa_store.specs.Rows.{root_in, attribute_row, attribute_in, text_at, type_number, value_text}
+use Rattle.xa_store.specs.Rows.{root_in, placed_row, placed_row_in, text_at, type_number, value_text}
 use Rattle.xa_store.specs.Tables.{our_schema}
 use Rattle.xa_store.specs.declared.schema.version.SchemaVersion.TheVariants.{Schema2}
 use Rattle.xa_store.specs.World.{Rows, rows_of, state_at, kept_of, world_of}
@@ -38,7 +38,7 @@ same_token a b = int_eq a.number b.number && eq_by_cmp compare_bytes a.digest b.
 abbrev pub same_document : DocumentRow → DocumentRow → Bool
 same_document a b = int_eq a.number b.number && eq_by_cmp compare_keys a.key b.key
 
-abbrev pub same_place : AttributeRow → AttributeRow → Bool
+abbrev pub same_place : PlacedRow → PlacedRow → Bool
 same_place a b = int_eq a.number b.number && int_eq a.place b.place
 
 -- the rows of a table are those that these records write, their rowids rise, and no two have one key
@@ -55,7 +55,7 @@ pub record AreTables (db : Trees) : Type 0 where
   pub documents : AreRows document_row document_in (λ d. d.rowid) same_document (db 5)
   pub roots : AreRows root_row root_in (λ r. r.number) (λ a b. false) (db 7)
   pub left_empty : db 8 ≡ []
-  pub attributes : AreRows attribute_row attribute_in (λ a. a.rowid) same_place (db 10)
+  pub sources : AreRows placed_row placed_row_in (λ p. p.rowid) same_place (db 10)
 
 -- ---- the domains' numbers
 
@@ -89,8 +89,8 @@ AreSourceTexts row =
     (is_utf8 row.category ≡ true) × (is_utf8 row.entity ≡ true) × (is_utf8 row.attribute_id ≡ true)
     × (holds_value (type_number row.value) (value_text row.value) ≡ true) × (is_if_any is_utf8 row.issuer ≡ true)
 
-abbrev pub place_of : AttributeRow → Place
-place_of a = record { domain = a.number; place = a.place }
+abbrev pub place_of : PlacedRow → SourcePlace
+place_of p = record { domain = p.number; index = p.place }
 
 -- the columns of all rows hold what they should, beside what is said above: so opening finds them sound
 pub record AreWhole (rows : Rows) : Type 0 where
@@ -101,8 +101,8 @@ pub record AreWhole (rows : Rows) : Type 0 where
   pub tokens : AllByRecursion (λ t. (is_assigned rows.next t.number ≡ true) × (is_digest t.digest ≡ true)) rows.tokens
   pub documents : AllByRecursion (λ d. is_assigned rows.next d.number ≡ true) rows.documents
   pub roots : AllByRecursion (λ r. (is_assigned rows.next r.number ≡ true) × AreRootTexts r) rows.roots
-  pub attributes : AllByRecursion (λ a. (is_assigned rows.next a.number ≡ true) × AreSourceTexts a.row) rows.attributes
-  pub places : (number : ℤ) → count_from (pos 0) (places_of (map place_of rows.attributes) number) ≡ true
+  pub sources : AllByRecursion (λ p. (is_assigned rows.next p.number ≡ true) × AreSourceTexts p.row) rows.sources
+  pub places : (number : ℤ) → count_from (pos 0) (places_of (map place_of rows.sources) number) ≡ true
 
 -- ---- all tables of a store
 

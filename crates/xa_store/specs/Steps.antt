@@ -12,7 +12,7 @@ use Rattle.xa_store.specs.declared.step.Step.{Step}
 use Rattle.xa_store.specs.declared.step.Step.TheVariants.{AddDomain, SetNext, SetEpoch, DropDomain, AddToken}
 use Rattle.xa_store.specs.declared.step.Step.TheVariants.{SetRole, DropToken, AddDocument, SetActive, DropDocument}
 use Rattle.xa_store.specs.declared.step.Step.TheVariants.{AddRoot, DropRoot, AddSourceRow, DropSource}
-use Rattle.xa_store.specs.Rows.{DomainRow, TokenRow, DocumentRow, AttributeRow}
+use Rattle.xa_store.specs.Rows.{DomainRow, TokenRow, DocumentRow, PlacedRow}
 use Rattle.xa_store.specs.Rows.{root_of, type_number, value_in, value_text, version_in}
 use Rattle.xa_store.specs.World.{Rows}
 
@@ -27,8 +27,8 @@ is_token number digest t = int_eq t.number number && eq_by_cmp compare_bytes dig
 abbrev pub is_document : ℤ → DocumentKey → DocumentRow → Bool
 is_document number key d = int_eq d.number number && eq_by_cmp compare_keys key d.key
 
-abbrev pub is_place : ℤ → ℤ → AttributeRow → Bool
-is_place number place a = int_eq a.number number && int_eq a.place place
+abbrev pub is_place : ℤ → ℤ → PlacedRow → Bool
+is_place number place p = int_eq p.number number && int_eq p.place place
 
 -- ---- what a step makes of the rows
 
@@ -43,7 +43,7 @@ without_domain number rows = record {
   tokens = delete_where (λ t. int_eq t.number number) rows.tokens;
   documents = delete_where (λ d. int_eq d.number number) rows.documents;
   roots = delete_where (λ r. int_eq r.number number) rows.roots;
-  attributes = delete_where (λ a. int_eq a.number number) rows.attributes;
+  sources = delete_where (λ p. int_eq p.number number) rows.sources;
 }
 
 -- a row that is added stands last, but that domains and roots stand in the order of their numbers
@@ -53,7 +53,7 @@ after (AddDomain number name) rows =
       domains = insert_by (λ d. d.number) rows.domains (record { number = number; name = name; epoch = pos 0 });
     }
 after (SetNext next) rows = record rows { next = next }
-after (SetEpoch number epoch) rows = record rows { domains = with_epoch number epoch rows.domains }
+after (SetEpoch revision) rows = record rows { domains = with_epoch revision.number revision.epoch rows.domains }
 after (DropDomain number) rows = without_domain number rows
 after (AddToken number digest role) rows =
     record rows {
@@ -81,8 +81,8 @@ after (AddRoot number root) rows = record rows { roots = insert_by (λ r. r.numb
 after (DropRoot number) rows = record rows { roots = delete_where (λ r. int_eq r.number number) rows.roots }
 after (AddSourceRow number place row) rows =
     record rows {
-      attributes = rows.attributes ++ record {
-        rowid = next_key (λ a. a.rowid) rows.attributes;
+      sources = rows.sources ++ record {
+        rowid = next_key (λ p. p.rowid) rows.sources;
         number = number;
         place = place;
         row = row;
@@ -90,14 +90,15 @@ after (AddSourceRow number place row) rows =
       }
           ∷ [];
     }
-after (DropSource number) rows = record rows { attributes = delete_where (λ a. int_eq a.number number) rows.attributes }
+after (DropSource number) rows = record rows { sources = delete_where (λ p. int_eq p.number number) rows.sources }
 
 abbrev pub after_all : List Step → Rows → Rows
 after_all steps rows = fold (λ rows step. after step rows) rows steps
 
 -- ---- under what it is taken: no row of that key is there, if one comes, and a text that comes is a document of
--- its key; the domain is there, if it goes. Of a domain or a root that comes it isn't asked that its number has
--- no row yet: if it has one, `after` puts the new row in its place, and the statement fails and makes nothing
+-- its key; the version of a document's key reads back, and so does a value that comes; the domain is there, if it
+-- goes. Of a domain or a root that comes it isn't asked that its number has no row yet: if it has one, `after` puts
+-- the new row in its place, and the statement fails and makes nothing
 
 -- the text of the value reads as the value
 abbrev pub ReadsBack : Value → Type 0
@@ -118,8 +119,7 @@ Allows (AddDocument number key text) rows =
     (filter (is_document number key) rows.documents ≡ []) × KeyReads key × IsOfKey key text
 Allows (SetActive number key active) rows = KeyReads key
 Allows (DropDocument number key) rows = KeyReads key
-Allows (AddSourceRow number place row) rows =
-    (filter (is_place number place) rows.attributes ≡ []) × ReadsBack row.value
+Allows (AddSourceRow number place row) rows = (filter (is_place number place) rows.sources ≡ []) × ReadsBack row.value
 Allows (DropDomain number) rows = (d : DomainRow) × (filter (λ x. int_eq x.number number) rows.domains ≡ d ∷ [])
 Allows _ rows = Unit {0}
 

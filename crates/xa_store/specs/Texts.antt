@@ -130,6 +130,6 @@ root_dropped = codes "DELETE FROM roots WHERE number = ?1"
 abbrev pub source_dropped : List ℕ
 source_dropped = codes "DELETE FROM sources WHERE number = ?1"
 
-abbrev pub attribute_added : List ℕ
-attribute_added =
+abbrev pub source_row_added : List ℕ
+source_row_added =
     codes "INSERT INTO sources (number, place, category, entity, attribute, value_type, value, issuer) VALUES (?1, ?2, ?3, ?4, ?5, ?6, ?7, ?8)"

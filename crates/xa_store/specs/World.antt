@@ -13,19 +13,19 @@ use Rattle.xa_notation.specs.declared.token.Role.{Role}
 use Rattle.xa_decide.specs.declared.source_row.SourceRow.{SourceRow}
 use Rattle.xa_records.specs.DomainState.{DomainState, StoredDocument, compare_bytes}
 use Rattle.xa_records.specs.Kept.{Domain, Kept}
-use Rattle.xa_store.specs.Rows.{DomainRow, TokenRow, DocumentRow, RootRow, AttributeRow, nat_of, next_in}
-use Rattle.xa_store.specs.Rows.{domain_in, token_in, document_in, root_in, attribute_in, unissued_in, reference_of}
+use Rattle.xa_store.specs.Rows.{DomainRow, TokenRow, DocumentRow, RootRow, PlacedRow, nat_of, next_in}
+use Rattle.xa_store.specs.Rows.{domain_in, token_in, document_in, root_in, placed_row_in, unissued_in, reference_of}
 
 -- ---- the rows of all tables
 
--- `attributes` are the rows of sources, which stand in the table `sources`, and in schema 1 in the table `attributes`
+-- `sources` are the rows of sources, which stand in the table `sources`, and in schema 1 in the table `attributes`
 pub record Rows : Type 0 where
   pub next : ℤ
   pub domains : List DomainRow
   pub tokens : List TokenRow
   pub documents : List DocumentRow
   pub roots : List RootRow
-  pub attributes : List AttributeRow
+  pub sources : List PlacedRow
 
 abbrev pub rows_of : Trees → Rows
 rows_of db = record {
@@ -34,7 +34,7 @@ rows_of db = record {
   tokens = map token_in (db 3);
   documents = map document_in (db 5);
   roots = map root_in (db 7);
-  attributes = map attribute_in (db 10);
+  sources = map placed_row_in (db 10);
 }
 
 -- of the tables that a connection has now
@@ -43,7 +43,7 @@ rows_now store = rows_of store.now.trees
 
 -- in schema 1
 abbrev pub first_rows_of : Trees → Rows
-first_rows_of db = record (rows_of db) { attributes = map unissued_in (db 8) }
+first_rows_of db = record (rows_of db) { sources = map unissued_in (db 8) }
 
 -- ---- the state of the domain of a number
 
@@ -53,8 +53,8 @@ tokens_at tokens number = filter (λ t. int_eq t.number number) tokens
 abbrev pub documents_at : List DocumentRow → ℤ → List DocumentRow
 documents_at documents number = filter (λ d. int_eq d.number number) documents
 
-abbrev pub attributes_at : List AttributeRow → ℤ → List AttributeRow
-attributes_at attributes number = filter (λ a. int_eq a.number number) attributes
+abbrev pub sources_at : List PlacedRow → ℤ → List PlacedRow
+sources_at sources number = filter (λ p. int_eq p.number number) sources
 
 abbrev pub token_entry : TokenRow → List ℕ × Role
 token_entry t = (t.digest, t.role)
@@ -72,15 +72,15 @@ abbrev pub root_at : List RootRow → ℤ → Option Reference
 root_at roots number = option_map reference_of (get_by (λ r. r.number) roots number)
 
 -- the rows of a source stand in the order of their places
-abbrev pub source_of : List AttributeRow → List SourceRow
-source_of attributes = map (λ a. a.row) (sort_by (on (λ a. a.place) int_cmp) attributes)
+abbrev pub source_of : List PlacedRow → List SourceRow
+source_of sources = map (λ p. p.row) (sort_by (on (λ p. p.place) int_cmp) sources)
 
 abbrev pub state_at : Rows → ℤ → DomainState
 state_at rows number = record {
   tokens = roles_of (tokens_at rows.tokens number);
   documents = library_of (documents_at rows.documents number);
   root = root_at rows.roots number;
-  source = source_of (attributes_at rows.attributes number);
+  source = source_of (sources_at rows.sources number);
 }
 
 -- ---- all domains

@@ -1,11 +1,12 @@
 //! Changes of domains. Each is planned by queries, which may refuse it, and then one transaction takes
 //! the steps of the plan. `plan_X` finds the domain by its name, `plan_X_in_domain` plans in that domain, and
-//! `plan_X_over` plans over what was found in it.
+//! `plan_X_over` plans over what was found in it. `plan_X_new` and `plan_X_again` plan for what
+//! isn't there yet, and for what is there already.
 ghost use Rattle.std.specs.Prelude.{◌≡◌, ◌++◌, [], ◌∷◌, Result, Err, IfErr, IfOk};
 ghost use Rattle.sqlite.specs.Held.{state};
 ghost use Rattle.xa_records.specs.declared.refusal.Failure.{Failure as Failed};
-ghost use Rattle.xa_store.specs.declared.step.Step.TheVariants.{SetEpoch};
 ghost use Rattle.xa_store.specs.Execution.{Runs};
+ghost use Rattle.xa_store.specs.Plan.{epoch_step};
 ghost use Rattle.xa_store.specs.Turns.{answer_of};
 
 pub(crate) mod document;
@@ -17,21 +18,12 @@ pub(crate) mod root;
 pub(crate) mod source;
 pub(crate) mod token;
 
-use crate::step::Step;
 use crate::step::transaction::run;
+use crate::step::{Revision, Step};
 use sqlite::{Alter, Connection};
 use std::alloc::{AllocError, Global};
 use xa_records::ChangeError;
 use xa_value::Items;
-
-/// The revision that a change gives a domain.
-#[derive(Clone, Copy, Debug)]
-pub(crate) struct Revision {
-    /// The domain's number.
-    pub(crate) number: i64,
-    /// Its epoch after the change.
-    pub(crate) epoch: i64,
-}
 
 /// One step alone.
 pub(crate) fn one_step(alloc: Global, step: Step) -> Result<Items<Step>, AllocError>
@@ -47,12 +39,9 @@ pub(crate) fn with_epoch(
     mut steps: Items<Step>,
     revision: Revision,
 ) -> Result<Items<Step>, AllocError>
-    ensures { IfOk result (λ all. all ≡ steps ++ SetEpoch revision.number revision.epoch ∷ []) }
+    ensures { IfOk result (λ all. all ≡ steps ++ epoch_step revision.number revision.epoch ∷ []) }
 {
-    steps.push(Step::SetEpoch {
-        number: revision.number,
-        epoch: revision.epoch,
-    })?;
+    steps.push(Step::SetEpoch(revision))?;
     Ok(steps)
 }
 
@@ -62,7 +51,7 @@ pub(crate) fn raising_steps(
     step: Step,
     revision: Revision,
 ) -> Result<Items<Step>, AllocError>
-    ensures { IfOk result (λ steps. steps ≡ step ∷ SetEpoch revision.number revision.epoch ∷ []) }
+    ensures { IfOk result (λ steps. steps ≡ step ∷ epoch_step revision.number revision.epoch ∷ []) }
 {
     let steps = one_step(alloc, step)?;
     with_epoch(steps, revision)

@@ -14,6 +14,15 @@ use xa_policy::{DocumentKey, Reference};
 use xa_records::Digest;
 use xa_value::{Items, Text};
 
+/// The revision that a change gives a domain.
+#[derive(Clone, Copy, Debug)]
+pub(crate) struct Revision {
+    /// The domain's number.
+    pub(crate) number: i64,
+    /// Its epoch after the change.
+    pub(crate) epoch: i64,
+}
+
 /// One statement of a change. Each `number` is that of a domain.
 #[derive(Debug, Drop)]
 pub(crate) enum Step {
@@ -25,10 +34,7 @@ pub(crate) enum Step {
     /// The number of the next domain.
     SetNext(i64),
     /// The domain's epoch.
-    SetEpoch {
-        number: i64,
-        epoch: i64,
-    },
+    SetEpoch(Revision),
     /// The domain goes with all its rows.
     DropDomain(i64),
     /// A token that isn't there, with its role.

@@ -37,7 +37,7 @@ fn copy_of_text(alloc: Global, text: &[u8]) -> Result<Items<u8>, AllocError>
 }
 
 /// Whether a domain of so many documents may have one more.
-fn may_have_one_more(count: usize) -> bool
+fn may_have_one_more_document(count: usize) -> bool
     ensures { result ≡ nat_lt count 1_024 }
 {
     // in a function of its own, the proof has the answer as an equation
@@ -48,7 +48,7 @@ fn may_have_one_more(count: usize) -> bool
 fn is_same_body(one: &[u8], other: &[u8]) -> bool
     ensures { result ≡ bytes_eq one.now other.now }
 {
-    // in a function of its own, as `may_have_one_more`, for the proof
+    // in a function of its own, as `may_have_one_more_document`, for the proof
     one == other
 }
 
@@ -67,7 +67,7 @@ fn plan_upload_new<S: Alter>(
 {
     key_reads_back(&key);
     let count = document_count(conn, found.number)?;
-    if !may_have_one_more(count) {
+    if !may_have_one_more_document(count) {
         return Err(ChangeError::Refused(Refusal::Quota));
     }
     let revision = next_revision(found)?;
@@ -80,7 +80,7 @@ fn plan_upload_new<S: Alter>(
     Ok(raising_steps(alloc, step, revision)?)
 }
 
-/// The plan for a document that is there with that text: the very text again changes nothing. `found` is
+/// The plan for a document that is there with that text: the same text again changes nothing. `found` is
 /// for the contract alone.
 fn plan_upload_again(
     alloc: Global,

@@ -2,8 +2,8 @@
 ghost use Rattle.std.specs.Prelude.{◌≡◌, Ok, Err, IfErr, IfOk};
 ghost use Rattle.xa_store.specs.Plan.{RaisesTo};
 
-use crate::change::Revision;
 use crate::query::domain::DomainFound;
+use crate::step::Revision;
 use xa_records::Failure;
 
 /// The number after this one; there is none after the greatest that a column holds.

@@ -21,7 +21,7 @@ use xa_records::{ChangeError, Digest, MAX_TOKENS, Refusal};
 use xa_value::{Items, Text};
 
 /// Whether a domain of so many tokens may have one more.
-fn may_have_one_more(count: usize) -> bool
+fn may_have_one_more_token(count: usize) -> bool
     ensures { result ≡ nat_lt count 32 }
 {
     // in a function of its own, the proof has the answer as an equation
@@ -43,7 +43,7 @@ fn plan_put_new<S: Alter>(
 {
     has_all_bytes(&digest);
     let count = token_count(conn, found.number)?;
-    if !may_have_one_more(count) {
+    if !may_have_one_more_token(count) {
         return Err(ChangeError::Refused(Refusal::Quota));
     }
     let step = Step::AddToken {
@@ -110,7 +110,7 @@ pub(crate) fn put<S: Alter>(
 }
 
 /// The plan to take a token out of a domain that was found.
-fn plan_drop_in_domain<S: Alter>(
+fn plan_take_out_in_domain<S: Alter>(
     alloc: Global,
     conn: &mut Connection<S>,
     found: DomainFound,
@@ -128,7 +128,7 @@ fn plan_drop_in_domain<S: Alter>(
 }
 
 /// The plan, or why the token isn't taken out.
-fn plan_drop<S: Alter>(
+fn plan_take_out<S: Alter>(
     alloc: Global,
     conn: &mut Connection<S>,
     name: &Text,
@@ -138,11 +138,11 @@ fn plan_drop<S: Alter>(
     ensures plans { PlansIn S.Store (within (token_dropped digest)) name.now conn.old conn.new result }
 {
     let found = domain_to_change(conn, name)?;
-    plan_drop_in_domain(alloc, conn, found, digest)
+    plan_take_out_in_domain(alloc, conn, found, digest)
 }
 
 /// Takes a token out of the domain of that name.
-pub(crate) fn drop_token<S: Alter>(
+pub(crate) fn take_out<S: Alter>(
     alloc: Global,
     conn: &mut Connection<S>,
     name: &Text,
@@ -151,6 +151,6 @@ pub(crate) fn drop_token<S: Alter>(
     ensures turns { Turns (within (token_dropped digest)) name.now
         (state S.Store conn.old) (state S.Store conn.new) result }
 {
-    let planned = plan_drop(alloc, conn, name, digest);
+    let planned = plan_take_out(alloc, conn, name, digest);
     carry_out(alloc, conn, planned)
 }

@@ -2,7 +2,7 @@
 //! they were, whatever the queries do.
 ghost use Rattle.std.specs.Prelude.{◌≢◌};
 ghost use Rattle.sqlite.specs.Held.{state};
-ghost use Rattle.xa_store.specs.Check.{Begun, Ended, IsIdle, Tested};
+ghost use Rattle.xa_store.specs.Check.{Begins, IsIdle, Tested, Undoes};
 ghost use Rattle.xa_store.specs.Opened.{schema_of};
 
 use crate::check::tables::check;
@@ -15,7 +15,7 @@ use std::alloc::Global;
 
 /// Begins a transaction.
 fn begin_transaction<S: Alter>(conn: &mut Connection<S>) -> Result<(), OpenError>
-    ensures { Begun (state S.Store conn.old) (state S.Store conn.new) result }
+    ensures { Begins (state S.Store conn.old) (state S.Store conn.new) result }
 {
     match conn.execute(sql::BEGIN, &[]) {
         Ok(_) => Ok(()),
@@ -25,7 +25,7 @@ fn begin_transaction<S: Alter>(conn: &mut Connection<S>) -> Result<(), OpenError
 
 /// Undoes the transaction, if an error has not yet done so.
 fn undo_transaction<S: Alter>(conn: &mut Connection<S>) -> Result<(), OpenError>
-    ensures { Ended (state S.Store conn.old) (state S.Store conn.new) result }
+    ensures { Undoes (state S.Store conn.old) (state S.Store conn.new) result }
 {
     if conn.is_autocommit() {
         return Ok(());

@@ -28,11 +28,11 @@ use xa_value::{DataType, Value, memory_apart};
 
 /// A domain and a place in its source.
 #[derive(Clone, Copy, Debug)]
-pub(crate) struct Place {
+pub(crate) struct SourcePlace {
     /// The number of the domain.
     pub(crate) domain: i64,
-    /// The place, of which the first is 0.
-    pub(crate) place: i64,
+    /// The place, as an index: the first is 0.
+    pub(crate) index: i64,
 }
 
 /// Whether the row is one of a table of domains.
@@ -226,22 +226,22 @@ pub(crate) fn row_number(row: &Row) -> Option<i64>
 }
 
 /// The place that the row shows.
-pub(crate) fn place_of(row: &Row) -> Option<Place>
+pub(crate) fn place_of(row: &Row) -> Option<SourcePlace>
     ensures { result ≡ place_told row.now }
 {
     let domain = number_at(row, source_place::NUMBER)?;
-    let place = number_at(row, source_place::PLACE)?;
-    Some(Place { domain, place })
+    let index = number_at(row, source_place::PLACE)?;
+    Some(SourcePlace { domain, index })
 }
 
 /// Whether the place comes after the last: the first of a domain is 0.
-pub(crate) fn follows(last: Place, place: Place) -> bool
+pub(crate) fn follows(last: SourcePlace, place: SourcePlace) -> bool
     ensures { result ≡ counts_on last place }
 {
     if place.domain != last.domain {
-        return place.place == 0;
+        return place.index == 0;
     }
-    last.place.checked_add(1) == Some(place.place)
+    last.index.checked_add(1) == Some(place.index)
 }
 
 /// The number of the next domain, if the row is of that schema.

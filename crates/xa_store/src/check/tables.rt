@@ -15,7 +15,7 @@ ghost use Rattle.xa_store.specs.declared.schema.version.SchemaVersion.TheVariant
 use crate::check::cell::is_count;
 use crate::check::cursor::walk;
 use crate::check::query::rows_of;
-use crate::check::row::{Place, follows, known_next, place_of};
+use crate::check::row::{SourcePlace, follows, known_next, place_of};
 use crate::error::OpenError;
 use crate::schema::checked_table::CheckedTable;
 use crate::schema::version::{Checking, SchemaVersion};
@@ -129,9 +129,9 @@ fn are_consecutive(rows: &[Row]) -> bool
     ensures { result ≡ counts no_place rows.now }
 {
     // before the first of any domain
-    let mut last = Place {
+    let mut last = SourcePlace {
         domain: -1,
-        place: -1,
+        index: -1,
     };
     for row in rows {
         match place_of(row) {

@@ -71,7 +71,8 @@ impl Health {
     }
 
     /// What is told of a reading. If it failed with `Store`, the store is looked at first. Each call of a
-    /// shut keeper fails with `Store`, and is counted.
+    /// shut keeper fails with `Store`, and is counted. The reading was made all the same: a shut store
+    /// answers its first query by `Closed`, at once, and does nothing.
     pub(crate) fn after_reading<S: Alter, X: Drop>(
         &mut self,
         conn: &mut Connection<S>,
@@ -90,7 +91,7 @@ impl Health {
         }
     }
 
-    /// What is told of a change, as of a reading.
+    /// What is told of a change, as of a reading. A change of a shut keeper ends at its first query, too.
     pub(crate) fn after_change<S: Alter, X: Drop>(
         &mut self,
         conn: &mut Connection<S>,

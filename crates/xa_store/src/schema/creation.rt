@@ -2,7 +2,7 @@
 ghost use Rattle.std.specs.Prelude.{◌≡◌, [], ◌∷◌, IsTrue, OnOk};
 ghost use Rattle.sqlite.specs.Held.{state};
 ghost use Rattle.sqlite.specs.State.{HasCleanDisk};
-ghost use Rattle.xa_store.specs.Check.{Made};
+ghost use Rattle.xa_store.specs.Check.{MakesTables};
 ghost use Rattle.xa_store.specs.Creation.{part_statement, AreMade, IsAfter, IsBefore};
 ghost use Rattle.xa_store.specs.Execution.{StaysInside};
 ghost use Rattle.xa_store.specs.declared.schema.creation.Part.TheVariants as parts;
@@ -99,7 +99,7 @@ fn make_parts<S: Alter>(tx: &mut Transaction<'_, S>) -> Result<(), Failure>
 
 /// Makes the tables, all or none.
 pub(crate) fn make<S: Alter>(conn: &mut Connection<S>) -> Result<(), OpenError>
-    ensures { Made (state S.Store conn.old) (state S.Store conn.new) result }
+    ensures { MakesTables (state S.Store conn.old) (state S.Store conn.new) result }
 {
     if !conn.is_autocommit() {
         return Err(OpenError::Store);

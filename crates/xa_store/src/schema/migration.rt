@@ -3,7 +3,7 @@ ghost use Rattle.std.specs.Prelude.{◌≡◌, IsTrue, OnOk};
 ghost use Rattle.sqlite.specs.Held.{state};
 ghost use Rattle.sqlite.specs.State.{HasCleanDisk};
 ghost use Rattle.sqlite.specs.Tree.{Trees};
-ghost use Rattle.xa_store.specs.Check.{Migrated};
+ghost use Rattle.xa_store.specs.Check.{MigratesTables};
 ghost use Rattle.xa_store.specs.Migration.{stage_statement, IsAfter, IsBefore, IsDone, IsSoundFirst};
 ghost use Rattle.xa_store.specs.Execution.{StaysInside};
 ghost use Rattle.xa_store.specs.declared.schema.migration.Stage.TheVariants as stages;
@@ -73,7 +73,7 @@ fn take_all<S: Alter>(tx: &mut Transaction<'_, S>) -> Result<(), Failure>
 
 /// Brings the tables into schema 2, all of them or none.
 pub(crate) fn migrate<S: Alter>(conn: &mut Connection<S>) -> Result<(), OpenError>
-    ensures { Migrated (state S.Store conn.old) (state S.Store conn.new) result }
+    ensures { MigratesTables (state S.Store conn.old) (state S.Store conn.new) result }
 {
     if !conn.is_autocommit() {
         return Err(OpenError::Store);

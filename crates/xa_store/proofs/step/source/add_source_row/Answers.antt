@@ -2,7 +2,7 @@ use Rattle.std.proofs.Common.{w64}
 use Rattle.xa_store.proofs.Common.{to_z-of_z, state, type_of}
 use Rattle.xa_store.specs.declared.step.Step.TheVariants.{AddSourceRow}
 use Rattle.xa_store.specs.Rows.{value_text}
-use Rattle.xa_store.proofs.AttributeSteps.{attribute_added_stepped}
+use Rattle.xa_store.proofs.SourceSteps.{source_row_added_stepped}
 use Rattle.xa_store.proofs.ColumnNumbers.{of_type}
 use Rattle.xa_store.proofs.TakeLemmas.{took_ok}
 use Rattle.xa_store.proofs.step.source.add_source_row.Goals as goal
@@ -19,6 +19,6 @@ returns-clause-taken g c =
       stays = c.execute_in.ensures.stays;
       takes = λ clean inside allows.
           took_ok old new (AddSourceRow c.args.number c.args.place row) c.execute_in.result (c.execute_in.ensures.stays.inside clean inside.inside) (c.execute_in.ensures.runs clean inside.inside)
-          (λ ran. attribute_added_stepped old new inside.schema ran.0 inside.tables c.args.number c.args.place row allows.0 allows.1
+          (λ ran. source_row_added_stepped old new inside.schema ran.0 inside.tables c.args.number c.args.place row allows.0 allows.1
           (rw (n, p, (of_type (type_of row.value)).held) at (rw (c.number_of_type.ensures, c.as_bytes.ensures, c.as_bytes-2.ensures, c.as_bytes-3.ensures, c.as_bytes-4.ensures, c.text_or_null.ensures, c.in_ok-value.ensures) at ran.1)));
     }

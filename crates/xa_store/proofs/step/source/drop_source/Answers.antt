@@ -1,7 +1,7 @@
 use Rattle.std.proofs.Common.{w64}
 use Rattle.xa_store.proofs.Common.{to_z-of_z, state}
 use Rattle.xa_store.specs.declared.step.Step.TheVariants.{DropSource}
-use Rattle.xa_store.proofs.AttributeSteps.{source_dropped_stepped}
+use Rattle.xa_store.proofs.SourceSteps.{source_dropped_stepped}
 use Rattle.xa_store.proofs.TakeLemmas.{took_ok}
 use Rattle.xa_store.proofs.step.source.drop_source.Goals as goal
 
