@@ -6,7 +6,7 @@ use Rattle.std.specs.declared.net.socket_addr.SocketAddr.{SocketAddr}
 use Rattle.std.proofs.lemmas.Result.{IfErr-at_err}
 use Rattle.xa_http.specs.Stream.{Stream}
 use Rattle.xa_records.specs.Keeper.{Custody}
-use Rattle.xa_server.specs.declared.driven.Driven.{Driven}
+use Rattle.xa_server.specs.declared.drive_end.DriveEnd.{DriveEnd}
 use Rattle.xa_server.specs.declared.front_error.FrontError.{FrontError}
 use Rattle.xa_server.specs.declared.front_error.FrontError.TheVariants as error
 use Rattle.xa_server.specs.declared.front_error.FrontError.TheVariants.{Full, NoSuchConnection, TooManyConnections}
@@ -95,41 +95,41 @@ closed_again conn done old opened left new none is keeps (stream, line, without)
     ∙ set-set none_open conn.number (Some alone.0) None
     ∙ none_without_first conn.number begun.0
 
-driven_one : (driven : Driven) (conn : Conn) (done : Unit {0}) (old opened left new : FrontState) (before now : Known) → old.lines ≡ none_open
-    → IsOpened old.lines (Ok conn) opened.lines → opened.server ≡ old.server → IsConnection driven (line_at conn opened.lines) conn opened left before now
-    → KeepsOpen conn opened.lines left.lines → IsClosed conn left.lines (Ok done) new.lines → new.server ≡ left.server → fault_of_end driven ≡ None
+driven_one : (end : DriveEnd) (conn : Conn) (done : Unit {0}) (old opened left new : FrontState) (before now : Known) → old.lines ≡ none_open
+    → IsOpened old.lines (Ok conn) opened.lines → opened.server ≡ old.server → IsConnection end (line_at conn opened.lines) conn opened left before now
+    → KeepsOpen conn opened.lines left.lines → IsClosed conn left.lines (Ok done) new.lines → new.server ≡ left.server → fault_of_end end ≡ None
     → IsConnectionServed old new before now
-driven_one driven conn done old opened left new before now none is server drives keeps closed same goes_on =
+driven_one end conn done old opened left new before now none is server drives keeps closed same goes_on =
     let first = opened_first conn old.lines opened.lines none is in
     let begun : opened ≡ record old { lines = with_line conn (Some empty_stream) none_open } = λ i. record { server = server i; lines = first.1 i } in
     let there : line_at conn opened.lines ≡ Some empty_stream
     = ap (λ (ls : Lines). slice_index_or ls conn.number None) first.1 ∙ line_of_first conn.number first.0 in
-    let driven_here : IsDrivenWithin 1_000_000 driven conn opened left empty_stream before now
-    = subst (λ (l : Option Stream). IsConnection driven l conn opened left before now) there drives in
+    let driven_here : IsDrivenWithin 1_000_000 end conn opened left empty_stream before now
+    = subst (λ (l : Option Stream). IsConnection end l conn opened left before now) there drives in
     let lines : new.lines ≡ none_open = closed_again conn done old.lines opened.lines left.lines new.lines none is keeps closed in
     record {
       conn = conn;
-      driven = driven;
+      end = end;
       left = left;
-      is_driven = subst (λ (f : FrontState). IsDrivenWithin 1_000_000 driven conn f left empty_stream before now) begun driven_here;
+      is_driven = subst (λ (f : FrontState). IsDrivenWithin 1_000_000 end conn f left empty_stream before now) begun driven_here;
       goes_on = goes_on;
       closed = λ i. record { server = same i; lines = lines i };
     }
 
 -- whatever the last step of serving it gave
-pub served_as : {R : Type 0} (custody : R → Custody) (old opened left new : Fronted R) (driven : Driven) (conn : Conn) (done : Unit {0}) (before now : Known)
+pub served_as : {R : Type 0} (custody : R → Custody) (old opened left new : Fronted R) (end : DriveEnd) (conn : Conn) (done : Unit {0}) (before now : Known)
     (result : Result (Unit {0}) Fault) → old.lines ≡ none_open → IsOpened old.lines (Ok conn) opened.lines → opened.server ≡ old.server
-    → ((custody left.server.records).sound → IsConnection driven (line_at conn opened.lines) conn (front_state custody opened) (front_state custody left) before now)
+    → ((custody left.server.records).sound → IsConnection end (line_at conn opened.lines) conn (front_state custody opened) (front_state custody left) before now)
     → KeepsOpen conn opened.lines left.lines → IsClosed conn left.lines (Ok done) new.lines → new.server ≡ left.server
-    → MatchResult result (λ _. fault_of_end driven ≡ None) (λ fault. fault_of_end driven ≡ Some fault)
+    → MatchResult result (λ _. fault_of_end end ≡ None) (λ fault. fault_of_end end ≡ Some fault)
     → OnOk result ((custody new.server.records).sound → IsConnectionServed (front_state custody old) (front_state custody new) before now)
-served_as {R = R} custody old opened left new driven conn done before now (Ok end) none is server drives keeps closed same goes_on = λ sound.
-    driven_one driven conn done (front_state custody old) (front_state custody opened) (front_state custody left) (front_state custody new) before now none is
+served_as {R = R} custody old opened left new end conn done before now (Ok unit) none is server drives keeps closed same goes_on = λ sound.
+    driven_one end conn done (front_state custody old) (front_state custody opened) (front_state custody left) (front_state custody new) before now none is
     (ap (λ (s : Serving R). server_state custody s) server)
     (drives (subst (λ (s : Serving R). (custody s.records).sound) same sound)) keeps closed
     (ap (λ (s : Serving R). server_state custody s) same)
     goes_on
-served_as custody old opened left new driven conn done before now (Err fault) none is server drives keeps closed same goes_on = tt
+served_as custody old opened left new end conn done before now (Err fault) none is server drives keeps closed same goes_on = tt
 
 pub served_one : (old new : FrontState) (before now : Known) → IsConnectionServed old new before now → ServesOne old new
 unfolding ServesOne

@@ -1,6 +1,6 @@
 -- Connections that were served, one after another.
 use Rattle.std.specs.Prelude.{◌≡◌, ℕ, zero, suc, List, [], ◌++◌, Some, None}
-use Rattle.xa_server.specs.declared.driven.Driven.{Driven}
+use Rattle.xa_server.specs.declared.drive_end.DriveEnd.{DriveEnd}
 use Rattle.xa_server.specs.declared.lines.Conn.{Conn}
 use Rattle.xa_server.specs.declared.replies.Reply.{Reply}
 use Rattle.xa_server.specs.Alone.{Event}
@@ -16,11 +16,11 @@ use Rattle.pdpd.specs.Fault.{fault_of_end}
 -- served, and closed. `before` and `now` are what is known of its reader, its writer and the clock
 pub record IsConnectionServed (old new : FrontState) (before now : Known) : Type 0 where
   pub conn : Conn
-  pub driven : Driven
+  pub end : DriveEnd
   pub left : FrontState
-  pub is_driven : IsDrivenWithin 1_000_000 driven conn
+  pub is_driven : IsDrivenWithin 1_000_000 end conn
       (record old { lines = with_line conn (Some empty_stream) none_open }) left empty_stream before now
-  pub goes_on : fault_of_end driven ≡ None
+  pub goes_on : fault_of_end end ≡ None
   pub closed : new ≡ record left { lines = none_open }
 
 -- so many connections were served, one after another; `events` and `replies` are theirs, those of the first before

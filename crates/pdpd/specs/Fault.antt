@@ -5,8 +5,8 @@ use Rattle.std.specs.Net.Grammar.{IsSocketText}
 use Rattle.std.specs.declared.net.socket_addr.SocketAddr.{SocketAddr}
 use Rattle.std.specs.declared.io.ErrorKind.{ErrorKind}
 use Rattle.std.specs.declared.io.ErrorKind.TheVariants as kind
-use Rattle.xa_server.specs.declared.driven.Driven.{Driven}
-use Rattle.xa_server.specs.declared.driven.Driven.TheVariants as driven
+use Rattle.xa_server.specs.declared.drive_end.DriveEnd.{DriveEnd}
+use Rattle.xa_server.specs.declared.drive_end.DriveEnd.TheVariants as drive_end
 use Rattle.pdpd.specs.declared.exit.Exit.{Exit}
 use Rattle.pdpd.specs.declared.exit.Exit.TheVariants as exit
 use Rattle.pdpd.specs.declared.fault.Fault.{Fault}
@@ -77,10 +77,10 @@ IsNoAddress text = (address : SocketAddr) → ¬ (IsSocketText text address)
 -- ---- connections
 
 -- the end of a connection that ends the program: the next would end so too
-abbrev pub fault_of_end : Driven → Option Fault
-fault_of_end driven.NoClock = Some Clock
-fault_of_end driven.Memory = Some Memory
-fault_of_end driven.Shut = Some Shut
+abbrev pub fault_of_end : DriveEnd → Option Fault
+fault_of_end drive_end.NoClock = Some Clock
+fault_of_end drive_end.Memory = Some Memory
+fault_of_end drive_end.Shut = Some Shut
 fault_of_end _ = None
 
 -- whether the next connection may be taken after one that couldn't be: its peer or the network failed, not the listener

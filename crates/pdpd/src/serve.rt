@@ -30,19 +30,21 @@ use crate::store::{FileRecords, records_in_file};
 use std::net::{SocketAddr, TcpListener};
 use std::rt::HostRuntime;
 use xa_records::Records;
-use xa_server::{Clock, Driven, Front, Reader, Writer, drive};
+use xa_server::{Clock, DriveEnd, Front, Reader, Writer, drive};
 
 /// Fails if a connection that ended so ends the program, too. The fault says why.
-fn check_end(driven: Driven) -> Result<(), Fault>
-    ensures after { MatchResult result (λ _. fault_of_end driven ≡ None)
-        (λ fault. fault_of_end driven ≡ Some fault) }
+fn check_end(end: DriveEnd) -> Result<(), Fault>
+    ensures after { MatchResult result (λ _. fault_of_end end ≡ None)
+        (λ fault. fault_of_end end ≡ Some fault) }
     ensures err { IfErr result IsOfConnections }
 {
-    match driven {
-        Driven::NoClock => Err(Fault::Clock),
-        Driven::Memory => Err(Fault::Memory),
-        Driven::Shut => Err(Fault::Shut),
-        Driven::Ended | Driven::ReadFault | Driven::WriteFault | Driven::TooManyReads => Ok(()),
+    match end {
+        DriveEnd::NoClock => Err(Fault::Clock),
+        DriveEnd::Memory => Err(Fault::Memory),
+        DriveEnd::Shut => Err(Fault::Shut),
+        DriveEnd::Ended | DriveEnd::ReadFault | DriveEnd::WriteFault | DriveEnd::TooManyReads => {
+            Ok(())
+        }
     }
 }
 
@@ -68,11 +70,11 @@ fn serve_connection<R: Records, I: Reader, W: Writer, C: Clock>(
     let Ok(conn) = front.open() else {
         unreachable!()
     };
-    let driven = drive(front, conn, reader, writer, clock);
+    let end = drive(front, conn, reader, writer, clock);
     let Ok(()) = front.close(conn) else {
         unreachable!()
     };
-    check_end(driven)
+    check_end(end)
 }
 
 /// Takes a connection and serves it.

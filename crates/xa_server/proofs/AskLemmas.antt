@@ -25,7 +25,7 @@ use Rattle.xa_server.specs.declared.revision.Revision.{Revision}
 use Rattle.xa_server.specs.declared.unsuccessful.Unsuccessful.{Unsuccessful}
 use Rattle.xa_server.specs.declared.unsuccessful.Unsuccessful.TheVariants.{Error, Failed}
 use Rattle.xa_server.specs.Gates.{revision_by, revision_of}
-use Rattle.xa_server.specs.handling.Asking.{IsFresh, IsNoted, IsResponse, IsResponseReply, evaluated_in, key_of_revision, key_within, reply_told, response_told, view_told}
+use Rattle.xa_server.specs.handling.Asking.{IsFresh, IsNoted, IsResponseReply, evaluated_in, key_of_revision, key_within, reply_told, response_told, view_told}
 use Rattle.xa_server.specs.handling.Replying.{Answers, OnlyReads, Shows}
 use Rattle.xa_server.specs.Machine.{response_to, told}
 use Rattle.xa_server.specs.Replies.{decision_reply}
@@ -59,7 +59,7 @@ response_is view body moment sent is timeless = by_answer (decision.answer view 
 -- where it is told, or why there is none
 pub response_so : (view : Viewed) (body : List ℕ) (moment : ℤ) (sent : Option Responded) (responded : Responded) → ok_or sent (error.Body NotJson) ≡ Ok responded
     → option_map (λ r. r.body) sent ≡ option_map decision.body_of (decision.answer view body moment) → IfSome sent (λ r. r.timeless ≡ is_timeless_answer view body)
-    → IsResponse (response_of view body moment) (Ok responded)
+    → response_of view body moment ≡ Some (responded.body, responded.timeless)
 response_so view body moment None responded told is timeless = absurd cc
 response_so view body moment (Some r) responded told is timeless =
     let same : r ≡ responded = (let it : Ok r ≡ Ok responded = told in cc) in
@@ -67,7 +67,7 @@ response_so view body moment (Some r) responded told is timeless =
 
 pub no_response : (view : Viewed) (body : List ℕ) (moment : ℤ) (sent : Option Responded) (code : ErrorCode) → ok_or sent (error.Body NotJson) ≡ Err code
     → option_map (λ r. r.body) sent ≡ option_map decision.body_of (decision.answer view body moment) → IfSome sent (λ r. r.timeless ≡ is_timeless_answer view body)
-    → IsResponse (response_of view body moment) (Err (Error code))
+    → IsResponseReply (response_of view body moment) (Err (Error code))
 no_response view body moment (Some r) code told is timeless = absurd cc
 no_response view body moment None code told is timeless =
     let same : code ≡ error.Body NotJson = (let it : error.Body NotJson ≡ code = (let e : Err (error.Body NotJson) ≡ Err code = told in cc) in sym it) in

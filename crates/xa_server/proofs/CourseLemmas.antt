@@ -13,8 +13,8 @@ use Rattle.xa_http.specs.Stream.{Stream, fed}
 use Rattle.xa_http.proofs.SizeLemmas.{waiting_short}
 use Rattle.xa_server.specs.declared.turns.Turn.{Turn}
 use Rattle.xa_server.specs.declared.turns.Turn.TheVariants.{Answered, Waits, Ends}
-use Rattle.xa_server.specs.declared.driven.Driven.{Driven}
-use Rattle.xa_server.specs.declared.driven.Driven.TheVariants.{Ended, ReadFault, WriteFault, NoClock, TooManyReads, Memory}
+use Rattle.xa_server.specs.declared.drive_end.DriveEnd.{DriveEnd}
+use Rattle.xa_server.specs.declared.drive_end.DriveEnd.TheVariants.{Ended, ReadFault, WriteFault, NoClock, TooManyReads, Memory}
 use Rattle.xa_server.specs.declared.front_error.FrontError.{FrontError}
 use Rattle.xa_server.specs.declared.lines.Conn.{Conn}
 use Rattle.xa_server.specs.Driven.{AreMade, AreSent, AreWritten, HadMemory, HasTold, HaveMemory, HaveRead, HaveSaid, IsConnection, IsDriven, IsDrivenWithin, Known, StopsAfter, known}
@@ -79,14 +79,14 @@ turn_waits turns conn a b c x y z first turn =
     subst (λ (line : Option Stream). IsHeldAnswered None line conn a c x z) (sym first.opens)
     (later.0, goes_trans 0 0 conn a b c first.stream first.after later.0 x y z first.goes later.1, later.2)
 
-pub turn_ends : (turns : ℕ) (driven : Driven) (conn : Conn) (a b c : FrontState) (x y z : Known) → Shrinks turns conn a b x y
-    → ((s : Stream) → IsOpen conn b.lines s → IsTurn (Ends driven) conn b c s y z) → IsHeldAnswered (Some driven) (line_at conn a.lines) conn a c x z
-turn_ends turns driven conn a b c x y z first turn =
-    subst (λ (line : Option Stream). IsHeldAnswered (Some driven) line conn a c x z) (sym first.opens)
-    (ends_after 0 0 0 driven conn a b c first.stream first.after x y z (omega arith) (omega arith) first.goes (turn first.after first.goes.opens))
+pub turn_ends : (turns : ℕ) (end : DriveEnd) (conn : Conn) (a b c : FrontState) (x y z : Known) → Shrinks turns conn a b x y
+    → ((s : Stream) → IsOpen conn b.lines s → IsTurn (Ends end) conn b c s y z) → IsHeldAnswered (Some end) (line_at conn a.lines) conn a c x z
+turn_ends turns end conn a b c x y z first turn =
+    subst (λ (line : Option Stream). IsHeldAnswered (Some end) line conn a c x z) (sym first.opens)
+    (ends_after 0 0 0 end conn a b c first.stream first.after x y z (omega arith) (omega arith) first.goes (turn first.after first.goes.opens))
 
 -- no connection holds so many messages
-pub turns_over : (turns n : ℕ) (conn : Conn) (a b : FrontState) (x y : Known) (result : Option Driven) → held_at conn a.lines ≡ Some n → n < turns + turns
+pub turns_over : (turns n : ℕ) (conn : Conn) (a b : FrontState) (x y : Known) (result : Option DriveEnd) → held_at conn a.lines ≡ Some n → n < turns + turns
     → Shrinks turns conn a b x y → IsHeldAnswered result (line_at conn a.lines) conn a b x y
 turns_over turns n conn a b x y result held many is =
     let line = held_line (line_at conn a.lines) n held in
@@ -119,11 +119,11 @@ goes_read conn a b s t found read x y made comes server lines opens on finds = r
 }
 
 -- it has ended with it
-ends_read : (driven : Driven) (conn : Conn) (a b : FrontState) (s last : Stream) (found : List Bool) (read : ReadEnd) (x y : Known)
+ends_read : (end : DriveEnd) (conn : Conn) (a b : FrontState) (s last : Stream) (found : List Bool) (read : ReadEnd) (x y : Known)
     → AreMade (record { memory = found; reads = read ∷ []; writes = []; told = []; said = [] }) x y → fed s (bytes_read (read ∷ [])) ≡ last → b ≡ a
-    → IsOpen conn a.lines s → StopsAfter driven None (read ∷ []) last s → HaveRead driven (read ∷ []) s y.left → HasTold driven [] [] → AreWritten driven [] []
-    → HaveMemory driven found → HaveSaid driven None [] [] → IsRead (Some driven) conn a b s x y
-ends_read driven conn a b s last found read x y made comes same opens stops reads tells written finds says =
+    → IsOpen conn a.lines s → StopsAfter end None (read ∷ []) last s → HaveRead end (read ∷ []) s y.left → HasTold end [] [] → AreWritten end [] []
+    → HaveMemory end found → HaveSaid end None [] [] → IsRead (Some end) conn a b s x y
+ends_read end conn a b s last found read x y made comes same opens stops reads tells written finds says =
     let world : b.server.world ≡ a.server.world = ap (λ (v : FrontState). v.server.world) same in (
       record {
         calls = record { memory = found; reads = read ∷ []; writes = []; told = []; said = [] };
@@ -201,14 +201,14 @@ fed_read conn a b s room piece f g l m r q c w k o p opens full some few consume
     opens (full, some, few) (All-cons HadMemory true [] refl (All-nil HadMemory)))
 
 -- and is answered
-pub piece_answered : (result : Option Driven) (conn : Conn) (a b c : FrontState) (s t : Stream) (x y z : Known) → GoesOn 1 conn a b s t x y
+pub piece_answered : (result : Option DriveEnd) (conn : Conn) (a b c : FrontState) (s t : Stream) (x y z : Known) → GoesOn 1 conn a b s t x y
     → IsHeldAnswered result (line_at conn b.lines) conn b c y z → IsRead result conn a c s x z
 piece_answered None conn a b c s t x y z first is =
     let held : IsHeldAnswered None (Some t) conn b c y z = subst (λ (line : Option Stream). IsHeldAnswered None line conn b c y z) first.opens is in
     (held.0, goes_trans 1 0 conn a b c s t held.0 x y z first held.1, held.2)
-piece_answered (Some driven) conn a b c s t x y z first is =
-    ends_after 1 0 1 driven conn a b c s t x y z (omega arith) (omega arith) first
-    (subst (λ (line : Option Stream). IsHeldAnswered (Some driven) line conn b c y z) first.opens is)
+piece_answered (Some end) conn a b c s t x y z first is =
+    ends_after 1 0 1 end conn a b c s t x y z (omega arith) (omega arith) first
+    (subst (λ (line : Option Stream). IsHeldAnswered (Some end) line conn b c y z) first.opens is)
 
 -- there was no memory for it
 pub not_fed : (error : FrontError) (conn : Conn) (a b : FrontState) (s : Stream) (room : ℕ) (piece : List ℕ) (f g : Option (List Bool)) (l m : Option (List ℕ)) (r q : Option (List ReadEnd))
@@ -238,11 +238,11 @@ read_more count conn a b c x y z (s, t, opens, goes, waits) read =
     let later = read t goes.opens waits in
     (s, later.0, opens, goes_trans count 1 conn a b c s t later.0 x y z goes later.1, later.2)
 
-pub read_ends : (count : ℕ) (driven : Driven) (conn : Conn) (a b c : FrontState) (x y z : Known) → count < 1_000_000 → HasRead count conn a b x y
-    → ((s : Stream) → IsOpen conn b.lines s → IsWaiting s → IsRead (Some driven) conn b c s y z) → IsConnection driven (line_at conn a.lines) conn a c x z
-read_ends count driven conn a b c x y z few (s, t, opens, goes, waits) read =
-    subst (λ (line : Option Stream). IsConnection driven line conn a c x z) (sym opens)
-    (ends_after count 1 1_000_000 driven conn a b c s t x y z (omega arith) (omega (arith, few)) goes (read t goes.opens waits))
+pub read_ends : (count : ℕ) (end : DriveEnd) (conn : Conn) (a b c : FrontState) (x y z : Known) → count < 1_000_000 → HasRead count conn a b x y
+    → ((s : Stream) → IsOpen conn b.lines s → IsWaiting s → IsRead (Some end) conn b c s y z) → IsConnection end (line_at conn a.lines) conn a c x z
+read_ends count end conn a b c x y z few (s, t, opens, goes, waits) read =
+    subst (λ (line : Option Stream). IsConnection end line conn a c x z) (sym opens)
+    (ends_after count 1 1_000_000 end conn a b c s t x y z (omega arith) (omega (arith, few)) goes (read t goes.opens waits))
 
 pub read_out : (count : ℕ) (conn : Conn) (a b : FrontState) (x y : Known) → count ≡ 1_000_000 → HasRead count conn a b x y
     → IsConnection TooManyReads (line_at conn a.lines) conn a b x y
@@ -271,10 +271,10 @@ read_out count conn a b x y often (s, t, opens, goes, waits) = subst (λ (line :
   omega (arith, goes.counted, often),
 )
 
-pub held_ends : (driven : Driven) (line : Option Stream) (conn : Conn) (a b : FrontState) (x y : Known) → IsHeldAnswered (Some driven) line conn a b x y
-    → IsConnection driven line conn a b x y
-held_ends driven (Some s) conn a b x y is = (is.0, omega (arith, is.1))
-held_ends driven None conn a b x y is = (driven_is is.0, is.1, is.2)
+pub held_ends : (end : DriveEnd) (line : Option Stream) (conn : Conn) (a b : FrontState) (x y : Known) → IsHeldAnswered (Some end) line conn a b x y
+    → IsConnection end line conn a b x y
+held_ends end (Some s) conn a b x y is = (is.0, omega (arith, is.1))
+held_ends end None conn a b x y is = (driven_is is.0, is.1, is.2)
   where
-    driven_is : Some driven ≡ Some Ended → driven ≡ Ended
+    driven_is : Some end ≡ Some Ended → end ≡ Ended
     driven_is same = cc

@@ -9,8 +9,8 @@ use Rattle.xa_http.specs.declared.message.Message.{Message}
 use Rattle.xa_http.specs.Messages.{Cuts}
 use Rattle.xa_http.specs.Stream.{Stream, fed}
 use Rattle.xa_http.proofs.LawLemmas.{feeds_on}
-use Rattle.xa_server.specs.declared.driven.Driven.{Driven}
-use Rattle.xa_server.specs.declared.driven.Driven.TheVariants.{Ended, ReadFault, WriteFault, NoClock, TooManyReads, Memory, Shut}
+use Rattle.xa_server.specs.declared.drive_end.DriveEnd.{DriveEnd}
+use Rattle.xa_server.specs.declared.drive_end.DriveEnd.TheVariants.{Ended, ReadFault, WriteFault, NoClock, TooManyReads, Memory, Shut}
 use Rattle.xa_server.specs.declared.lines.Conn.{Conn}
 use Rattle.xa_server.specs.declared.replies.Reply.{Reply}
 use Rattle.xa_server.specs.Alone.{Event}
@@ -118,8 +118,8 @@ goes_trans n m conn a b c s t u x y z first later = record {
 -- ---- an end after what was answered
 
 -- the reads before the last
-read_after : (driven : Driven) (ps qs : List ReadEnd) (after : Stream) (left : Option (List ℕ)) → length qs ≤ 1
-    → All IsReadOn ps → HaveRead driven qs after left → HaveRead driven (ps ++ qs) after left
+read_after : (end : DriveEnd) (ps qs : List ReadEnd) (after : Stream) (left : Option (List ℕ)) → length qs ≤ 1
+    → All IsReadOn ps → HaveRead end qs after left → HaveRead end (ps ++ qs) after left
 read_after Ended ps qs after left few on (inl is) = inl (All-append IsReadOn ps qs on is.0, is.1)
 read_after Ended ps qs after left few on (inr is) = inr (
   ps ++ is.0,
@@ -141,8 +141,8 @@ read_after Memory ps qs after left few on is = All-append IsReadOn ps qs on is
 read_after Shut ps qs after left few on is = All-append IsReadOn ps qs on is
 
 -- nor does the end of what is held depend on them
-stops_after : (driven : Driven) (fault : Option SessionFault) (ps qs : List ReadEnd) (last after : Stream) → StopsAfter driven fault qs last after
-    → StopsAfter driven fault (ps ++ qs) last after
+stops_after : (end : DriveEnd) (fault : Option SessionFault) (ps qs : List ReadEnd) (last after : Stream) → StopsAfter end fault qs last after
+    → StopsAfter end fault (ps ++ qs) last after
 stops_after Memory None ps qs last after (inl same) = inl same
 stops_after Memory None ps qs last after (inr is) =
     inr (ps ++ is.0, is.1, ap (λ (rs : List ReadEnd). ps ++ rs) is.2 ∙ sym (append_assoc ps is.0 (gave 65_536 is.1 ∷ [])), is.3)
@@ -159,8 +159,8 @@ stops_after TooManyReads (Some fault) ps qs last after is = is
 stops_after Shut None ps qs last after is = is
 stops_after Shut (Some fault) ps qs last after is = is
 
-told_after : (driven : Driven) (ks ls : List (Option ℤ)) (es fs : List Event) → ks ≡ map Some (moments_of es) → HasTold driven (moments_of fs) ls
-    → HasTold driven (moments_of (es ++ fs)) (ks ++ ls)
+told_after : (end : DriveEnd) (ks ls : List (Option ℤ)) (es fs : List Event) → ks ≡ map Some (moments_of es) → HasTold end (moments_of fs) ls
+    → HasTold end (moments_of (es ++ fs)) (ks ++ ls)
 told_after NoClock ks ls es fs first is = told_more ks ls None es fs first is
 told_after Memory ks ls es fs first (inl is) = inl (told_on ks ls es fs first is)
 told_after Memory ks ls es fs first (inr is) = inr (is.0, told_more ks ls (Some is.0) es fs first is.1)
@@ -171,7 +171,7 @@ told_after TooManyReads ks ls es fs first is = told_on ks ls es fs first is
 told_after Shut ks ls es fs first is = told_on ks ls es fs first is
 
 -- replies that were written whole, before others
-written_after : (driven : Driven) (rs qs : List (List ℕ)) (ws vs : List WriteEnd) → AreSent rs ws → AreWritten driven qs vs → AreWritten driven (rs ++ qs) (ws ++ vs)
+written_after : (end : DriveEnd) (rs qs : List (List ℕ)) (ws vs : List WriteEnd) → AreSent rs ws → AreWritten end qs vs → AreWritten end (rs ++ qs) (ws ++ vs)
 written_after WriteFault rs qs ws vs sent is = record {
   whole = rs ++ is.whole;
   last = is.last;
@@ -189,7 +189,7 @@ written_after TooManyReads rs qs ws vs sent is = sent_trans rs qs ws vs sent is
 written_after Memory rs qs ws vs sent is = sent_trans rs qs ws vs sent is
 written_after Shut rs qs ws vs sent is = sent_trans rs qs ws vs sent is
 
-found_after : (driven : Driven) (ps qs : List Bool) → All HadMemory ps → HaveMemory driven qs → HaveMemory driven (ps ++ qs)
+found_after : (end : DriveEnd) (ps qs : List Bool) → All HadMemory ps → HaveMemory end qs → HaveMemory end (ps ++ qs)
 found_after Memory ps qs found is = (
   ps ++ is.0,
   All-append HadMemory ps is.0 found is.1,
@@ -207,9 +207,9 @@ replies_after rs qs fault =
     sym (append_assoc (map bytes_of rs) (map bytes_of qs) (fault_replies fault))
     ∙ ap (λ (bs : List (List ℕ)). bs ++ fault_replies fault) (sym (map-append bytes_of rs qs))
 
-driven_after : (n : ℕ) (driven : Driven) (conn : Conn) (a b c : FrontState) (s t : Stream) (x y z : Known)
-    → GoesOn n conn a b s t x y → (later : IsDriven driven conn b c t y z) → length later.calls.reads ≤ 1 → IsDriven driven conn a c s x z
-driven_after n driven conn a b c s t x y z first later few =
+driven_after : (n : ℕ) (end : DriveEnd) (conn : Conn) (a b c : FrontState) (s t : Stream) (x y z : Known)
+    → GoesOn n conn a b s t x y → (later : IsDriven end conn b c t y z) → length later.calls.reads ≤ 1 → IsDriven end conn a c s x z
+driven_after n end conn a b c s t x y z first later few =
     let run = run_trans a.server.world b.server.world c.server.world first.events later.events first.run later.run first.is_run later.is_run in
     record {
       calls = both first.calls later.calls;
@@ -220,7 +220,7 @@ driven_after n driven conn a b c s t x y z first later few =
       after = later.after;
       made = made_trans first.calls later.calls x y z first.made later.made;
       messages = messages_on s t later.last first.calls.reads later.calls.reads first.events later.events first.messages later.messages;
-      stops = stops_after driven later.fault first.calls.reads later.calls.reads later.last later.after later.stops;
+      stops = stops_after end later.fault first.calls.reads later.calls.reads later.last later.after later.stops;
       lines = line_again conn a.lines b.lines c.lines t later.after first.lines later.lines;
       is_run = run;
       work =
@@ -228,22 +228,22 @@ driven_after n driven conn a b c s t x y z first later few =
           first.work later.work;
       headline = headline a.server.world c.server.world (first.events ++ later.events) (first.run ++ later.run) run;
       beside_refusals = λ domain. isolated domain a.server.world c.server.world (first.events ++ later.events) (first.run ++ later.run) run;
-      read = read_after driven first.calls.reads later.calls.reads later.after z.left few first.read later.read;
-      told = told_after driven first.calls.told later.calls.told first.events later.events first.told later.told;
+      read = read_after end first.calls.reads later.calls.reads later.after z.left few first.read later.read;
+      told = told_after end first.calls.told later.calls.told first.events later.events first.told later.told;
       written =
-          subst (λ (rs : List (List ℕ)). AreWritten driven rs (first.calls.writes ++ later.calls.writes)) (replies_after first.run later.run later.fault)
-          (written_after driven (map bytes_of first.run) (all_replies later.run later.fault) first.calls.writes later.calls.writes first.written later.written);
-      memory = found_after driven first.calls.memory later.calls.memory first.memory later.memory;
-      said = said_after driven later.fault first.run later.run first.calls.said later.calls.said first.said later.said;
+          subst (λ (rs : List (List ℕ)). AreWritten end rs (first.calls.writes ++ later.calls.writes)) (replies_after first.run later.run later.fault)
+          (written_after end (map bytes_of first.run) (all_replies later.run later.fault) first.calls.writes later.calls.writes first.written later.written);
+      memory = found_after end first.calls.memory later.calls.memory first.memory later.memory;
+      said = said_after end later.fault first.run later.run first.calls.said later.calls.said first.said later.said;
     }
 
 fewer : (ps qs : List ReadEnd) (n m most : ℕ) → length ps ≡ n → length qs ≤ m → n + m ≤ most → length (ps ++ qs) ≤ most
 fewer ps qs n m most first later within = omega (arith, length-append ps qs, first, later, within)
 
-pub ends_after : (n m most : ℕ) (driven : Driven) (conn : Conn) (a b c : FrontState) (s t : Stream) (x y z : Known) → m ≤ 1 → n + m ≤ most
-    → GoesOn n conn a b s t x y → IsDrivenWithin m driven conn b c t y z → IsDrivenWithin most driven conn a c s x z
+pub ends_after : (n m most : ℕ) (end : DriveEnd) (conn : Conn) (a b c : FrontState) (s t : Stream) (x y z : Known) → m ≤ 1 → n + m ≤ most
+    → GoesOn n conn a b s t x y → IsDrivenWithin m end conn b c t y z → IsDrivenWithin most end conn a c s x z
 unfolding driven_after
-ends_after n m most driven conn a b c s t x y z few within first later = (
-  driven_after n driven conn a b c s t x y z first later.0 (omega (arith, few, later.1)),
+ends_after n m most end conn a b c s t x y z few within first later = (
+  driven_after n end conn a b c s t x y z first later.0 (omega (arith, few, later.1)),
   fewer first.calls.reads later.0.calls.reads n m most first.counted later.1 within,
 )

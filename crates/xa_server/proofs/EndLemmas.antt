@@ -7,7 +7,7 @@ use Rattle.xa_http.specs.declared.fault.SessionFault.{SessionFault}
 use Rattle.xa_http.specs.declared.message.Message.{Message}
 use Rattle.xa_http.specs.Messages.{Cuts, IsFirst}
 use Rattle.xa_http.specs.Stream.{Stream, fed}
-use Rattle.xa_server.specs.declared.driven.Driven.{Driven}
+use Rattle.xa_server.specs.declared.drive_end.DriveEnd.{DriveEnd}
 use Rattle.xa_server.specs.declared.lines.Conn.{Conn}
 use Rattle.xa_server.specs.declared.replies.Reply.{Reply}
 use Rattle.xa_server.specs.Connection.{fault_replies}
@@ -32,11 +32,11 @@ pub two_found : All HadMemory (true ∷ true ∷ [])
 two_found = All-cons HadMemory true (true ∷ []) refl one_found
 
 -- it ends, and no message was answered
-pub ends_idle : (driven : Driven) (conn : Conn) (a b : FrontState) (s after : Stream) (fault : Option SessionFault) (found : List Bool) (writes : List WriteEnd)
+pub ends_idle : (end : DriveEnd) (conn : Conn) (a b : FrontState) (s after : Stream) (fault : Option SessionFault) (found : List Bool) (writes : List WriteEnd)
     (told : List (Option ℤ)) (x y : Known) → AreMade (record { memory = found; reads = []; writes = writes; told = told; said = [] }) x y
-    → b.server ≡ a.server → b.lines ≡ with_line conn (Some after) a.lines → StopsAfter driven fault [] s after → HaveRead driven [] after y.left
-    → HasTold driven [] told → AreWritten driven (fault_replies fault) writes → HaveMemory driven found → HaveSaid driven fault [] [] → IsDrivenWithin 0 driven conn a b s x y
-ends_idle driven conn a b s after fault found writes told x y made server lines stops read tells written finds says = (
+    → b.server ≡ a.server → b.lines ≡ with_line conn (Some after) a.lines → StopsAfter end fault [] s after → HaveRead end [] after y.left
+    → HasTold end [] told → AreWritten end (fault_replies fault) writes → HaveMemory end found → HaveSaid end fault [] [] → IsDrivenWithin 0 end conn a b s x y
+ends_idle end conn a b s after fault found writes told x y made server lines stops read tells written finds says = (
   record {
     calls = record { memory = found; reads = []; writes = writes; told = told; said = [] };
     events = [];
@@ -65,13 +65,13 @@ pub first_fed : (s : Stream) (message : Message) (after : Stream) → IsFirst s 
 first_fed s message after first = (after, subst (λ (u : Stream). IsFirst u message after) (sym (fed_nothing s)) first, refl)
 
 -- it ends after one message
-pub ends_one : (driven : Driven) (conn : Conn) (a b : FrontState) (s after : Stream) (moment : ℤ) (message : Message) (reply : Reply) (found : List Bool)
+pub ends_one : (end : DriveEnd) (conn : Conn) (a b : FrontState) (s after : Stream) (moment : ℤ) (message : Message) (reply : Reply) (found : List Bool)
     (writes : List WriteEnd) (said : List Bool) (x y : Known) → AreMade (record { memory = found; reads = []; writes = writes; told = Some moment ∷ []; said = said }) x y
     → IsFirst s message after → IsServed a.server.world b.server.world moment message reply
     → IsWork a.server.world.kept moment message reply a.server.tally b.server.tally → b.lines ≡ with_line conn (Some after) a.lines
-    → StopsAfter driven None [] after after → HaveRead driven [] after y.left → HasTold driven (moment ∷ []) (Some moment ∷ [])
-    → AreWritten driven (bytes_of reply ∷ []) writes → HaveMemory driven found → HaveSaid driven None (reply ∷ []) said → IsDrivenWithin 0 driven conn a b s x y
-ends_one driven conn a b s after moment message reply found writes said x y made first served work lines stops read tells written finds says =
+    → StopsAfter end None [] after after → HaveRead end [] after y.left → HasTold end (moment ∷ []) (Some moment ∷ [])
+    → AreWritten end (bytes_of reply ∷ []) writes → HaveMemory end found → HaveSaid end None (reply ∷ []) said → IsDrivenWithin 0 end conn a b s x y
+ends_one end conn a b s after moment message reply found writes said x y made first served work lines stops read tells written finds says =
     let run : IsRun a.server.world ((moment, message) ∷ []) (reply ∷ []) b.server.world = (b.server.world, served, refl) in (
       record {
         calls = record { memory = found; reads = []; writes = writes; told = Some moment ∷ []; said = said };

@@ -1,4 +1,4 @@
--- What a stop leaves of a list of messages, from the clauses of one message after another.
+-- What a crash leaves of a list of messages, from the clauses of one message after another.
 use Rattle.std.proofs.Common.{◌≡◌, ◌≢◌, ◌≤◌, ◌+◌, ℕ, ℤ, List, [], ◌∷◌, ◌++◌, length, length-append, take, Bool, true, false, Option, Some, None, inl, inr, refl, ap, sym, ◌∙◌, subst, arith}
 use Rattle.std.specs.FinMap.{get}
 use Rattle.std.specs.Prelude.{bytes_eq, option_map}
@@ -90,7 +90,7 @@ not_made old moment message None made = made
 not_made old moment message (Some domain) made = no_further old.kept.next (get old.kept.domains domain) _ made.next
 
 module _ {R : Type 0} (custody : R → Custody) (settled : (s : R) → (custody s).sound → (left : Kept) → (custody s).may_leave left → left ≡ (custody s).kept) where
-  -- ---- the messages before the stop
+  -- ---- the messages before the crash
 
   clean_before : (old new : Serving R) (events : List Event) (replies : List Reply) → ServesAll custody old events replies new → (custody new.records).clean → (custody old.records).clean
   clean_before old new [] [] all clean = subst (λ (s : Serving R). (custody s.records).clean) all clean
@@ -122,7 +122,7 @@ module _ {R : Type 0} (custody : R → Custody) (settled : (s : R) → (custody 
   is_run old new [] (reply ∷ replies) all clean sound = absurd all
   is_run old new (event ∷ events) [] all clean sound = absurd all
 
-  -- ---- the message in which the stop comes
+  -- ---- the message in which the crash comes
 
   module _ (old new : Serving R) (events : List Event) (replies : List Reply) (last : Event) (reply : Reply) (it : IsInterrupted custody old new events replies last reply) where
     abbrev answered : List Event

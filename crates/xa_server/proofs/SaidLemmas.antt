@@ -5,8 +5,8 @@ use Rattle.std.proofs.lemmas.Bool.{false≢true}
 use Rattle.std.proofs.lemmas.List.{append_assoc}
 use Rattle.xa_http.specs.declared.fault.SessionFault.{SessionFault}
 use Rattle.xa_records.specs.declared.refusal.Failure.TheVariants.{Memory, Store}
-use Rattle.xa_server.specs.declared.driven.Driven.{Driven}
-use Rattle.xa_server.specs.declared.driven.Driven.TheVariants as driven
+use Rattle.xa_server.specs.declared.drive_end.DriveEnd.{DriveEnd}
+use Rattle.xa_server.specs.declared.drive_end.DriveEnd.TheVariants as drive_end
 use Rattle.xa_server.specs.declared.turns.Turn.{Turn}
 use Rattle.xa_server.specs.declared.turns.Turn.TheVariants.{Ends}
 use Rattle.xa_server.specs.declared.event.Answer.{Answer}
@@ -67,23 +67,23 @@ said_on rs qs bs cs first later =
 joined : (rs before : List Reply) (last : Reply) (qs : List Reply) → qs ≡ before ++ last ∷ [] → rs ++ qs ≡ (rs ++ before) ++ last ∷ []
 joined rs before last qs same = ap (λ (xs : List Reply). rs ++ xs) same ∙ sym (append_assoc rs before (last ∷ []))
 
-pub said_after : (driven : Driven) (fault : Option SessionFault) (rs qs : List Reply) (bs cs : List Bool) → bs ≡ goes_on_after rs → HaveSaid driven fault qs cs
-    → HaveSaid driven fault (rs ++ qs) (bs ++ cs)
-said_after driven.Shut fault rs qs bs cs first (before, run, said) = (
+pub said_after : (end : DriveEnd) (fault : Option SessionFault) (rs qs : List Reply) (bs cs : List Bool) → bs ≡ goes_on_after rs → HaveSaid end fault qs cs
+    → HaveSaid end fault (rs ++ qs) (bs ++ cs)
+said_after drive_end.Shut fault rs qs bs cs first (before, run, said) = (
   rs ++ before,
   joined rs before (Refused Store) qs run,
   ap (λ (xs : List Bool). bs ++ xs) said
       ∙ sym (append_assoc bs (goes_on_after before) (false ∷ []))
       ∙ ap (λ (xs : List Bool). xs ++ false ∷ []) (said_on rs before bs (goes_on_after before) first refl),
 )
-said_after driven.WriteFault None rs qs bs cs first (before, last, run, said) =
+said_after drive_end.WriteFault None rs qs bs cs first (before, last, run, said) =
     (rs ++ before, last, joined rs before last qs run, said_on rs before bs cs first said)
-said_after driven.WriteFault (Some fault) rs qs bs cs first said = said_on rs qs bs cs first said
-said_after driven.Ended fault rs qs bs cs first said = said_on rs qs bs cs first said
-said_after driven.ReadFault fault rs qs bs cs first said = said_on rs qs bs cs first said
-said_after driven.NoClock fault rs qs bs cs first said = said_on rs qs bs cs first said
-said_after driven.TooManyReads fault rs qs bs cs first said = said_on rs qs bs cs first said
-said_after driven.Memory fault rs qs bs cs first said = said_on rs qs bs cs first said
+said_after drive_end.WriteFault (Some fault) rs qs bs cs first said = said_on rs qs bs cs first said
+said_after drive_end.Ended fault rs qs bs cs first said = said_on rs qs bs cs first said
+said_after drive_end.ReadFault fault rs qs bs cs first said = said_on rs qs bs cs first said
+said_after drive_end.NoClock fault rs qs bs cs first said = said_on rs qs bs cs first said
+said_after drive_end.TooManyReads fault rs qs bs cs first said = said_on rs qs bs cs first said
+said_after drive_end.Memory fault rs qs bs cs first said = said_on rs qs bs cs first said
 
 -- ---- one answer
 
@@ -102,6 +102,6 @@ answered_with turn answer conn moment old mid new f g h c d w v o n p (given, is
 -- it wasn't, for want of memory
 pub answered_without : (error : FrontError) (conn : Conn) (moment : ℤ) (old new : FrontState) (f g : Option (List Bool)) (c : Option (List ℕ)) (w : Option (List WriteEnd))
     (o p : Option (List Bool)) → AnswersOne conn moment old new f g (Err error) → p ≡ o
-    → IsAnsweredAt (Ends driven.Memory) conn moment old new (known f None None c w None o) (known g None None c w None p)
+    → IsAnsweredAt (Ends drive_end.Memory) conn moment old new (known f None None c w None o) (known g None None c w None p)
 answered_without error conn moment old new f g c w o p (inl is) saying = inr (inl (refl, is.0, is.1, refl, refl, saying))
 answered_without error conn moment old new f g c w o p (inr closed) saying = inr (inr closed)

@@ -17,7 +17,7 @@ use Rattle.xa_http.proofs.LawLemmas.{answers_messages}
 use Rattle.xa_http.proofs.SizeLemmas.{first_shrinks}
 use Rattle.xa_server.specs.declared.turns.Turn.{Turn}
 use Rattle.xa_server.specs.declared.turns.Turn.TheVariants.{Waits, Ends}
-use Rattle.xa_server.specs.declared.driven.Driven.TheVariants.{Ended, WriteFault, NoClock, Memory, Shut}
+use Rattle.xa_server.specs.declared.drive_end.DriveEnd.TheVariants.{Ended, WriteFault, NoClock, Memory, Shut}
 use Rattle.xa_server.specs.declared.event.Answer.{Answer}
 use Rattle.xa_server.specs.declared.front_error.FrontError.{FrontError}
 use Rattle.xa_server.specs.declared.front_error.FrontError.TheVariants as error

@@ -11,9 +11,9 @@ use Rattle.xa_http.specs.declared.message.Message.{Message}
 use Rattle.xa_http.specs.declared.session.Next.TheVariants as next
 use Rattle.xa_http.specs.Messages.{Cuts, IsFirst, IsNext}
 use Rattle.xa_http.specs.Stream.{Stream, fed}
-use Rattle.xa_server.specs.declared.driven.Driven.{Driven}
-use Rattle.xa_server.specs.declared.driven.Driven.TheVariants.{Ended, ReadFault, WriteFault, NoClock, TooManyReads}
-use Rattle.xa_server.specs.declared.driven.Driven.TheVariants.{Memory, Shut}
+use Rattle.xa_server.specs.declared.drive_end.DriveEnd.{DriveEnd}
+use Rattle.xa_server.specs.declared.drive_end.DriveEnd.TheVariants.{Ended, ReadFault, WriteFault, NoClock, TooManyReads}
+use Rattle.xa_server.specs.declared.drive_end.DriveEnd.TheVariants.{Memory, Shut}
 use Rattle.xa_server.specs.declared.lines.Conn.{Conn}
 use Rattle.xa_records.specs.declared.refusal.Failure.TheVariants.{Store}
 use Rattle.xa_server.specs.declared.replies.Reply.{Reply}
@@ -83,7 +83,7 @@ pub record AreMade (calls : Calls) (before now : Known) : Type 0 where
 
 -- the reads: each that gave bytes had room for 65,536. The last gave none if the stream has ended, and failed at a
 -- failed read, which no interrupted one is; there were 1,000,000 if those are too many
-abbrev pub HaveRead : Driven → List ReadEnd → Stream → Option (List ℕ) → Type 0
+abbrev pub HaveRead : DriveEnd → List ReadEnd → Stream → Option (List ℕ) → Type 0
 HaveRead Ended reads after left =
     (All IsReadOn reads × (after.ended ≡ true))
     ⊎ ((before : List ReadEnd) × All IsReadOn before × (reads ≡ before ++ gave 65_536 [] ∷ []) × IsAtEnd left)
@@ -95,7 +95,7 @@ HaveRead _ reads after left = All IsReadOn reads
 
 -- the clock told the moments of the messages, and was asked for no others; after them it told none if there was no
 -- clock, and maybe one more if memory was wanted
-abbrev pub HasTold : Driven → List ℤ → List (Option ℤ) → Type 0
+abbrev pub HasTold : DriveEnd → List ℤ → List (Option ℤ) → Type 0
 HasTold NoClock moments told = told ≡ map Some moments ++ None ∷ []
 HasTold Memory moments told = (told ≡ map Some moments) ⊎ ((moment : ℤ) × (told ≡ map Some moments ++ Some moment ∷ []))
 HasTold _ moments told = told ≡ map Some moments
@@ -119,7 +119,7 @@ pub record IsCutShort (replies : List (List ℕ)) (writes : List WriteEnd) : Typ
   pub in_order : writes ≡ before ++ part
 
 -- the replies were written, but for the last if a write failed
-abbrev pub AreWritten : Driven → List (List ℕ) → List WriteEnd → Type 0
+abbrev pub AreWritten : DriveEnd → List (List ℕ) → List WriteEnd → Type 0
 AreWritten WriteFault replies writes = IsCutShort replies writes
 AreWritten _ replies writes = AreSent replies writes
 
@@ -128,7 +128,7 @@ abbrev pub HadMemory : Bool → Type 0
 HadMemory had = had ≡ true
 
 -- each did, but for the last if memory was wanted
-abbrev pub HaveMemory : Driven → List Bool → Type 0
+abbrev pub HaveMemory : DriveEnd → List Bool → Type 0
 HaveMemory Memory calls = (before : List Bool) × All HadMemory before × (calls ≡ before ++ false ∷ [])
 HaveMemory _ calls = All HadMemory calls
 
@@ -140,7 +140,7 @@ goes_on_after (_ ∷ replies) = goes_on_after replies
 
 -- what the front said: after each such message whose reply was written, that its keeper can go on. At `Shut` it said
 -- after the last that it can't, and that ended the connection
-abbrev pub HaveSaid : Driven → Option SessionFault → List Reply → List Bool → Type 0
+abbrev pub HaveSaid : DriveEnd → Option SessionFault → List Reply → List Bool → Type 0
 HaveSaid Shut fault run said =
     (before : List Reply) × (run ≡ before ++ Refused Store ∷ []) × (said ≡ goes_on_after before ++ false ∷ [])
 HaveSaid WriteFault None run said =
@@ -150,7 +150,7 @@ HaveSaid _ fault run said = said ≡ goes_on_after run
 -- why no message after the last is answered: the stream holds none that is whole, or there was no moment for the next,
 -- which is whole, or a write failed, or the keeper can't go on, or memory was wanted, maybe for the piece that was
 -- read last. `fault` is that to which there is a reply, the last of all
-abbrev pub StopsAfter : Driven → Option SessionFault → List ReadEnd → Stream → Stream → Type 0
+abbrev pub StopsAfter : DriveEnd → Option SessionFault → List ReadEnd → Stream → Stream → Type 0
 StopsAfter Ended fault reads last after = StopsBy fault last after
 StopsAfter ReadFault None reads last after = IsNext last next.More after
 StopsAfter TooManyReads None reads last after = IsNext last next.More after
@@ -170,7 +170,7 @@ StopsAfter _ (Some fault) reads last after = ⊥
 -- one run of the server answered the messages at the front of what the connection held and was read, each at its
 -- moment, and these are the replies that were written; each domain's replies are those of its own machine, used by it
 -- alone. No other connection has changed
-pub record IsDriven (driven : Driven) (conn : Conn) (old new : FrontState) (stream : Stream) (before now : Known)
+pub record IsDriven (end : DriveEnd) (conn : Conn) (old new : FrontState) (stream : Stream) (before now : Known)
     : Type 0 where
   pub calls : Calls
   pub events : List Event
@@ -180,28 +180,28 @@ pub record IsDriven (driven : Driven) (conn : Conn) (old new : FrontState) (stre
   pub after : Stream
   pub made : AreMade calls before now
   pub messages : Cuts (fed stream (bytes_read calls.reads)) (messages_of events) last
-  pub stops : StopsAfter driven fault calls.reads last after
+  pub stops : StopsAfter end fault calls.reads last after
   pub lines : new.lines ≡ with_line conn (Some after) old.lines
   pub is_run : IsRun old.server.world events run new.server.world
   pub work : IsWorkOfRun old.server.world old.server.tally events run new.server.world new.server.tally
   pub headline : IsIsolated old.server.world new.server.world events run
   pub beside_refusals : IsIsolatedBesideRefusals old.server.world new.server.world events run
-  pub read : HaveRead driven calls.reads after now.left
-  pub told : HasTold driven (moments_of events) calls.told
-  pub written : AreWritten driven (all_replies run fault) calls.writes
-  pub memory : HaveMemory driven calls.memory
-  pub said : HaveSaid driven fault run calls.said
+  pub read : HaveRead end calls.reads after now.left
+  pub told : HasTold end (moments_of events) calls.told
+  pub written : AreWritten end (all_replies run fault) calls.writes
+  pub memory : HaveMemory end calls.memory
+  pub said : HaveSaid end fault run calls.said
 
 -- so it was, with no more reads than `most`
-abbrev pub IsDrivenWithin : ℕ → Driven → Conn → FrontState → FrontState → Stream → Known → Known → Type 0
-IsDrivenWithin most driven conn old new stream before now =
-    (is : IsDriven driven conn old new stream before now) × (length is.calls.reads ≤ most)
+abbrev pub IsDrivenWithin : ℕ → DriveEnd → Conn → FrontState → FrontState → Stream → Known → Known → Type 0
+IsDrivenWithin most end conn old new stream before now =
+    (is : IsDriven end conn old new stream before now) × (length is.calls.reads ≤ most)
 
 -- a connection was driven to its end; one that isn't open has ended, and nothing was done
-abbrev pub IsConnection : Driven → Option Stream → Conn → FrontState → FrontState → Known → Known → Type 0
-IsConnection driven (Some stream) conn old new before now =
-    IsDrivenWithin 1_000_000 driven conn old new stream before now
-IsConnection driven None conn old new before now = (driven ≡ Ended) × (new ≡ old) × (now ≡ before)
+abbrev pub IsConnection : DriveEnd → Option Stream → Conn → FrontState → FrontState → Known → Known → Type 0
+IsConnection end (Some stream) conn old new before now =
+    IsDrivenWithin 1_000_000 end conn old new stream before now
+IsConnection end None conn old new before now = (end ≡ Ended) × (new ≡ old) × (now ≡ before)
 
 -- whatever the keeper does, a connection that is open stays open, and no other changes
 unfoldable pub KeepsOpen : Conn → Lines → Lines → Type 0

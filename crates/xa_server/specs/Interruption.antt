@@ -1,4 +1,4 @@
--- A list of messages that a stop interrupts: what of it is found when the server begins again.
+-- A list of messages that a crash interrupts: what of it is found when the server begins again.
 use Rattle.std.specs.Prelude.{◌≡◌, ◌≤◌, ℕ, List, [], ◌∷◌, ◌++◌, length, take}
 use Rattle.xa_records.specs.Keeper.{Custody}
 use Rattle.xa_records.specs.Kept.{Kept, state_of}
@@ -37,7 +37,7 @@ module _ {R : Type 0} (custody : R → Custody) where
   ServesAll old [] (_ ∷ _) new = ⊥
   ServesAll old (_ ∷ _) [] new = ⊥
 
-  -- these messages were served, and then one more, whatever its reply: in it, or after it, the server is stopped
+  -- these messages were served, and then one more, whatever its reply: in it, or after it, the server crashes
   pub record IsInterrupted (old new : Serving R) (events : List Event) (replies : List Reply) (last : Event)
       (reply : Reply) : Type 0 where
     pub sound : (custody old.records).sound

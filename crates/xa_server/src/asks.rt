@@ -2,6 +2,16 @@
 //! again. Any other is evaluated by the domain's view, which is cached for the next ask; the decision is
 //! counted, and cached if it is the same at every moment. A body that doesn't ask the policies is answered
 //! without a view, if none is cached.
+//!
+//! The steps, in this order. Each has a function of its own, whose clauses settle one question:
+//! 1. `reply_to_ask`: is the decision cached? Its clauses tell the machine's answer. Those of steps 2 to 4
+//!    tell that of an evaluation (`FreshReply`).
+//! 2. `evaluated_reply`: the body is read. The key that it was looked up under is that of these bytes.
+//! 3. `reply_to_read`: by which view? A cached one that stands decides as its domain does. If none is cached
+//!    and the body doesn't ask the policies, a view of nothing decides alike (`reply_without_policies`).
+//! 4. `reply_by_new_view`: what does the keeper have? No other step asks it. `new_view_within_limit` counts
+//!    what is read, and `new_view` is the view that decides in the domain (`MakesReady`).
+//! 5. `reply_by_view`: the decision. Its clauses know the view alone, neither a domain nor a keeper.
 ghost use Rattle.std.specs.Prelude.{◌≡◌, ◌-◌, length, Some, IfOk, IfSome, OnErr};
 ghost use Rattle.std.specs.Option.{ok_or};
 ghost use Rattle.xa_decide.specs.Asked.{asks_policies};
@@ -10,14 +20,14 @@ ghost use Rattle.xa_records.specs.Kept.{state_of};
 ghost use Rattle.xa_records.specs.Readings.{kept_view_of};
 ghost use Rattle.xa_server.specs.declared.error_code.ErrorCode.TheVariants.{Refused};
 ghost use Rattle.xa_server.specs.handling.Asking.{FreshReply, HasItsKey, IfLetIn, IsAsked, IsFresh};
-ghost use Rattle.xa_server.specs.handling.Asking.{IsResponse, IsResponseReply, MakesReady, evaluated_asked};
-ghost use Rattle.xa_server.specs.handling.Asking.{key_asked, key_within, reply_asked, response_asked};
+ghost use Rattle.xa_server.specs.handling.Asking.{IsResponseReply, MakesReady, evaluated_asked, key_asked};
+ghost use Rattle.xa_server.specs.handling.Asking.{key_within, reply_asked, response_asked};
 ghost use Rattle.xa_server.specs.handling.Replying.{Answers, OnlyReads, Tells};
 ghost use Rattle.xa_server.specs.Machine.{response_to, told};
 ghost use Rattle.xa_server.specs.Stock.{AllStand};
 ghost use Rattle.xa_server.specs.handling.Viewing.{AreKeyed, nothing_viewed};
 ghost use Rattle.xa_server.specs.Views.{added, bytes_of_tree, bytes_of_view};
-ghost use Rattle.xa_server.specs.Work.{cached_body, response_of};
+ghost use Rattle.xa_server.specs.Work.{cached_body};
 
 use crate::decisions::{Decisions, key_within};
 use crate::error_code::{ABSENT, ErrorCode};
@@ -30,7 +40,7 @@ use crate::unsuccessful::Unsuccessful;
 use crate::view::view_of_kept;
 use std::alloc::Global;
 use xa_cache::Key;
-use xa_decide::{RequestBody, Responded, View, asks_policies, respond};
+use xa_decide::{RequestBody, View, asks_policies, respond};
 use xa_notation::NotationError;
 use xa_records::{Failure, KeptView, Records};
 use xa_shelf::TextReader;
@@ -84,7 +94,7 @@ fn kept_view<R: Records>(
 /// grows with the rows of attributes, which are put in order. It grows also with the texts of the documents
 /// to which the root leads, each of which is looked up on the shelf or read.
 #[tactic(auto, using(crate::proofs::ReadyLemmas::estimated))]
-fn ready_view<R: Records>(
+fn new_view<R: Records>(
     alloc: Global,
     reader: &mut TextReader<'_>,
     records: &mut R,
@@ -113,7 +123,7 @@ fn ready_view<R: Records>(
 
 /// The domain's view, made of no more text than may be read for a message. A domain whose policies have
 /// more is remembered.
-fn ready_within<R: Records>(
+fn new_view_within_limit<R: Records>(
     alloc: Global,
     texts: &mut Texts,
     limits: Limits,
@@ -124,24 +134,11 @@ fn ready_within<R: Records>(
     ensures keeper { OnlyReads (R.custody records.old) (R.custody records.new) result }
 {
     let mut reader = TextReader::new(&mut texts.shelf, limits.reading);
-    let ready = ready_view(alloc, &mut reader, records, ask, limits);
+    let ready = new_view(alloc, &mut reader, records, ask, limits);
     if reader.is_spent() {
         texts.oversized.remember(ask.revision);
     }
     ready
-}
-
-/// The response to the request of the body by the view.
-fn response_by(
-    alloc: Global,
-    view: &View,
-    body: &RequestBody<'_>,
-    moment: Moment,
-) -> Result<Responded, Unsuccessful>
-    ensures { IsResponse (response_of view.now body.now moment) result }
-{
-    let responded = respond(alloc, view, body, moment)?.ok_or(NOT_JSON)?;
-    Ok(responded)
 }
 
 /// The reply by the view: the decision is evaluated, counted, and cached if it may be.
@@ -157,7 +154,7 @@ fn reply_by_view(
         (response_asked view.now read.entry.ask.now read.entry.body) result decisions.old decisions.new }
 {
     let ReadAsk { ask, key, body } = read;
-    let responded = response_by(alloc, view, &body, ask.moment)?;
+    let responded = respond(alloc, view, &body, ask.moment)?.ok_or(NOT_JSON)?;
     let reply = decision_reply(alloc, responded.body.as_slice())?;
     decisions.note(key, responded);
     Ok(reply)
@@ -190,7 +187,7 @@ fn reply_by_new_view<R: Records>(
         return Err(Unsuccessful::Failed(Failure::Memory));
     }
     let limits = resources.limits;
-    let ready = ready_within(alloc, &mut resources.texts, limits, records, read.ask)?;
+    let ready = new_view_within_limit(alloc, &mut resources.texts, limits, records, read.ask)?;
     let reply = reply_by_view(alloc, &mut resources.decisions, &ready.view, read)?;
     resources.views.keep(ready);
     Ok(reply)
@@ -215,28 +212,10 @@ fn reply_without_policies(
     reply_by_view(alloc, decisions, &nothing, read)
 }
 
-/// The reply if no view is cached: the body's own questions come first, and the keeper is asked only for a
-/// body that asks the policies.
-fn reply_without_view<R: Records>(
-    alloc: Global,
-    resources: &mut Resources,
-    records: &mut R,
-    read: ReadAsk<'_>,
-) -> Result<Items<u8>, Unsuccessful>
-    requires { HasItsKey read }
-    ensures { FreshReply (R.custody records.old) (R.custody records.new) read.entry.ask.now read.entry.body
-        resources.old resources.new result }
-{
-    if asks_policies(alloc, &read.body)? {
-        return reply_by_new_view(alloc, resources, records, read);
-    }
-    let limits = resources.limits;
-    reply_without_policies(alloc, &mut resources.decisions, limits, read)
-}
-
 /// The reply by a decision that is evaluated: by the cached view, if there is one, for which no text is
-/// asked; else without it.
-fn reply_by_evaluation<R: Records>(
+/// asked. Else the body's own questions come first, and the keeper is asked only for a body that asks the
+/// policies.
+fn reply_to_read<R: Records>(
     alloc: Global,
     resources: &mut Resources,
     records: &mut R,
@@ -252,12 +231,16 @@ fn reply_by_evaluation<R: Records>(
         resources.views.touch(ask.revision.number);
         return Ok(reply);
     }
-    reply_without_view(alloc, resources, records, read)
+    if asks_policies(alloc, &read.body)? {
+        return reply_by_new_view(alloc, resources, records, read);
+    }
+    let limits = resources.limits;
+    reply_without_policies(alloc, &mut resources.decisions, limits, read)
 }
 
 /// The reply by a decision that is evaluated, for a body that isn't read yet: it is read once, whatever is
 /// asked of it.
-fn reply_to_unread<R: Records>(
+fn evaluated_reply<R: Records>(
     alloc: Global,
     resources: &mut Resources,
     records: &mut R,
@@ -270,7 +253,7 @@ fn reply_to_unread<R: Records>(
         resources.old resources.new result }
 {
     let body = RequestBody::read(alloc, body)?;
-    reply_by_evaluation(alloc, resources, records, ReadAsk { ask, key, body })
+    reply_to_read(alloc, resources, records, ReadAsk { ask, key, body })
 }
 
 /// The reply to the request of the body by the domain's policies: by the cached decision, if there is one,
@@ -300,11 +283,11 @@ pub(crate) fn reply_to_ask<R: Records>(
     ensures keeper { OnlyReads (R.custody records.old) (R.custody records.new) result }
 {
     let Some(key) = key_within(alloc, ask.revision, body)? else {
-        return reply_to_unread(alloc, resources, records, ask, None, body);
+        return evaluated_reply(alloc, resources, records, ask, None, body);
     };
     let most = resources.limits.reply;
     if let Some(reply) = resources.decisions.cached_reply(alloc, &key, most)? {
         return Ok(reply);
     }
-    reply_to_unread(alloc, resources, records, ask, Some(key), body)
+    evaluated_reply(alloc, resources, records, ask, Some(key), body)
 }

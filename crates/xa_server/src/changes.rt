@@ -85,7 +85,7 @@ pub(crate) fn drop_token<R: Records>(
     Ok(reply)
 }
 
-/// Keeps the document that the body is; the very text again changes nothing. Which of both it is isn't
+/// Keeps the document that the body is; the same text again changes nothing. Which of both it is isn't
 /// known before, so both replies are made.
 pub(crate) fn upload<R: Records>(
     alloc: Global,

@@ -2,12 +2,12 @@
 ghost use Rattle.std.specs.Prelude.{◌≡◌, ◌≤◌, false, List, Option, Some};
 ghost use Rattle.xa_http.specs.Stream.{Stream};
 ghost use Rattle.xa_server.specs.Driven.{IsConnection, KeepsOpen, known_by};
-ghost use Rattle.xa_server.specs.declared.driven.Driven.TheVariants as driven;
+ghost use Rattle.xa_server.specs.declared.drive_end.DriveEnd.TheVariants as drive_end;
 ghost use Rattle.xa_server.specs.handling.Driving.{FeedsOne, IsRead, IsWaiting};
 ghost use Rattle.xa_server.specs.Lines.{IsOpen, line_at};
 
 use crate::clock::Clock;
-use crate::driven::Driven;
+use crate::drive_end::DriveEnd;
 use crate::event::{Event, Outcome};
 use crate::front_error::FrontError;
 use crate::lines::Conn;
@@ -53,7 +53,7 @@ fn read_on<F: Multiplexer, I: Reader, W: Writer, C: Clock>(
     writer: &mut W,
     clock: &mut C,
     piece: &mut [u8; PIECE_BYTES],
-) -> Option<Driven>
+) -> Option<DriveEnd>
     ensures read { let seen = known_by F.had_memory F.said W.contents W.writes in
         F.is_sound front.new → (stream : Stream) → IsOpen conn (F.state front.old).lines stream
         → IsWaiting stream
@@ -61,18 +61,18 @@ fn read_on<F: Multiplexer, I: Reader, W: Writer, C: Clock>(
         (seen front.old writer.old (I.remaining reader.old) (I.reads reader.old) (C.told clock.old))
         (seen front.new writer.new (I.remaining reader.new) (I.reads reader.new) (C.told clock.new)) }
     ensures stays_open { KeepsOpen conn (F.state front.old).lines (F.state front.new).lines }
-    ensures shut { result ≡ Some driven.Shut → F.goes_on front.new ≡ false }
+    ensures shut { result ≡ Some drive_end.Shut → F.goes_on front.new ≡ false }
     ensures sound { F.is_sound front.new → F.is_sound front.old }
 {
     let count = match reader.receive(piece) {
-        Ok(0) => return Some(Driven::Ended),
+        Ok(0) => return Some(DriveEnd::Ended),
         Ok(count) => count,
         Err(error) if error.kind() == ErrorKind::Interrupted => return None,
-        Err(_) => return Some(Driven::ReadFault),
+        Err(_) => return Some(DriveEnd::ReadFault),
     };
     match play_piece(front, conn, &piece[..count]) {
         Ok(()) => answer_held(front, conn, writer, clock),
-        Err(_) => Some(Driven::Memory),
+        Err(_) => Some(DriveEnd::Memory),
     }
 }
 
@@ -89,7 +89,7 @@ pub fn drive<F: Multiplexer, I: Reader, W: Writer, C: Clock>(
     reader: &mut I,
     writer: &mut W,
     clock: &mut C,
-) -> Driven
+) -> DriveEnd
     ensures connection { let seen = known_by F.had_memory F.said W.contents W.writes in
         F.is_sound front.new
         → IsConnection result (line_at conn (F.state front.old).lines) conn
@@ -97,17 +97,17 @@ pub fn drive<F: Multiplexer, I: Reader, W: Writer, C: Clock>(
         (seen front.old writer.old (I.remaining reader.old) (I.reads reader.old) (C.told clock.old))
         (seen front.new writer.new (I.remaining reader.new) (I.reads reader.new) (C.told clock.new)) }
     ensures stays_open { KeepsOpen conn (F.state front.old).lines (F.state front.new).lines }
-    ensures shut { result ≡ driven.Shut → F.goes_on front.new ≡ false }
+    ensures shut { result ≡ drive_end.Shut → F.goes_on front.new ≡ false }
     ensures sound { F.is_sound front.new → F.is_sound front.old }
 {
-    if let Some(driven) = answer_held(front, conn, writer, clock) {
-        return driven;
+    if let Some(end) = answer_held(front, conn, writer, clock) {
+        return end;
     }
     let mut piece = [0; PIECE_BYTES];
     for _read in 0..MAX_READS {
-        if let Some(driven) = read_on(front, conn, reader, writer, clock, &mut piece) {
-            return driven;
+        if let Some(end) = read_on(front, conn, reader, writer, clock, &mut piece) {
+            return end;
         }
     }
-    Driven::TooManyReads
+    DriveEnd::TooManyReads
 }

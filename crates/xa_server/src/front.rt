@@ -235,6 +235,7 @@ fn answer_message<R: Records>(
     ensures err { OnErr result ((server.new ≡ server.old) × (session.new ≡ session.old)) }
     ensures handed { HandsOn R.custody server.old server.new moment (Some session.old) result }
 {
+    // The look has read the head, and the session has kept it: it isn't read again.
     let Next::Message(message) = session.next()? else {
         unreachable!()
     };

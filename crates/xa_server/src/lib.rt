@@ -10,7 +10,7 @@
 //!
 //! Files of connections: `front` cuts the messages from the bytes that `lines` holds. Its calls are values of
 //! `event`, its refusals are `front_error`. `driving` reads a connection from a `reader` until it ends as
-//! `driven` says; it stands on a `multiplexer`, which a front is. `turns` asks the `clock`, and sends each
+//! `drive_end` says; it stands on a `multiplexer`, which a front is. `turns` asks the `clock`, and sends each
 //! reply by `sending` to a `writer`. `interruption` has the law of a crash at any moment.
 //!
 //! In a file of functions each stands after those that it calls. In a file of a type its methods come first.
@@ -24,7 +24,7 @@ mod clock;
 mod decisions;
 mod dispatch;
 mod document_key;
-mod driven;
+mod drive_end;
 mod driving;
 mod error_code;
 mod event;
@@ -53,7 +53,7 @@ mod views;
 mod writer;
 
 pub use clock::Clock;
-pub use driven::Driven;
+pub use drive_end::DriveEnd;
 pub use driving::drive;
 pub use error_code::{ErrorCode, fault_reply};
 pub use event::{Answer, Event, Outcome};

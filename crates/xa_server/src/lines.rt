@@ -22,6 +22,7 @@ const MAX_CONNECTION_BYTES: usize = 1_048_576;
 /// opened again; then it is that new connection.
 #[derive(Clone, Copy, Debug, PartialEq, Eq)]
 pub struct Conn {
+    /// The number, from 0 to 63.
     pub(crate) number: usize,
 }
 

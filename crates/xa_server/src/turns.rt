@@ -3,7 +3,7 @@ ghost use Rattle.std.specs.Prelude.{◌≡◌, ℕ, false, true, IsTrue, List, M
 ghost use Rattle.xa_http.specs.Stream.{Stream};
 ghost use Rattle.xa_server.specs.Driven.{KeepsOpen, known_by};
 ghost use Rattle.xa_server.specs.declared.turns.Turn.TheVariants as turn;
-ghost use Rattle.xa_server.specs.declared.driven.Driven.TheVariants as driven;
+ghost use Rattle.xa_server.specs.declared.drive_end.DriveEnd.TheVariants as drive_end;
 ghost use Rattle.xa_server.specs.handling.Driving.{AnswersOne, IsAnsweredAt, IsAnsweredNow, IsAskedAfter};
 ghost use Rattle.xa_server.specs.handling.Driving.{IsHeldAnswered, IsSentAs, IsTurn, PlaysOne};
 ghost use Rattle.xa_server.specs.Fronting.{DoesLines};
@@ -11,7 +11,7 @@ ghost use Rattle.xa_server.specs.Lines.{IsOpen, line_at};
 ghost use Rattle.xa_server.specs.Transfers.{ReadEnd};
 
 use crate::clock::Clock;
-use crate::driven::Driven;
+use crate::drive_end::DriveEnd;
 use crate::event::{Answer, Event, Outcome};
 use crate::front_error::FrontError;
 use crate::lines::Conn;
@@ -32,7 +32,7 @@ enum Turn {
     /// There is no whole message yet.
     Waits,
     /// The connection has ended.
-    Ends(Driven),
+    Ends(DriveEnd),
 }
 
 /// Plays one event, and gives its outcome.
@@ -97,19 +97,19 @@ fn is_shut<F: Multiplexer>(front: &mut F, reply: &Reply) -> bool
 fn send_answer<F: Multiplexer, W: Writer>(front: &mut F, writer: &mut W, answer: &Answer) -> Turn
     ensures sent { IsSentAs result (Some answer.now) (W.contents writer.old) (W.contents writer.new)
         (W.writes writer.old) (W.writes writer.new) (F.said front.old) (F.said front.new) }
-    ensures shut { result ≡ turn.Ends driven.Shut → F.goes_on front.new ≡ false }
+    ensures shut { result ≡ turn.Ends drive_end.Shut → F.goes_on front.new ≡ false }
     ensures same { F.state front.new ≡ F.state front.old }
     ensures memory { F.had_memory front.new ≡ F.had_memory front.old }
     ensures sound { F.is_sound front.new → F.is_sound front.old }
 {
     if !send_whole(writer, answer.reply.bytes()) {
-        return Turn::Ends(Driven::WriteFault);
+        return Turn::Ends(DriveEnd::WriteFault);
     }
     if is_shut(front, &answer.reply) {
-        return Turn::Ends(Driven::Shut);
+        return Turn::Ends(DriveEnd::Shut);
     }
     if answer.last {
-        Turn::Ends(Driven::Ended)
+        Turn::Ends(DriveEnd::Ended)
     } else {
         Turn::Answered
     }
@@ -127,13 +127,13 @@ fn turn_at<F: Multiplexer, W: Writer>(
         → IsAnsweredAt result conn moment (F.state front.old) (F.state front.new)
         (seen front.old writer.old None None None) (seen front.new writer.new None None None) }
     ensures stays_open { KeepsOpen conn (F.state front.old).lines (F.state front.new).lines }
-    ensures shut { result ≡ turn.Ends driven.Shut → F.goes_on front.new ≡ false }
+    ensures shut { result ≡ turn.Ends drive_end.Shut → F.goes_on front.new ≡ false }
     ensures sound { F.is_sound front.new → F.is_sound front.old }
 {
     match play_answer(front, conn, moment) {
         Ok(Some(answer)) => send_answer(front, writer, &answer),
         Ok(None) => Turn::Waits,
-        Err(_) => Turn::Ends(Driven::Memory),
+        Err(_) => Turn::Ends(DriveEnd::Memory),
     }
 }
 
@@ -151,11 +151,11 @@ fn message_turn<F: Multiplexer, W: Writer, C: Clock>(
         (seen front.old writer.old None None (C.told clock.old))
         (seen front.new writer.new None None (C.told clock.new)) }
     ensures stays_open { KeepsOpen conn (F.state front.old).lines (F.state front.new).lines }
-    ensures shut { result ≡ turn.Ends driven.Shut → F.goes_on front.new ≡ false }
+    ensures shut { result ≡ turn.Ends drive_end.Shut → F.goes_on front.new ≡ false }
     ensures sound { F.is_sound front.new → F.is_sound front.old }
 {
     let Some(moment) = clock.now() else {
-        return Turn::Ends(Driven::NoClock);
+        return Turn::Ends(DriveEnd::NoClock);
     };
     turn_at(front, conn, moment, writer)
 }
@@ -167,7 +167,7 @@ fn fault_turn<F: Multiplexer, W: Writer>(front: &mut F, conn: Conn, writer: &mut
         → IsAnsweredAt result conn (pos 0) (F.state front.old) (F.state front.new)
         (seen front.old writer.old None None None) (seen front.new writer.new None None None) }
     ensures stays_open { KeepsOpen conn (F.state front.old).lines (F.state front.new).lines }
-    ensures shut { result ≡ turn.Ends driven.Shut → F.goes_on front.new ≡ false }
+    ensures shut { result ≡ turn.Ends drive_end.Shut → F.goes_on front.new ≡ false }
     ensures sound { F.is_sound front.new → F.is_sound front.old }
 {
     let Some(moment) = Moment::new(0) else {
@@ -193,15 +193,17 @@ fn next_turn<F: Multiplexer, W: Writer, C: Clock>(
         (seen front.old writer.old left reads (C.told clock.old))
         (seen front.new writer.new left reads (C.told clock.new)) }
     ensures stays_open { KeepsOpen conn (F.state front.old).lines (F.state front.new).lines }
-    ensures shut { result ≡ turn.Ends driven.Shut → F.goes_on front.new ≡ false }
+    ensures shut { result ≡ turn.Ends drive_end.Shut → F.goes_on front.new ≡ false }
     ensures sound { F.is_sound front.new → F.is_sound front.old }
 {
+    // A front looks again when it answers, since an event brings no look along. The head that this one has
+    // read is kept, and isn't read again.
     match front.look(conn) {
         Ok(Look::Message) => message_turn(front, conn, writer, clock),
         Ok(Look::Fault(_)) => fault_turn(front, conn, writer),
         Ok(Look::More) => Turn::Waits,
-        Ok(Look::Ended) => Turn::Ends(Driven::Ended),
-        Err(_) => Turn::Ends(Driven::Memory),
+        Ok(Look::Ended) => Turn::Ends(DriveEnd::Ended),
+        Err(_) => Turn::Ends(DriveEnd::Memory),
     }
 }
 
@@ -213,7 +215,7 @@ pub(crate) fn answer_held<F: Multiplexer, W: Writer, C: Clock>(
     conn: Conn,
     writer: &mut W,
     clock: &mut C,
-) -> Option<Driven>
+) -> Option<DriveEnd>
     ensures held { let seen = known_by F.had_memory F.said W.contents W.writes in
         F.is_sound front.new → (left : Option (List ℕ)) (reads : Option (List ReadEnd))
         → IsHeldAnswered result (line_at conn (F.state front.old).lines) conn
@@ -221,11 +223,11 @@ pub(crate) fn answer_held<F: Multiplexer, W: Writer, C: Clock>(
         (seen front.old writer.old left reads (C.told clock.old))
         (seen front.new writer.new left reads (C.told clock.new)) }
     ensures stays_open { KeepsOpen conn (F.state front.old).lines (F.state front.new).lines }
-    ensures shut { result ≡ Some driven.Shut → F.goes_on front.new ≡ false }
+    ensures shut { result ≡ Some drive_end.Shut → F.goes_on front.new ≡ false }
     ensures sound { F.is_sound front.new → F.is_sound front.old }
 {
     let Some(held) = front.held_len(conn) else {
-        return Some(Driven::Ended);
+        return Some(DriveEnd::Ended);
     };
     // A message has more than one byte, so a connection holds fewer than that.
     let turns = held.saturating_add(1);
@@ -233,9 +235,9 @@ pub(crate) fn answer_held<F: Multiplexer, W: Writer, C: Clock>(
         match next_turn(front, conn, writer, clock) {
             Turn::Answered => {}
             Turn::Waits => return None,
-            Turn::Ends(driven) => return Some(driven),
+            Turn::Ends(end) => return Some(end),
         }
     }
     // Not reached: there are more turns than messages in what the connection held.
-    Some(Driven::Memory)
+    Some(DriveEnd::Memory)
 }

@@ -1,4 +1,4 @@
-//! Why a message isn't answered with success.
+//! Error answers and failures: which of them each error that a message may meet comes to.
 ghost use Rattle.std.specs.Prelude.{◌≡◌};
 ghost use Rattle.xa_http.specs.declared.route.RouteFault.{RouteFault};
 ghost use Rattle.xa_notation.specs.declared.notation_error.NotationError.{NotationError};

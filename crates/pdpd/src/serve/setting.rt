@@ -7,8 +7,8 @@ use crate::fault::Fault;
 use std::env::{self, VarError};
 use xa_value::number_up_to;
 
-/// The limit of work for one message if PDPD_WORK isn't set: some 0.3 seconds, in which everybody else
-/// waits. The dearest honest ask measured takes 3,500,000.
+/// The limit of work for one message if PDPD_WORK isn't set: at most a quarter of a second, in which others
+/// wait. The dearest honest ask measured takes 3,500,000.
 const DEFAULT_WORK: usize = 150_000_000;
 
 /// How many bytes the body of a response may have if PDPD_REPLY isn't set: 16 MiB. The limit of work

@@ -10,7 +10,6 @@ use Rattle.xa_records.specs.DomainState.{DomainState}
 use Rattle.xa_records.specs.Keeper.{Custody, IsOneMore}
 use Rattle.xa_records.specs.Kept.{Domain, Kept, state_of}
 use Rattle.xa_cache.specs.declared.key.Key.{Key}
-use Rattle.xa_decide.specs.declared.decision.Responded.{Responded}
 use Rattle.xa_decide.specs.Decision.{Viewed}
 use Rattle.xa_http.specs.declared.route.Route.{Route}
 use Rattle.xa_http.specs.Routes.{route_of}
@@ -45,12 +44,6 @@ response_told body moment state =
 -- what decides in a domain; nothing in an absent one
 abbrev pub view_told : Option DomainState → Result Viewed ErrorCode
 view_told state = ok_or (option_map view_of state) (error.Refused Absent)
-
--- it was evaluated by what decides; or the body is no JSON; or there was no memory
-abbrev pub IsResponse : Option (List ℕ × Bool) → Result Responded Unsuccessful → Type 0
-IsResponse meant (Ok responded) = meant ≡ Some (responded.body, responded.timeless)
-IsResponse meant (Err (Error code)) = (meant ≡ None) × (code ≡ error.Body NotJson)
-IsResponse meant (Err (Failed failure)) = failure ≡ Memory
 
 -- the reply to what was evaluated; or the body is no JSON; or there was no memory
 abbrev pub IsResponseReply : Option (List ℕ × Bool) → Result (List ℕ) Unsuccessful → Type 0

@@ -8,8 +8,8 @@ use Rattle.xa_http.specs.Messages.{Cuts, IsNext}
 use Rattle.xa_http.specs.Stream.{Stream, fed}
 use Rattle.xa_server.specs.declared.turns.Turn.{Turn}
 use Rattle.xa_server.specs.declared.turns.Turn.TheVariants.{Answered, Waits, Ends}
-use Rattle.xa_server.specs.declared.driven.Driven.{Driven}
-use Rattle.xa_server.specs.declared.driven.Driven.TheVariants as driven
+use Rattle.xa_server.specs.declared.drive_end.DriveEnd.{DriveEnd}
+use Rattle.xa_server.specs.declared.drive_end.DriveEnd.TheVariants as drive_end
 use Rattle.xa_server.specs.declared.event.Answer.{Answer}
 use Rattle.xa_server.specs.declared.event.Event.{Event}
 use Rattle.xa_server.specs.declared.event.Outcome.{Outcome}
@@ -63,9 +63,9 @@ FeedsOne conn piece old new found finding (Err _) =
 
 -- by whether it was written whole, whether the keeper can't go on then, and whether it is the last
 abbrev pub turn_after : Bool → Bool → Bool → Turn
-turn_after false shut last = Ends driven.WriteFault
-turn_after true true last = Ends driven.Shut
-turn_after true false true = Ends driven.Ended
+turn_after false shut last = Ends drive_end.WriteFault
+turn_after true true last = Ends drive_end.Shut
+turn_after true false true = Ends drive_end.Ended
 turn_after true false false = Answered
 
 -- what the front is asked after a reply that was written whole, and says: whether its keeper can go on, if the message
@@ -92,7 +92,7 @@ IsAnsweredAt turn conn moment old new before now =
     ((answer : Option Answer) × (given : Next) × IsAnswered conn moment old (Some given) (Ok answer) new
     × Grows before.memory now.memory (true ∷ [])
     × IsSentAs turn answer before.contents now.contents before.writes now.writes before.said now.said)
-    ⊎ (((turn ≡ Ends driven.Memory) × (new ≡ old) × Grows before.memory now.memory (false ∷ [])
+    ⊎ (((turn ≡ Ends drive_end.Memory) × (new ≡ old) × Grows before.memory now.memory (false ∷ [])
     × (now.contents ≡ before.contents) × (now.writes ≡ before.writes) × (now.said ≡ before.said))
     ⊎ (line_at conn old.lines ≡ None))
 
@@ -101,7 +101,7 @@ abbrev pub IsAnsweredNow : Turn → Conn → FrontState → FrontState → Known
 IsAnsweredNow turn conn old new before now =
     ((moment : ℤ) × Grows before.told now.told (Some moment ∷ [])
     × IsAnsweredAt turn conn moment old new before now)
-    ⊎ ((turn ≡ Ends driven.NoClock) × Grows before.told now.told (None ∷ []) × (new ≡ old)
+    ⊎ ((turn ≡ Ends drive_end.NoClock) × Grows before.told now.told (None ∷ []) × (new ≡ old)
     × (now.memory ≡ before.memory) × (now.contents ≡ before.contents) × (now.writes ≡ before.writes)
     × (now.said ≡ before.said))
 
@@ -136,20 +136,20 @@ IsTurn Answered conn old new stream before now =
     (after : Stream) × GoesOn 0 conn old new stream after before now × (length after.held + 1 < length stream.held)
 IsTurn Waits conn old new stream before now =
     (after : Stream) × GoesOn 0 conn old new stream after before now × IsWaiting after
-IsTurn (Ends driven) conn old new stream before now = IsDrivenWithin 0 driven conn old new stream before now
+IsTurn (Ends end) conn old new stream before now = IsDrivenWithin 0 end conn old new stream before now
 
 -- all that the connection held was answered, and more bytes are wanted; or the connection has ended
-abbrev pub IsHeldAnswered : Option Driven → Option Stream → Conn → FrontState → FrontState → Known → Known → Type 0
+abbrev pub IsHeldAnswered : Option DriveEnd → Option Stream → Conn → FrontState → FrontState → Known → Known → Type 0
 IsHeldAnswered None (Some stream) conn old new before now = IsTurn Waits conn old new stream before now
-IsHeldAnswered (Some driven) (Some stream) conn old new before now =
-    IsDrivenWithin 0 driven conn old new stream before now
-IsHeldAnswered result None conn old new before now = (result ≡ Some driven.Ended) × (new ≡ old) × (now ≡ before)
+IsHeldAnswered (Some end) (Some stream) conn old new before now =
+    IsDrivenWithin 0 end conn old new stream before now
+IsHeldAnswered result None conn old new before now = (result ≡ Some drive_end.Ended) × (new ≡ old) × (now ≡ before)
 
 -- bytes were read once and answered, and the connection goes on or has ended
-abbrev pub IsRead : Option Driven → Conn → FrontState → FrontState → Stream → Known → Known → Type 0
+abbrev pub IsRead : Option DriveEnd → Conn → FrontState → FrontState → Stream → Known → Known → Type 0
 IsRead None conn old new stream before now =
     (after : Stream) × GoesOn 1 conn old new stream after before now × IsWaiting after
-IsRead (Some driven) conn old new stream before now = IsDrivenWithin 1 driven conn old new stream before now
+IsRead (Some end) conn old new stream before now = IsDrivenWithin 1 end conn old new stream before now
 
 -- after so many reads, and all that was held before, an open connection holds no whole message
 abbrev pub HasRead : ℕ → Conn → FrontState → FrontState → Known → Known → Type 0

@@ -4,7 +4,7 @@ use Rattle.xa_server.proofs.OpenLemmas.{open_trans}
 use Rattle.xa_server.proofs.driving.drive.Goals as goal
 
 pub returns-in-Some-clause-connection : goal.returns-in-Some-clause-connection
-returns-in-Some-clause-connection g c = λ sound. held_ends c.in-Some.driven _ c.args.conn _ _ _ _ (c.in-Some.ensures.held sound _ _)
+returns-in-Some-clause-connection g c = λ sound. held_ends c.in-Some.end _ c.args.conn _ _ _ _ (c.in-Some.ensures.held sound _ _)
 
 pub loop-read-init : goal.loop-read-init
 loop-read-init g c = record {
@@ -15,7 +15,7 @@ loop-read-init g c = record {
 
 pub returns-in-Some-read_on-clause-connection : goal.returns-in-Some-read_on-clause-connection
 returns-in-Some-read_on-clause-connection g c = λ sound.
-    read_ends _ c.in-Some-read_on.driven c.args.conn _ _ _ _ _ _ c.loop-read-test.true (c.loop-read.invariant.read (c.read_on.ensures.sound sound))
+    read_ends _ c.in-Some-read_on.end c.args.conn _ _ _ _ _ _ c.loop-read-test.true (c.loop-read.invariant.read (c.read_on.ensures.sound sound))
     (c.in-Some-read_on.ensures.read sound)
 
 pub loop-read-preserved : goal.loop-read-preserved

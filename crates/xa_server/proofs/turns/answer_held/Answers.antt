@@ -1,5 +1,5 @@
 use Rattle.std.proofs.Common.{refl, sym, ◌∙◌, arith, Some}
-use Rattle.xa_server.specs.declared.driven.Driven.TheVariants.{Memory}
+use Rattle.xa_server.specs.declared.drive_end.DriveEnd.TheVariants.{Memory}
 use Rattle.xa_server.proofs.CourseLemmas.{no_turn, turn_ends, turn_more, turn_waits, turns_over, unopened}
 use Rattle.xa_server.proofs.OpenLemmas.{open_kept, open_trans}
 use Rattle.xa_server.proofs.turns.answer_held.Goals as goal
@@ -18,7 +18,7 @@ returns-in-Waits-clause-held g c = λ sound left reads.
 
 pub returns-in-Ends-clause-held : goal.returns-in-Ends-clause-held
 returns-in-Ends-clause-held g c = λ sound left reads.
-    turn_ends _ c.in-Ends.driven c.args.conn _ _ _ _ _ _ (c.loop-turn.invariant.shrinks (c.next_turn.ensures.sound sound) left reads)
+    turn_ends _ c.in-Ends.end c.args.conn _ _ _ _ _ _ (c.loop-turn.invariant.shrinks (c.next_turn.ensures.sound sound) left reads)
     (λ stream opens. c.in-Ends.ensures.turn sound stream left reads opens)
 
 pub loop-turn-preserved : goal.loop-turn-preserved

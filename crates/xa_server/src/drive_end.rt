@@ -2,7 +2,7 @@
 
 /// How `drive` ended.
 #[derive(Clone, Copy, Debug, PartialEq, Eq)]
-pub enum Driven {
+pub enum DriveEnd {
     /// Its stream has ended, or its session: by a message that closes it (RFC 9112, section 9.6), or by a
     /// fault, which was answered. Or it wasn't open.
     Ended,
