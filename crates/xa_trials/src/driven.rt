@@ -33,14 +33,14 @@ impl<R: Records + Drop> Driving<R> {
             left: self.moments,
         };
         let conn = self.trial.conn(text)?;
-        let driven = drive(
+        let end = drive(
             &mut self.trial.front,
             conn,
             &mut self.sender,
             &mut self.receiver,
             &mut clock,
         );
-        answer.push_shown("", &driven);
+        answer.push_shown("", &end);
         self.receiver.push_got(answer)?;
         self.sender.push_unread(answer);
         self.sender = Sender::new(answer.alloc());

@@ -1,16 +1,13 @@
 //! Stores over two files in memory, the database's and its log, and what a crash leaves of these.
 use crate::keepers::open_keeper;
 use crate::no_answer::NoAnswer;
-use sqlite::{Connection, FileStore, Files, Options};
+use sqlite::{Alter, Connection, FileStore, Files, Options};
 use sqlite_disk::{Crash, Disk, Fuse, Memory};
 use std::alloc::Global;
 use xa_store::SqlRecords;
 
 /// A file in memory, which passes on so many calls, and then is frozen.
 pub type File = Fuse<Memory>;
-
-/// A store over two of them.
-pub type Store = FileStore<File>;
 
 /// One of the two files.
 #[derive(Clone, Copy)]
@@ -37,25 +34,46 @@ pub fn new_files(alloc: Global) -> Files<File> {
     }
 }
 
-/// A connection to the store in the files; the files, if it can't be opened.
-pub fn connection_to(alloc: Global, files: Files<File>) -> Result<Connection<Store>, Files<File>> {
-    if !files.may_be_used() {
-        return Err(files);
+/// A store over two files. There is one, but rows know it by this trait alone: a function in which a
+/// connection to `FileStore` stands takes the prover twenty seconds and more, whatever else it does.
+pub trait StoreOfFiles: Alter + Drop {
+    /// A connection to the store in the files; the files, if it can't be opened.
+    fn connection_to(alloc: Global, files: Files<File>) -> Result<Connection<Self>, Files<File>>;
+
+    /// The files under the store. Nothing is written to them.
+    fn into_closed_files(self) -> Files<File>;
+}
+
+impl StoreOfFiles for FileStore<File> {
+    fn connection_to(
+        alloc: Global,
+        files: Files<File>,
+    ) -> Result<Connection<FileStore<File>>, Files<File>> {
+        if !files.may_be_used() {
+            return Err(files);
+        }
+        match Connection::open_files(alloc, files, OPTIONS) {
+            Ok(conn) => Ok(conn),
+            Err((_, left)) => Err(left.into_files()),
+        }
     }
-    match Connection::open_files(alloc, files, OPTIONS) {
-        Ok(conn) => Ok(conn),
-        Err((_, left)) => Err(left.into_files()),
+
+    fn into_closed_files(self) -> Files<File> {
+        self.close()
     }
 }
 
 /// The files under the connection. Nothing is written to them.
-pub fn files_under(conn: Connection<Store>) -> Files<File> {
-    conn.into_store().close()
+pub fn files_under<S: StoreOfFiles>(conn: Connection<S>) -> Files<File> {
+    conn.into_store().into_closed_files()
 }
 
 /// A keeper of the store in the files; the files, if it can't be opened.
-pub fn keeper_of(alloc: Global, files: Files<File>) -> Result<SqlRecords<Store>, Files<File>> {
-    match open_keeper(alloc, connection_to(alloc, files)?) {
+pub fn keeper_of<S: StoreOfFiles>(
+    alloc: Global,
+    files: Files<File>,
+) -> Result<SqlRecords<S>, Files<File>> {
+    match open_keeper(alloc, S::connection_to(alloc, files)?) {
         Ok(records) => Ok(records),
         Err((_, conn)) => Err(files_under(conn)),
     }

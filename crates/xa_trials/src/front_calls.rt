@@ -4,7 +4,7 @@ use crate::no_answer::NoAnswer;
 use xa_http::Message;
 use xa_records::Records;
 use xa_server::{
-    Answer, Clock, Conn, Driven, Event, Front, Outcome, Reader, Reply, Server, Writer,
+    Answer, Clock, Conn, DriveEnd, Event, Front, Outcome, Reader, Reply, Server, Writer,
 };
 use xa_value::Moment;
 
@@ -51,7 +51,7 @@ pub fn drive<R: Records + Drop, I: Reader, W: Writer, C: Clock>(
     reader: &mut I,
     writer: &mut W,
     clock: &mut C,
-) -> Driven {
+) -> DriveEnd {
     xa_server::drive(front, conn, reader, writer, clock)
 }
 

@@ -3,6 +3,7 @@
 //! tries the families one after another.
 use crate::answer::Answer;
 use crate::field::number_of;
+use crate::files::{File, StoreOfFiles};
 use crate::keeper_rows::{
     KeeperRow, Manner, run_in_memory, run_messages_in_memory, run_over_both, run_server_row,
 };
@@ -11,6 +12,7 @@ use crate::{
     bodies, combining, decisions, documents, frozen, functions, keeper, linking, loopback,
     messages, plain, references, requests, stops, stored, stores, tripped, values, versions,
 };
+use sqlite::FileStore;
 
 /// The only field behind the kind.
 fn only_field<'a>(fields: &'a [&'a str]) -> Result<&'a str, NoAnswer> {
@@ -167,23 +169,41 @@ fn answer_keeper(answer: &mut Answer, kind: &str, fields: &[&str]) -> Result<boo
             let (domain, calls) = first_field_and_rest(fields)?;
             keeper::keeper_with(answer, domain, calls)
         }
+        "stored" => stored::run_stored_row(answer, fields),
+        _ => return Ok(false),
+    };
+    done?;
+    Ok(true)
+}
+
+/// Answers a row of a store in files. Whether it knows the kind.
+fn answer_files<S: StoreOfFiles>(
+    answer: &mut Answer,
+    kind: &str,
+    fields: &[&str],
+) -> Result<bool, NoAnswer> {
+    let done = match kind {
         "opened" => {
             let (beginning, statements) = first_field_and_rest(fields)?;
-            stores::opening(answer, beginning, statements)
+            stores::opening::<S>(answer, beginning, statements)
         }
-        "stored" => stored::run_stored_row(answer, fields),
         "stops" => {
             let (file, fields) = first_field_and_rest(fields)?;
-            stops::stops(answer, file, fields)
+            stops::stops::<S>(answer, file, fields)
         }
         "frozen" => {
             let (file_and_calls, fields) = first_field_and_rest(fields)?;
-            frozen::run_frozen_row(answer, file_and_calls, fields)
+            frozen::run_frozen_row::<S>(answer, file_and_calls, fields)
         }
         _ => return Ok(false),
     };
     done?;
     Ok(true)
+}
+
+/// Answers a row of a store in files, as SQLite keeps them. Whether it knows the kind.
+fn answer_file_store(answer: &mut Answer, kind: &str, fields: &[&str]) -> Result<bool, NoAnswer> {
+    answer_files::<FileStore<File>>(answer, kind, fields)
 }
 
 /// Answers a row, whose first field is its kind. `loopback` is of no family: it alone needs the runtime.
@@ -199,7 +219,8 @@ pub fn answer_row(rt: &HostRuntime, answer: &mut Answer, fields: &[&str]) -> Res
         || answer_text(answer, kind, fields)?
         || answer_message(answer, kind, fields)?
         || answer_server(answer, kind, fields)?
-        || answer_keeper(answer, kind, fields)?;
+        || answer_keeper(answer, kind, fields)?
+        || answer_file_store(answer, kind, fields)?;
     if is_answered {
         Ok(())
     } else {

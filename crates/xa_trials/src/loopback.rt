@@ -14,7 +14,7 @@ use std::io::{Read, Write};
 use std::net::{Ipv4Addr, Shutdown, TcpListener, TcpStream};
 use std::rt::HostRuntime;
 use xa_records::Records;
-use xa_server::{Driven, Front};
+use xa_server::{DriveEnd, Front};
 
 /// A front, where it takes connections, and what the client of the next one writes.
 #[derive(Drop)]
@@ -42,10 +42,10 @@ impl<R: Records + Drop> Sockets<R> {
     }
 
     /// Has the server take the next connection, answer it and close it. How that has ended.
-    fn serve_next(&mut self) -> Result<Driven, NoAnswer> {
+    fn serve_next(&mut self) -> Result<DriveEnd, NoAnswer> {
         let conn = open(&mut self.front)?;
         let (stream, _peer) = self.listener.accept()?;
-        let driven = drive(
+        let end = drive(
             &mut self.front,
             conn,
             &mut &stream,
@@ -53,16 +53,16 @@ impl<R: Records + Drop> Sockets<R> {
             &mut self.clock,
         );
         close(&mut self.front, conn)?;
-        Ok(driven)
+        Ok(end)
     }
 
     /// Adds how a connection of the next client has ended for the server, and what the client has received.
     fn connection(&mut self, answer: &mut Answer) -> Result<(), NoAnswer> {
         let mut client = self.client()?;
-        let driven = self.serve_next()?;
+        let end = self.serve_next()?;
         let mut received = Vec::new(answer.alloc());
         client.read_to_end(&mut received)?;
-        answer.push_shown("", &driven);
+        answer.push_shown("", &end);
         if !received.is_empty() {
             answer.push_field("", &received);
         }

@@ -8,7 +8,7 @@ pub(crate) mod script;
 pub(crate) mod sweep;
 
 use crate::answer::Answer;
-use crate::files::{File, FileName, after_crash, file_named, files_of};
+use crate::files::{File, FileName, StoreOfFiles, after_crash, file_named, files_of};
 use crate::no_answer::NoAnswer;
 use crate::stops::resumption::is_resumed;
 use crate::stops::run::{Run, run_of};
@@ -39,8 +39,13 @@ struct Stopping {
 impl Stopping {
     /// Takes the files up behind the stop. If the rest of the script isn't answered rightly, that is the
     /// row's whole answer.
-    fn resume(&self, answer: &mut Answer, files: Files<File>, stop: Stop) -> Result<(), NoAnswer> {
-        if is_resumed(answer.alloc(), files, &self.script, stop.struck)? {
+    fn resume<S: StoreOfFiles>(
+        &self,
+        answer: &mut Answer,
+        files: Files<File>,
+        stop: Stop,
+    ) -> Result<(), NoAnswer> {
+        if is_resumed::<S>(answer.alloc(), files, &self.script, stop.struck)? {
             return Ok(());
         }
         answer.push_shown("!Differs ", &stop.calls);
@@ -48,20 +53,20 @@ impl Stopping {
     }
 
     /// Takes up, behind the stop, what a crash has left at both of its ends.
-    fn resume_both(
+    fn resume_both<S: StoreOfFiles>(
         &self,
         answer: &mut Answer,
         synced: Files<File>,
         written: Files<File>,
         stop: Stop,
     ) -> Result<(), NoAnswer> {
-        self.resume(answer, synced, stop)?;
-        self.resume(answer, written, stop)
+        self.resume::<S>(answer, synced, stop)?;
+        self.resume::<S>(answer, written, stop)
     }
 
     /// Takes a crash of the files, and takes up what it leaves at both of its ends. What the last crash has
     /// left isn't taken up again.
-    fn resume_after_crash(
+    fn resume_after_crash<S: StoreOfFiles>(
         &mut self,
         answer: &mut Answer,
         files: Files<File>,
@@ -74,20 +79,24 @@ impl Stopping {
         if !self.sweep.note(stop.struck, left) {
             return Ok(());
         }
-        self.resume_both(answer, synced, written, stop)
+        self.resume_both::<S>(answer, synced, written, stop)
     }
 
     /// Runs the script with the file frozen behind so many calls, and goes on after the stop. Whether a
     /// stop has come.
-    fn stop_behind(&mut self, answer: &mut Answer, calls: u64) -> Result<bool, NoAnswer> {
+    fn stop_behind<S: StoreOfFiles>(
+        &mut self,
+        answer: &mut Answer,
+        calls: u64,
+    ) -> Result<bool, NoAnswer> {
         let alloc = answer.alloc();
         let files = files_of(alloc, &self.script.files, self.frozen, calls)?;
-        let run = run_of(alloc, files, &self.script.messages)?;
+        let run = run_of::<S>(alloc, files, &self.script.messages)?;
         match run {
             Run::Stopped(struck, files) => {
                 self.sweep.count(struck);
                 let stop = Stop { calls, struck };
-                self.resume_after_crash(answer, files, stop)?;
+                self.resume_after_crash::<S>(answer, files, stop)?;
                 Ok(true)
             }
             Run::Ended => Ok(false),
@@ -95,9 +104,9 @@ impl Stopping {
     }
 
     /// Freezes the file at each of its calls in turn, until a run meets no stop.
-    fn stop_at_each(&mut self, answer: &mut Answer) -> Result<(), NoAnswer> {
+    fn stop_at_each<S: StoreOfFiles>(&mut self, answer: &mut Answer) -> Result<(), NoAnswer> {
         for calls in 0..u64::MAX {
-            if !self.stop_behind(answer, calls)? {
+            if !self.stop_behind::<S>(answer, calls)? {
                 return Ok(());
             }
         }
@@ -105,15 +114,15 @@ impl Stopping {
     }
 
     /// Stops at each call, adds what was struck, and takes up the files that were never frozen.
-    fn run(&mut self, answer: &mut Answer) -> Result<(), NoAnswer> {
-        self.stop_at_each(answer)?;
+    fn run<S: StoreOfFiles>(&mut self, answer: &mut Answer) -> Result<(), NoAnswer> {
+        self.stop_at_each::<S>(answer)?;
         self.sweep.push(answer);
         let files = files_of(answer.alloc(), &self.script.files, self.frozen, u64::MAX)?;
         let stop = Stop {
             calls: u64::MAX,
             struck: 0,
         };
-        self.resume(answer, files, stop)
+        self.resume::<S>(answer, files, stop)
     }
 }
 
@@ -140,14 +149,18 @@ fn push_files(
 /// How many stops come if the file that the word names is frozen at each of its calls in turn, and which
 /// messages they strike. After each stop the rest of the script has to be answered rightly; if none comes,
 /// all of it.
-pub fn stops(answer: &mut Answer, word: &str, fields: &[&str]) -> Result<(), NoAnswer> {
+pub fn stops<S: StoreOfFiles>(
+    answer: &mut Answer,
+    word: &str,
+    fields: &[&str],
+) -> Result<(), NoAnswer> {
     let frozen = file_named(word)?;
-    let script = script_of(answer.alloc(), fields)?;
+    let script = script_of::<S>(answer.alloc(), fields)?;
     let sweep = Sweep::new(answer.alloc(), script.messages.len())?;
     let mut stopping = Stopping {
         script,
         frozen,
         sweep,
     };
-    stopping.run(answer)
+    stopping.run::<S>(answer)
 }

@@ -5,28 +5,33 @@
 //! keeper's tables and no others. Of a store that is refused it says whether it holds something else than
 //! before.
 use crate::answer::Answer;
-use crate::files::{File, Store, after_crash, connection_to, files_under, keeper_of, new_files};
+use crate::files::{File, StoreOfFiles, after_crash, files_under, keeper_of, new_files};
 use crate::keepers::{open_keeper, run_all};
 use crate::no_answer::NoAnswer;
-use sqlite::{Connection, Files, Row};
+use sqlite::{Alter, Connection, Files, Row};
 use std::alloc::Global;
 
 /// A connection to the store in the files.
-fn connection_in(alloc: Global, files: Files<File>) -> Result<Connection<Store>, NoAnswer> {
-    connection_to(alloc, files).ok().ok_or(NoAnswer::NotOpened)
+fn connection_in<S: StoreOfFiles>(
+    alloc: Global,
+    files: Files<File>,
+) -> Result<Connection<S>, NoAnswer> {
+    S::connection_to(alloc, files)
+        .ok()
+        .ok_or(NoAnswer::NotOpened)
 }
 
 /// A store in files, without tables.
-pub fn empty_store(alloc: Global) -> Result<Connection<Store>, NoAnswer> {
+pub fn empty_store<S: StoreOfFiles>(alloc: Global) -> Result<Connection<S>, NoAnswer> {
     connection_in(alloc, new_files(alloc))
 }
 
 /// A store in files that begins as the word says.
-fn new_store(alloc: Global, word: &str) -> Result<Connection<Store>, NoAnswer> {
+fn new_store<S: StoreOfFiles>(alloc: Global, word: &str) -> Result<Connection<S>, NoAnswer> {
     match word {
         "empty" => empty_store(alloc),
         "keeper" => {
-            let records = keeper_of(alloc, new_files(alloc)).ok();
+            let records = keeper_of::<S>(alloc, new_files(alloc)).ok();
             Ok(records.ok_or(NoAnswer::NotOpened)?.into_connection())
         }
         _ => Err(NoAnswer::Malformed),
@@ -34,14 +39,14 @@ fn new_store(alloc: Global, word: &str) -> Result<Connection<Store>, NoAnswer> {
 }
 
 /// The rows that the query shows.
-fn rows_of(conn: &mut Connection<Store>, sql: &str) -> Result<Vec<Row>, NoAnswer> {
+fn rows_of<S: Alter>(conn: &mut Connection<S>, sql: &str) -> Result<Vec<Row>, NoAnswer> {
     conn.query_all(sql, &[]).ok().ok_or(NoAnswer::Malformed)
 }
 
 /// Adds the rows of the table of this row of the schema.
-fn push_table(
+fn push_table<S: Alter>(
     alloc: Global,
-    conn: &mut Connection<Store>,
+    conn: &mut Connection<S>,
     held: &mut String,
     table: &Row,
 ) -> Result<(), NoAnswer> {
@@ -52,7 +57,7 @@ fn push_table(
 }
 
 /// What the store holds: each table by the statement that made it, and its rows.
-fn contents(alloc: Global, conn: &mut Connection<Store>) -> Result<String, NoAnswer> {
+fn contents<S: Alter>(alloc: Global, conn: &mut Connection<S>) -> Result<String, NoAnswer> {
     let made = rows_of(
         conn,
         "SELECT name, sql FROM sqlite_schema WHERE type = 'table' ORDER BY name",
@@ -66,9 +71,9 @@ fn contents(alloc: Global, conn: &mut Connection<Store>) -> Result<String, NoAns
 
 /// Opens the store in the files as a keeper's. Adds whether it has a keeper's tables and no others; or why it
 /// isn't opened, and whether it then holds something else.
-fn judge(answer: &mut Answer, files: Files<File>) -> Result<(), NoAnswer> {
+fn judge<S: StoreOfFiles>(answer: &mut Answer, files: Files<File>) -> Result<(), NoAnswer> {
     let alloc = answer.alloc();
-    let mut conn = connection_in(alloc, files)?;
+    let mut conn = connection_in::<S>(alloc, files)?;
     let before = contents(alloc, &mut conn)?;
     match open_keeper(alloc, conn) {
         Ok(keeper) => {
@@ -89,14 +94,18 @@ fn judge(answer: &mut Answer, files: Files<File>) -> Result<(), NoAnswer> {
 
 /// What opening the store answers after a crash: after one that leaves only what was synced, and after one
 /// that leaves all that was written, which has to be answered the same.
-pub fn opening(answer: &mut Answer, word: &str, statements: &[&str]) -> Result<(), NoAnswer> {
+pub fn opening<S: StoreOfFiles>(
+    answer: &mut Answer,
+    word: &str,
+    statements: &[&str],
+) -> Result<(), NoAnswer> {
     let alloc = answer.alloc();
-    let mut conn = new_store(alloc, word)?;
+    let mut conn = new_store::<S>(alloc, word)?;
     run_all(alloc, &mut conn, statements)?;
     let (synced, written) = after_crash(alloc, files_under(conn))?;
-    judge(answer, synced)?;
+    judge::<S>(answer, synced)?;
     let mut other = Answer::new(alloc);
-    judge(&mut other, written)?;
+    judge::<S>(&mut other, written)?;
     answer.compare(&other);
     Ok(())
 }

@@ -1,5 +1,5 @@
 //! Whether a server over what a stop has left answers the rest of a script rightly.
-use crate::files::{File, keeper_of};
+use crate::files::{File, StoreOfFiles, keeper_of};
 use crate::front_calls::{run, serve};
 use crate::no_answer::NoAnswer;
 use crate::scripts::server_over;
@@ -76,13 +76,13 @@ fn keeper_goes_on<S: Alter + Drop>(
 }
 
 /// Whether the store in the files is opened, and a server over it goes on behind that message.
-pub fn is_resumed(
+pub fn is_resumed<S: StoreOfFiles>(
     alloc: Global,
     files: Files<File>,
     script: &Script,
     struck: usize,
 ) -> Result<bool, NoAnswer> {
-    match keeper_of(alloc, files) {
+    match keeper_of::<S>(alloc, files) {
         Ok(records) => keeper_goes_on(alloc, records, script, struck),
         Err(_) => Ok(false),
     }

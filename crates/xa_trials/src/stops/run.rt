@@ -1,6 +1,6 @@
 //! A run of a script over files, one of which may be frozen. It ends with the first message that is
 //! refused, the one that the stop has struck.
-use crate::files::{File, files_under, keeper_of};
+use crate::files::{File, StoreOfFiles, files_under, keeper_of};
 use crate::front_calls::serve;
 use crate::no_answer::NoAnswer;
 use crate::scripts::server_over;
@@ -52,12 +52,12 @@ fn is_frozen(files: &mut Files<File>) -> bool {
 }
 
 /// Runs the script over the files, up to the stop. A stop that no message has shown has struck the last.
-pub fn run_of(
+pub fn run_of<S: StoreOfFiles>(
     alloc: Global,
     files: Files<File>,
     messages: &[(Moment, Message)],
 ) -> Result<Run, NoAnswer> {
-    let records = match keeper_of(alloc, files) {
+    let records = match keeper_of::<S>(alloc, files) {
         Ok(records) => records,
         Err(files) => return Ok(Run::Stopped(0, files)),
     };

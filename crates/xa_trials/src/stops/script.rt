@@ -2,7 +2,7 @@
 //! `sql:SQL`, statements that are run in an empty store before a keeper is opened over it. Then come fields
 //! `made:BYTES`, messages by which a keeper comes to hold the same.
 use crate::field::leading_and_rest;
-use crate::files::{File, files_under, new_files};
+use crate::files::{File, StoreOfFiles, files_under, new_files};
 use crate::keepers::run_all;
 use crate::no_answer::NoAnswer;
 use crate::scripts::messages_of;
@@ -24,21 +24,24 @@ pub struct Script {
 }
 
 /// The files of a store in which the statements were run; empty ones, if there are none.
-fn files_after(alloc: Global, statements: &[&str]) -> Result<Files<File>, NoAnswer> {
+fn files_after<S: StoreOfFiles>(
+    alloc: Global,
+    statements: &[&str],
+) -> Result<Files<File>, NoAnswer> {
     if statements.is_empty() {
         return Ok(new_files(alloc));
     }
-    let mut conn = empty_store(alloc)?;
+    let mut conn = empty_store::<S>(alloc)?;
     run_all(alloc, &mut conn, statements)?;
     Ok(files_under(conn))
 }
 
 /// The script of these fields.
-pub fn script_of(alloc: Global, fields: &[&str]) -> Result<Script, NoAnswer> {
+pub fn script_of<S: StoreOfFiles>(alloc: Global, fields: &[&str]) -> Result<Script, NoAnswer> {
     let (statements, rest) = leading_and_rest(fields, "sql");
     let (made, events) = leading_and_rest(rest, "made");
     Ok(Script {
-        files: files_after(alloc, statements)?,
+        files: files_after::<S>(alloc, statements)?,
         made: messages_of(alloc, made)?,
         messages: messages_of(alloc, events)?,
     })
