@@ -15,9 +15,6 @@ GREATEST = {
     "crates/*/src/**/*.rt": 110, "crates/*/specs/**/*.antt": 120, "tests/**/*.py": 120, "bench/*.py": 120,
     "crates/*/*.py": 120, "deploy/**/*.py": 120, "tools/**/*.py": 120,
 }
-# Python whose long lines are still to be wrapped
-NOT_YET = {f"tests/model/{name}.py" for name in (
-    "answers", "asked", "linking", "rows", "servers", "versions", "work")}
 UNBROKEN = re.compile(r"""\s*(?:[\w. =]*b?"(?:[^"\\]|\\.)*"[\s);,}?]*|.*https?://.*|\#!?\[tactic\(.*\)\])""")
 
 
@@ -45,8 +42,6 @@ def main():
     for pattern, greatest in GREATEST.items():
         for path in sorted(TOP.glob(pattern)):
             name = path.relative_to(TOP)
-            if str(name) in NOT_YET:
-                continue
             count += 1
             found = too_long(path, greatest)
             failed += bool(found)

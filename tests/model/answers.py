@@ -51,6 +51,7 @@ def kind_of(argument):
 
 
 def lists(arguments):
+    """Of each argument its values."""
     return [argument[1] if is_bag(argument) else [argument] for argument in arguments]
 
 
@@ -67,6 +68,7 @@ def given(meaning, data_type):
 
 
 def apply(name, *fields):
+    """What a function of values or of bags gives (XACML 3.0, core, appendix A.3.1 to A.3.11)."""
     arguments = arguments_of(fields)
     kinds = [kind_of(argument) for argument in arguments]
     if name in FUNCTIONS:
@@ -82,6 +84,7 @@ def apply(name, *fields):
 
 
 def higher(name, inner, *fields):
+    """What a higher-order function gives (A.3.12)."""
     arguments = arguments_of(fields)
     if name not in HIGHER_ORDER or inner not in FUNCTIONS:
         return ["!NotTaken"]
@@ -94,6 +97,7 @@ def higher(name, inner, *fields):
 
 
 def read_row(data_type, text):
+    """The value of a text under a type (A.2)."""
     try:
         return [shown(read(data_type, text_of(text)))]
     except Fault as fault:
@@ -101,19 +105,25 @@ def read_row(data_type, text):
 
 
 def type_row(name=""):
+    """A data type by its URI or its short name, and its place (B.3)."""
     short = DATA_TYPES.get(name)
     return [short, NAMESPACE + short, str(TYPES.index(short))] if short else ["!None"]
 
 
 def category_row(name=""):
-    return [category(name), "true" if category(name).startswith(SUBJECTS) else "false"] if name in SHORTHANDS else [name]
+    """A category by its shorthand, and whether it is one of subjects (JSON Profile, section 4.2)."""
+    if name not in SHORTHANDS:
+        return [name]
+    return [category(name), "true" if category(name).startswith(SUBJECTS) else "false"]
 
 
 def numbered(number):
+    """The data type of a place."""
     return [TYPES[int(number)] if int(number) < len(TYPES) else "!None"]
 
 
 def plain(data_type, member):
+    """The value of a member of JSON under a type, and how JSON writes it: as a text, a boolean or an integer."""
     word, text = member.split(":", 1)
     if word != "text" and word != data_type:
         return ["!NotThisType"]
@@ -121,15 +131,18 @@ def plain(data_type, member):
     if found[0].startswith("!"):
         return found
     written = found[0].split(":", 1)[1]
-    return found + [{"boolean": f"plain:boolean:{written}", "integer": f"plain:integer:{written}"}.get(data_type, f"plain:text:{written}")]
+    form = data_type if data_type in ("boolean", "integer") else "text"
+    return found + [f"plain:{form}:{written}"]
 
 
 def same(left, right):
+    """Whether two values are equal (A.3.1)."""
     left, right = value_of(left), value_of(right)
     return ["true" if left[0] == right[0] and key(left) == key(right) else "false"]
 
 
 def order(left, right):
+    """The order of two values of a type that has one (A.3.6, A.3.8)."""
     left, right = value_of(left), value_of(right)
     if left[0] != right[0] or left[0] not in ORDERED:
         return ["!None"]
@@ -137,6 +150,7 @@ def order(left, right):
 
 
 def moment(seconds):
+    """The values of the clock (10.2.5)."""
     seconds = int(seconds)
     if not FIRST_MOMENT <= seconds <= LAST_MOMENT:
         return ["!None"]
@@ -144,36 +158,44 @@ def moment(seconds):
 
 
 def function(name=""):
+    """The function of a URI, and its signature (A.3)."""
     return list(NAMES.get(name, ["!None"]))
 
 
 def token(text=""):
+    """Whether the bytes have the shape of a token."""
     return ["true" if route_bodies.is_token(decoded(text)) else "false"]
 
 
 def domain(text=""):
+    """Whether the bytes may name a domain."""
     return ["true" if routes.is_domain_name(decoded(text)) else "false"]
 
 
 def number(most, text=""):
+    """The number that digits are, up to the greatest that may be."""
     held = decoded(text)
     digits = held and all(byte in b"0123456789" for byte in held)
     return [str(int(held))] if digits and int(held) <= int(most) else ["!None"]
 
 
 def months(number):
+    """The yearMonthDuration of so many months (A.2)."""
     return [shown(("yearMonthDuration", int(number)))] if abs(int(number)) <= MAX_MONTHS else ["!None"]
 
 
 def nanoseconds(number):
+    """The dayTimeDuration of so many nanoseconds (A.2)."""
     return [shown(("dayTimeDuration", int(number)))] if abs(int(number)) <= MAX_DAY_TIME else ["!None"]
 
 
 def held(field):
+    """A value as it is held."""
     return [shown(value_of(field))]
 
 
 def digest(text, field):
+    """Whether bytes are the SHA-256 of a text."""
     return ["true" if hashlib.sha256(decoded(text)).digest() == decoded(field) else "false"]
 
 
@@ -240,6 +262,7 @@ def has_its_fields(meaning, fields):
 
 
 def answer(fields):
+    """The answer to a row; None for a kind of row that the model doesn't know."""
     meaning, fields = KINDS.get(fields[0]), fields[1:]
     if meaning is None:
         return None

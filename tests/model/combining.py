@@ -6,10 +6,12 @@ MIRROR = {"Permit": "Deny", "Deny": "Permit", "{P}": "{D}", "{D}": "{P}"}
 
 
 def mirrored(decision):
+    """The decision with Permit and Deny exchanged."""
     return MIRROR.get(decision, decision)
 
 
 def deny_overrides(found):
+    """Deny-overrides (C.2, C.3): the first line that fits."""
     if "Deny" in found:
         return "Deny"
     if "{DP}" in found or "{D}" in found and ("{P}" in found or "Permit" in found):
@@ -18,18 +20,22 @@ def deny_overrides(found):
 
 
 def permit_overrides(found):
+    """Permit-overrides (C.4, C.5), which is deny-overrides with Permit and Deny exchanged."""
     return mirrored(deny_overrides([mirrored(it) for it in found]))
 
 
 def deny_unless_permit(found):
+    """Deny-unless-permit (C.6)."""
     return "Permit" if "Permit" in found else "Deny"
 
 
 def permit_unless_deny(found):
+    """Permit-unless-deny (C.7)."""
     return "Deny" if "Deny" in found else "Permit"
 
 
 def first_applicable(found):
+    """First-applicable (C.8): the first decision but NotApplicable."""
     for it in found:
         if it != "NotApplicable":
             return "{DP}" if it.startswith("{") else it

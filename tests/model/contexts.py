@@ -48,6 +48,7 @@ class Context:
         return named[0][1] if len(named) == 1 else ""
 
     def values_of(self, designator):
+        """The values that a designator names (7.3.5): the request's, else the clock's, else the source's."""
         data_type, category, attribute_id, issuer, _ = designator
         found = self.asked(category, attribute_id, data_type, issuer)
         if found:

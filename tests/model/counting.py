@@ -8,6 +8,7 @@ which rises with each change of what decides, and for the very bytes of the requ
 """
 import collections
 
+from charges import Refused
 from contexts import CLOCK, ENVIRONMENT
 from expressions import Designator
 from json_texts import NotJson
@@ -18,7 +19,7 @@ from replies import error_reply
 from requests import NotProfile, individuals_of, request_of
 from route_bodies import reference_shown, rows_shown
 from routes import owner, route_of
-from work import Refused, spent
+from work import spent
 
 MOST_TEXTS, MOST_VIEWS, MOST_RESPONSES, MOST_BYTES = 128, 128, 512, 16_384
 ROOM_FOR_VIEWS = 268_435_456
@@ -39,6 +40,7 @@ class LastUsed:
         return key in self.held
 
     def put(self, key):
+        """Keeps a key; the one that wasn't used for longest goes, if there are too many."""
         self.held[key] = None
         if len(self.held) > self.most:
             self.held.popitem(last=False)
@@ -52,9 +54,11 @@ class Views:
         self.most, self.room, self.held = MOST_VIEWS, ROOM_FOR_VIEWS, collections.OrderedDict()
 
     def has(self, number, epoch):
+        """Whether the view of that epoch is kept."""
         return self.held.get(number, (None, 0))[0] == epoch
 
     def use(self, number):
+        """The view of the domain is used."""
         self.held.move_to_end(number)
 
     def put(self, number, epoch, size):
@@ -68,6 +72,7 @@ class Views:
 
 
 def body_of(reply):
+    """The body of a reply."""
     return reply.partition(b"\r\n\r\n")[2]
 
 
@@ -159,6 +164,7 @@ class CountingServer(Server):
         self.unread = {}
 
     def answer(self, message, moment):
+        """The reply to the message; or the 503, if a limit is passed."""
         name = owner(message)
         before = self.states.get(name)
         made = super().answer(message, moment)

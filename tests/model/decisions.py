@@ -22,6 +22,7 @@ class NoMoment(Exception):
 
 
 def indeterminate(status):
+    """Indeterminate for any decision, with that status (7.10)."""
     return without_duties("{DP}", status)
 
 

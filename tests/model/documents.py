@@ -49,6 +49,7 @@ ONE_OF = {
 
 
 def algorithms(kind, first):
+    """The combining algorithms of rules, or of policies, by their URIs (appendix C)."""
     found = {f"urn:oasis:names:tc:xacml:3.0:{kind}-combining-algorithm:{name}": name for name in IN_BOTH}
     found.update({f"urn:oasis:names:tc:xacml:1.0:{kind}-combining-algorithm:{name}": name for name in first})
     return found
@@ -97,32 +98,39 @@ def one_of(kind, value):
 
 
 def kept(holds, value, fault="BadValue"):
+    """The value, if that holds."""
     if not holds:
         raise DocumentFault(fault)
     return value
 
 
 def text(value):
+    """A text."""
     return kept(isinstance(value, str), value)
 
 
 def among(known, fault="BadValue"):
+    """Reads one of the known texts."""
     return lambda value: known[kept(text(value) in known, value, fault)]
 
 
 def array(value, least=0):
+    """An array of at least so many items."""
     return kept(isinstance(value, list) and len(value) >= least, value)
 
 
 def optional(reads, found, name):
+    """What is read of a member, if it is there."""
     return reads(found[name]) if name in found else None
 
 
 def each(reads, found, name):
+    """What is read of each item of an array, which may be left out."""
     return [reads(item) for item in array(found.get(name, []))]
 
 
 def identifier(value):
+    """The id of a policy or of a set."""
     return kept(1 <= len(text(value).encode()) <= MAX_ID_BYTES, value)
 
 
@@ -144,10 +152,12 @@ policy_algorithm = among(POLICY_ALGORITHMS, "UnknownAlgorithm")
 
 
 def category(value):
+    """A category, of which a shorthand stands for its URI."""
     return category_named(text(value))
 
 
 def flag(value):
+    """True or false."""
     return kept(isinstance(value, bool), value)
 
 
@@ -165,10 +175,12 @@ def typed_value(found):
 
 
 def attribute_value(value):
+    """An attribute value (5.31)."""
     return typed_value(members("AttributeValue", value))
 
 
 def attribute_designator(value):
+    """An attribute designator (5.29)."""
     found = members("AttributeDesignator", value)
     named, attribute_id = category(found["Category"]), text(found["AttributeId"])
     return Designator(category=named, attribute_id=attribute_id, data_type=data_type(found["DataType"]),
@@ -176,6 +188,7 @@ def attribute_designator(value):
 
 
 def expression(value):
+    """An expression (5.25): a value, a designator, an Apply, a function or a variable."""
     form, inner = one_of("expression", value)
     if form == "AttributeValue":
         return "value", attribute_value(inner)
@@ -192,20 +205,24 @@ def expression(value):
 
 
 def match(value):
+    """A match (5.9)."""
     found = members("Match", value)
     name, literal = text(found["MatchId"]), attribute_value(found["AttributeValue"])
     return name, literal, attribute_designator(found["AttributeDesignator"])
 
 
 def all_of(value):
+    """The matches of an AllOf (5.8)."""
     return [match(item) for item in array(members("AllOf", value)["Match"], 1)]
 
 
 def any_of(value):
+    """The alternatives of an AnyOf (5.7)."""
     return [all_of(item) for item in array(members("AnyOf", value)["AllOf"], 1)]
 
 
 def target(found):
+    """The target (5.6), which is empty if there is none."""
     return each(any_of, members("Target", found["Target"]), "AnyOf") if "Target" in found else []
 
 
@@ -222,6 +239,7 @@ def definitions(found):
 
 
 def assignment(value):
+    """An assignment of an obligation or of advice (5.41)."""
     found = members("AttributeAssignmentExpression", value)
     name = text(found["AttributeId"])
     held = optional(category, found, "Category"), optional(text, found, "Issuer")
@@ -229,6 +247,7 @@ def assignment(value):
 
 
 def duty(table, name, decision):
+    """Reads an obligation (5.39) or advice (5.40), by the names of its table."""
     def reads(value):
         found = members(table, value)
         held = text(found[name]), effect(found[decision])
@@ -241,10 +260,12 @@ obligation, advice = (duty("ObligationExpression", "ObligationId", "FulfillOn"),
 
 
 def duties(found):
+    """The obligations, and the advice."""
     return each(obligation, found, "ObligationExpressions"), each(advice, found, "AdviceExpressions")
 
 
 def rule(value):
+    """A rule (5.21)."""
     found = members("Rule", value)
     text(found["RuleId"])
     held = effect(found["Effect"])
@@ -254,6 +275,7 @@ def rule(value):
 
 
 def policy(value):
+    """A policy (5.14)."""
     found = members("Policy", value)
     held = identifier(found["PolicyId"]), version(found["Version"]), rule_algorithm(found["RuleCombiningAlgId"])
     optional(text, found, "Description")
@@ -262,6 +284,7 @@ def policy(value):
 
 
 def reference(kind, value):
+    """A reference to a policy or a set (5.10, 5.11)."""
     found = members("Reference", value)
     held = text(found["Id"]), optional(pattern, found, "Version")
     earliest, latest = optional(version, found, "EarliestVersion"), optional(version, found, "LatestVersion")
@@ -269,6 +292,7 @@ def reference(kind, value):
 
 
 def child(value, sets):
+    """A child of a policy set that stands in so many."""
     name, inner = one_of("child", value)
     if name == "Policy":
         return policy(inner)
@@ -277,6 +301,7 @@ def child(value, sets):
 
 
 def policy_set(value, sets=1):
+    """A policy set (5.1) inside this many, itself counted."""
     if isinstance(value, dict) and sets > MAX_SETS:
         raise DocumentFault("TooLarge")
     found = members("PolicySet", value)
@@ -288,6 +313,7 @@ def policy_set(value, sets=1):
 
 
 def check_target(applies):
+    """That each match of the target may be made."""
     for alternatives in applies:
         for matches in alternatives:
             for held in matches:
@@ -295,6 +321,7 @@ def check_target(applies):
 
 
 def check_duties(held, variables):
+    """That each expression of obligations and advice has a kind."""
     for listed in held:
         for one in listed:
             for assigned in one.assignments:
@@ -302,6 +329,7 @@ def check_duties(held, variables):
 
 
 def check_rule(held, variables):
+    """The types of a rule, whose condition is a boolean (5.26)."""
     check_target(held.target)
     if held.condition is not None and check(held.condition, variables) != "boolean":
         raise CheckError("WrongType")

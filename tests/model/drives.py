@@ -31,6 +31,7 @@ class Calls:
         self.size, self.fails, self.interrupted, self.count = MOST_READ, 0, range(0), 0
 
     def set(self, text):
+        """Settings of a field: the size of all, the number of the one that fails, or those that are interrupted."""
         word, _, number = text.partition(" ")
         first, _, last = number.partition("-")
         if word == "size":
@@ -84,10 +85,12 @@ class Driving(Connections):
         self.peer, self.moments = Peer(), None
 
     def comes(self, text):
+        """The peer sends bytes."""
         self.peer.sends += decoded(text)
         return []
 
     def calls(self, word, text):
+        """Settings of the peer's calls."""
         getattr(self.peer, word).set(text)
         return []
 
@@ -150,6 +153,7 @@ class Driving(Connections):
             return str(end)
 
     def drive(self, text):
+        """How the connection ends, and what the peer has got."""
         end, peer = self.driven(int(text)), self.peer
         self.peer, self.moments = Peer(), None
         unflushed = ["unflushed:" + encoded(peer.kept)] if peer.kept else []

@@ -42,6 +42,7 @@ class Variables:
         return True
 
     def kind(self, name):
+        """The kind of a variable that is defined."""
         if name not in self.kinds:
             raise CheckError("UnknownVariable")
         return self.kinds[name]
@@ -178,6 +179,7 @@ class Evaluation:
         return boolean(found == wanted)
 
     def higher(self, verb, inner, arguments):
+        """What a higher-order function gives (A.3.12)."""
         _, gives, meaning = FUNCTIONS[inner]
         found = higher_order(verb, meaning, [listed(self.value(argument)) for argument in arguments])
         return (gives, found) if verb == "map" else found
@@ -191,6 +193,7 @@ def values_among(attributes):
 
 
 def names(designator, attribute):
+    """Whether the designator names the attribute (7.3.4)."""
     return designator[:3] == attribute[:3] and designator.issuer in (None, attribute.issuer)
 
 
@@ -200,6 +203,7 @@ def listed(given):
 
 
 def status(fault):
+    """The code of the status by which a fault is told (5.55, B.8)."""
     return (STATUS
             + {"BadText": "syntax-error", "MissingAttribute": "missing-attribute"}.get(str(fault), "processing-error"))
 
@@ -228,6 +232,7 @@ def first_of(parts, wanted, otherwise):
 
 
 def match_value(evaluation, name, literal, designator):
+    """What a match comes to (7.6)."""
     def part(value):
         try:
             return TRUE if FUNCTIONS[name][2](literal, value)[1] else FALSE
@@ -242,8 +247,10 @@ def match_value(evaluation, name, literal, designator):
 def target_value(evaluation, target):
     """The target is a list of lists of lists of matches: all of them, of each one, of that all have to be true."""
     def all_of(matches):
+        """All of the matches (7.7)."""
         return first_of([match_value(evaluation, *match) for match in matches], FALSE, TRUE)
 
     def any_of(alternatives):
+        """One of the alternatives (7.7)."""
         return first_of([all_of(matches) for matches in alternatives], TRUE, FALSE)
     return first_of([any_of(alternatives) for alternatives in target], FALSE, TRUE)

@@ -33,6 +33,7 @@ class Front:
         return number
 
     def stream(self, number):
+        """The stream of a connection that is open."""
         if self.streams[number] is None:
             raise Refused("NoSuchConnection")
         return self.streams[number]
@@ -61,6 +62,7 @@ class Front:
         return found
 
     def close(self, number):
+        """The number is free again."""
         self.stream(number)
         self.streams[number] = None
 
@@ -69,6 +71,7 @@ class Front:
 
 
 def replies_of(answers):
+    """The bytes of the answers."""
     return b"".join(answer.reply for answer in answers)
 
 
@@ -84,6 +87,7 @@ class Connections:
         self.front, self.moment, self.waiting = Front(server), 0, {}
 
     def begin(self, _):
+        """A connection is opened."""
         return [f"begun {self.front.open()}"]
 
     def piece(self, text):
@@ -100,10 +104,12 @@ class Connections:
         return in_runs(each_encoded(answer.reply for answer in answers)) + last_of(answers) or ["!None"]
 
     def finish(self, text):
+        """A connection is closed."""
         self.front.close(int(text))
         return ["finished"]
 
     def dated(self, text):
+        """The clock is set."""
         self.moment = int(text)
         return []
 

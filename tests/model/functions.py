@@ -14,20 +14,24 @@ FUNCTIONS = {}
 
 
 def function(beginning, name, takes, gives, meaning):
+    """Puts a function of values under its URI."""
     FUNCTIONS[beginning + name] = (takes, gives, meaning)
 
 
 def boolean(holds):
+    """The value of a boolean."""
     return "boolean", holds
 
 
 def integer(number):
+    """The value of an integer, within 64 bits."""
     if not -2**63 <= number < 2**63:
         raise Fault("Overflow")
     return "integer", number
 
 
 def from_left(step):
+    """What sums or multiplies two integers or more (A.3.2)."""
     def meaning(first, *others):
         for other in others:
             first = integer(step(first[1], other[1]))
@@ -44,12 +48,14 @@ def quotient(dividend, divisor):
 
 
 def n_of(count, *booleans):
+    """Whether so many of the booleans are true (A.3.5)."""
     if not 0 <= count[1] <= len(booleans):
         raise Fault("Position")
     return boolean(sum(held for _, held in booleans) >= count[1])
 
 
 def substring(text, begin, end):
+    """The part of a text from a place up to another, or to the end (A.3.9)."""
     length = len(text[1])
     last = length if end[1] == -1 else end[1]
     if not 0 <= begin[1] <= last <= length:
@@ -58,6 +64,7 @@ def substring(text, begin, end):
 
 
 def from_string(data_type):
+    """What reads the value of a text (A.3.9)."""
     def meaning(text):
         try:
             return read(data_type, text[1])
@@ -67,6 +74,7 @@ def from_string(data_type):
 
 
 def after_months(date, months):
+    """The date so many months later (A.3.7): on the month's last day, if the day isn't there."""
     count = date[0] * 12 + date[1] - 1 + months
     year, month = count // 12, count % 12 + 1
     if not 1 <= year <= 9999:
@@ -75,6 +83,7 @@ def after_months(date, months):
 
 
 def after_nanos(moment, nanos):
+    """The date and time so many nanoseconds later (A.3.7)."""
     date, clock, zone = moment
     day, rest = divmod(day_number(*date) * DAY + clock + nanos, DAY)
     if not 0 <= day <= day_number(9999, 12, 31):
@@ -83,6 +92,8 @@ def after_nanos(moment, nanos):
 
 
 def time_in_range(time, start, end):
+    """Whether a time is from one to another (A.3.8), which may be on the next day; a bound without zone has the
+    time's."""
     own = time[1][1] or 0
 
     def instant(bound):
@@ -130,6 +141,7 @@ function(V2, "time-in-range", ["time"] * 3, "boolean", time_in_range)
 
 
 def is_among(value, others):
+    """Whether the value equals one of the others."""
     return any(key(value) == key(other) for other in others)
 
 
@@ -143,10 +155,12 @@ def distinct(values):
 
 
 def subset(first, second):
+    """Whether each value of the first is among the second (A.3.11)."""
     return all(is_among(value, second) for value in first)
 
 
 def one_and_only(values):
+    """The one value of a bag (A.3.10)."""
     if len(values) != 1:
         raise Fault("NotOne")
     return values[0]

@@ -18,17 +18,20 @@ class Fraction:
 
 
 def fraction(text):
+    """A number (RFC 8259, section 6) that isn't whole, or is large."""
     if abs(float(text)) == float("inf"):
         raise ValueError(text)
     return Fraction()
 
 
 def number(text):
+    """A whole number (RFC 8259, section 6), within 64 bits with a sign or without."""
     whole = int(text)
     return whole if text != "-0" and -2**63 <= whole < 2**64 else fraction(text)
 
 
 def refused(constant):
+    """NaN and the infinities, which are no JSON."""
     raise ValueError(constant)
 
 

@@ -1,4 +1,5 @@
-"""Linking: the tree in which each reference has given way to the document for which it stands (XACML 3.0, core, sections 5.10, 5.11, 7.15)."""
+"""Linking: the tree in which each reference has given way to the document for which it stands (XACML 3.0, core,
+sections 5.10, 5.11, 7.15)."""
 import collections
 
 from documents import Document, DocumentFault, document_of
@@ -33,15 +34,22 @@ def active_of(field):
 
 
 class Linking:
-    """Trees over active documents, of this many policies and sets so far; references that have no document are not counted. And the places of the documents that were
-    looked into so far, each once, in order."""
+    """Trees over active documents."""
 
     def __init__(self, active):
-        self.active, self.keys, self.size, self.read = active, [held[:3] for held in active], 0, {}
-        self.children, self.looks, self.found = 0, 0, {}
+        self.active, self.keys = active, [held[:3] for held in active]
+        # how many policies and sets the trees have so far; references that have no document are not counted
+        self.size = 0
+        # the places of the documents that were looked into so far, each once, in order
+        self.read = {}
+        # the children of the documents that were looked into, and how many documents their references looked at in vain
+        self.children, self.looks = 0, 0
+        # what was found for each reference
+        self.found = {}
 
     def referred(self, reference, path):
-        """The tree for which the reference stands, under the documents of the path."""
+        """The tree for which the reference stands, under the documents of the path (7.15): a leaf if there is no
+        document, if it stands on the path, or if the path is as long as may be."""
         place, _ = self.found_for(reference)
         if place is None or place in path or len(path) == MOST_ON_A_PATH:
             return LEAF
@@ -71,12 +79,14 @@ class Linking:
             raise TooManyLooks
 
     def tree(self, document, path):
+        """The tree of a document that stands under those of the path."""
         self.size += 1
         if self.size > MOST_IN_A_TREE:
             raise TooLarge
         if document.form == "Policy":
             return Tree(document, ())
-        return Tree(document, [self.tree(child, path) if isinstance(child, Document) else self.referred(child, path) for child in document.children])
+        return Tree(document, [self.tree(child, path) if isinstance(child, Document) else self.referred(child, path)
+                               for child in document.children])
 
 
 def linked(active, root):
@@ -85,7 +95,8 @@ def linked(active, root):
 
 
 def places_read(active, root):
-    """The places of the documents that are looked into for the tree of the root reference, in order; up to where it is known to be too large, if it is."""
+    """The places of the documents that are looked into for the tree of the root reference, in order; up to where it is
+    known to be too large, if it is."""
     linking = Linking(active)
     try:
         linking.referred(root, [])

@@ -32,15 +32,18 @@ CREATED, DONE = reply(201, b"{}"), reply(200, b"{}")
 
 
 def digest(token):
+    """The SHA-256 of a token, by which it is kept."""
     return hashlib.sha256(token).digest() if token is not None else None
 
 
-def unless(is_refused, code):
+def refuse_if(is_refused, code):
+    """Turns the message away, if that is so."""
     if is_refused:
         raise Error(code)
 
 
 def without(held, key):
+    """What is held but for one key."""
     return {it: inner for it, inner in held.items() if it != key}
 
 
@@ -56,25 +59,29 @@ def in_body(reads, body):
 
 
 def create(state, _):
-    unless(state is not None, "Exists")
+    """`PUT` of a domain: it is there, and has nothing."""
+    refuse_if(state is not None, "Exists")
     return CREATED, NEW
 
 
 def remove(state, _):
-    unless(state is None, "Absent")
+    """`DELETE` of a domain with all that it has."""
+    refuse_if(state is None, "Absent")
     return DONE, None
 
 
 def put(state, asked):
+    """`POST` of a token, whose role may change."""
     role, token = in_body(new_token_of, asked.body)
-    unless(state is None, "Absent")
-    unless(digest(token.encode()) not in state.tokens and len(state.tokens) == MOST_TOKENS, "Quota")
+    refuse_if(state is None, "Absent")
+    refuse_if(digest(token.encode()) not in state.tokens and len(state.tokens) == MOST_TOKENS, "Quota")
     return DONE, state._replace(tokens={**state.tokens, digest(token.encode()): role})
 
 
 def drop(state, asked):
+    """`DELETE` of a token."""
     token = in_body(old_token_of, asked.body)
-    unless(state is None or digest(token.encode()) not in state.tokens, "Absent")
+    refuse_if(state is None or digest(token.encode()) not in state.tokens, "Absent")
     return DONE, state._replace(tokens=without(state.tokens, digest(token.encode())))
 
 
@@ -88,6 +95,7 @@ def view(state):
 
 
 def decide(state, asked):
+    """`POST` of a request: the response to it."""
     try:
         return reply(200, response(view(state), asked.body, asked.moment).encode(), "xacml+json"), state
     except NotJson:
@@ -95,24 +103,28 @@ def decide(state, asked):
 
 
 def upload(state, asked):
+    """`POST` of a policy or a set, which is kept and not active; the same text again changes nothing."""
     document = in_body(document_of, asked.body)
     key = Key("policy" if document.form == "Policy" else "set", document.id, tuple(numbered(document.version)))
     if key in state.documents:
-        unless(state.documents[key].text != asked.body, "SameVersionOtherText")
+        refuse_if(state.documents[key].text != asked.body, "SameVersionOtherText")
         return DONE, state
-    unless(len(state.documents) == MOST_DOCUMENTS, "Quota")
+    refuse_if(len(state.documents) == MOST_DOCUMENTS, "Quota")
     return CREATED, state._replace(documents={**state.documents, key: Stored(asked.body, False)})
 
 
 def version_shown(key):
+    """A version as replies have it."""
     return ".".join(map(str, key.version))
 
 
 def entry(key, stored):
+    """A document in the list of all."""
     return {"Active": stored.is_active, "Id": key.id, "Kind": NAMES[key.kind], "Version": version_shown(key)}
 
 
 def listed(state, _):
+    """`GET` of the list of documents."""
     return reply(200, compact({"Policy": [entry(key, state.documents[key]) for key in sorted(state.documents)]})), state
 
 
@@ -122,21 +134,24 @@ def key_in(parts, documents):
         key = Key(KINDS.get(parts["kind"]), parts["id"].decode(), tuple(numbers(parts["version"].decode())))
     except (UnicodeDecodeError, NoVersion):
         raise Error("Absent") from None
-    unless(key not in documents, "Absent")
+    refuse_if(key not in documents, "Absent")
     return key
 
 
 def show(state, asked):
+    """`GET` of a document's text."""
     return reply(200, state.documents[key_in(asked.parts, state.documents)].text), state
 
 
 def delete(state, asked):
+    """`DELETE` of a document that isn't active."""
     key = key_in(asked.parts, state.documents)
-    unless(state.documents[key].is_active, "StillActive")
+    refuse_if(state.documents[key].is_active, "StillActive")
     return DONE, state._replace(documents=without(state.documents, key))
 
 
 def set_active(is_active):
+    """`PUT` and `DELETE` of a document's being active."""
     def change(state, asked):
         key = key_in(asked.parts, state.documents)
         return (DONE,
@@ -145,16 +160,19 @@ def set_active(is_active):
 
 
 def set_root(state, asked):
+    """`PUT` of the root."""
     return DONE, state._replace(root=in_body(root_of, asked.body))
 
 
 def set_source(state, asked):
+    """`PUT` of the source's rows."""
     rows = in_body(rows_of, asked.body)
-    unless(len(rows) > MOST_ROWS, "Quota")
+    refuse_if(len(rows) > MOST_ROWS, "Quota")
     return DONE, state._replace(rows=rows)
 
 
 def show_rows(state, _):
+    """`GET` of the source's rows."""
     return reply(200, rows_shown(state.rows)), state
 
 
@@ -182,7 +200,7 @@ def check_token(operator, state, message, command):
     role = None if state is None else state.tokens.get(shown)
     if shown != operator if command in OF_OPERATOR else role is None:
         raise Error("Unauthorized", "WWW-Authenticate: Bearer\r\n")
-    unless(role == "Ask" and command not in (*OF_OPERATOR, "decide"), "Forbidden")
+    refuse_if(role == "Ask" and command not in (*OF_OPERATOR, "decide"), "Forbidden")
 
 
 def step(operator, state, message, moment):
@@ -201,7 +219,7 @@ def general(operator, names, message):
     try:
         route = route_of(message)
         check_token(operator, None, message, route.command)
-        unless(route.command != "domains", "BadDomain")
+        refuse_if(route.command != "domains", "BadDomain")
         return reply(200, compact({"Domain": sorted(names)}))
     except Error as error:
         return error.reply

@@ -33,17 +33,20 @@ class Head:
         self.held, self.at = held, 0
 
     def byte(self):
+        """The next byte."""
         if self.at == len(self.held):
             raise More
         self.at += 1
         return self.held[self.at - 1]
 
     def expect(self, text):
+        """That these bytes follow."""
         for wanted in text:
             if self.byte() != wanted:
                 raise Bad
 
     def until(self, ends, allowed):
+        """The bytes before one of the ends, all of which are allowed, and the end."""
         start = self.at
         while (byte := self.byte()) not in ends:
             if not allowed(byte):
@@ -65,6 +68,8 @@ class Head:
         return part
 
     def read(self):
+        """The request line and the fields (RFC 9112, sections 2.2, 3 and 5), and whether the message ends its stream
+        (section 9.3)."""
         while (byte := self.byte()) in b"\r\n":
             self.line_end(byte)
         self.at -= 1
@@ -83,6 +88,7 @@ class Head:
         return method, target, fields, minor == b"0"[0] or closes(fields)
 
     def fields(self):
+        """The fields up to the empty line (RFC 9112, section 5)."""
         fields = []
         while (byte := self.byte()) not in b"\r\n":
             self.at -= 1
@@ -97,6 +103,7 @@ class Head:
 
 
 def values_of(name, fields):
+    """The values of the fields of that name, which is in small letters (RFC 9110, section 5.1)."""
     return [value for held, value in fields if held.lower() == name]
 
 
@@ -151,6 +158,7 @@ class Stream:
 
 
 def token_shown(fields):
+    """The token that the one field Authorization shows (RFC 9110, section 11.6.2; RFC 6750, section 2.1)."""
     shown = values_of(b"authorization", fields)
     if len(shown) != 1 or shown[0][:7].lower() != b"bearer ":
         return None

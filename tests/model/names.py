@@ -1,7 +1,8 @@
 """The names of the functions (XACML 3.0, core, appendix A.3), each with the function that it names and its signature.
 
 NAMES has each function by its URI: the function's families, and what it takes and gives, as the program writes them. A
-function that no version of the standard has is of the version "", and its name is the whole URI.
+function that no version of the standard has is of the version "", and its name is the whole URI. TAKEN has the kinds
+that each takes and gives, as they are written here; of a higher-order function it has none.
 """
 from values import TYPES
 
@@ -9,7 +10,7 @@ VERSIONS = ("1.0", "2.0", "3.0")
 DURATIONS = ("dayTimeDuration", "yearMonthDuration")
 ORDERED = ("integer", "string", "time", "date", "dateTime")
 PRINTED = ("boolean", "integer", "date", "time", "dateTime", "anyURI") + DURATIONS
-NAMES = {}
+NAMES, TAKEN = {}, {}
 
 
 def uri(version, name):
@@ -39,6 +40,7 @@ def parameters(takes):
 
 def function(version, name, is_named, takes, gives):
     NAMES[uri(version, name)] = (is_named, f"FirstOrder({parameters(takes)}, {kind(gives)})")
+    TAKEN[uri(version, name)] = (takes, gives)
 
 
 for t in TYPES:

@@ -32,10 +32,12 @@ SETTLING = {
 
 
 def without_duties(decision, code=OK):
+    """What decides so, without obligations and advice, and names nothing."""
     return Evaluated(decision, code, [], [])
 
 
 def is_indeterminate(decision):
+    """Whether the decision is an extended Indeterminate (7.10)."""
     return decision.startswith("{")
 
 

@@ -38,7 +38,8 @@ class Domain:
         return dict(self.documents), self.root and reference_shown(self.root), rows_shown(self.source)
 
 
-def unless(is_refused, why):
+def refuse_if(is_refused, why):
+    """Refuses the change, if that is so."""
     if is_refused:
         raise Refused(why)
 
@@ -47,56 +48,64 @@ def unless(is_refused, why):
 
 
 def put(domain, text):
+    """A token is given to the domain, or has another role."""
     role, token = text.split(" ", 1)
     token = decoded(token)
-    unless(token not in domain.tokens and len(domain.tokens) == MOST_TOKENS, "Quota")
+    refuse_if(token not in domain.tokens and len(domain.tokens) == MOST_TOKENS, "Quota")
     domain.tokens[token] = {"ask": "Ask", "admin": "Admin"}[role]
 
 
 def drop(domain, text):
+    """A token is taken away."""
     token = decoded(text)
-    unless(token not in domain.tokens, "Absent")
+    refuse_if(token not in domain.tokens, "Absent")
     del domain.tokens[token]
 
 
 def upload(domain, text):
+    """A document is kept, which isn't active; the same text again changes nothing."""
     kind, name, version, _ = active_of(text)
     key = kind, name.encode(), tuple(version)
     if key in domain.documents:
-        unless(domain.documents[key][0] != text_of(text), "SameVersionOtherText")
+        refuse_if(domain.documents[key][0] != text_of(text), "SameVersionOtherText")
         return "Same"
-    unless(len(domain.documents) == MOST_DOCUMENTS, "Quota")
+    refuse_if(len(domain.documents) == MOST_DOCUMENTS, "Quota")
     domain.documents[key] = text_of(text), False
     return "New"
 
 
 def key_of(text):
+    """The key of a document in a field."""
     kind, name, version = text.split("|")
     return kind, text_of(name).encode(), tuple(numbers(version))
 
 
 def set_active(is_active):
+    """What makes a document active, or inactive."""
     def change(domain, text):
         key = key_of(text)
-        unless(key not in domain.documents, "Absent")
+        refuse_if(key not in domain.documents, "Absent")
         domain.documents[key] = domain.documents[key][0], is_active
     return change
 
 
 def delete(domain, text):
+    """A document that isn't active is deleted."""
     key = key_of(text)
-    unless(key not in domain.documents, "Absent")
-    unless(domain.documents[key][1], "StillActive")
+    refuse_if(key not in domain.documents, "Absent")
+    refuse_if(domain.documents[key][1], "StillActive")
     del domain.documents[key]
 
 
 def set_root(domain, text):
+    """The root is set, or there is none."""
     domain.root = reference_of(text) if text else None
 
 
 def set_source(domain, text):
+    """The source's rows are set."""
     rows = rows_of(decoded(text))
-    unless(len(rows) > MOST_ROWS, "Quota")
+    refuse_if(len(rows) > MOST_ROWS, "Quota")
     domain.source = rows
 
 
@@ -108,29 +117,35 @@ CHANGES = {"put": put, "drop": drop, "upload": upload, "activate": set_active(Tr
 
 
 def gate(domain, _):
+    """Number, epoch and how many tokens there are."""
     return [f"number {domain.number} epoch {domain.epoch} tokens {len(domain.tokens)}"]
 
 
 def role(domain, text):
+    """The role of a token."""
     return [domain.tokens.get(decoded(text), "!None")]
 
 
 def document(domain, text):
+    """The text of a document."""
     found = domain.documents.get(key_of(text))
     return [encoded(found[0]) if found else "!None"]
 
 
 def key_shown(key):
+    """The field of a document's key."""
     kind, name, version = key
     return "|".join([kind, encoded(name), ".".join(map(str, version))])
 
 
 def listed(domain, _):
+    """The keys of all documents, in order."""
     return [("active:" if domain.documents[key][1] else "inactive:") + key_shown(key)
             for key in sorted(domain.documents)] + ["."]
 
 
 def view(domain, _):
+    """What decides: active texts, the root, and the rows."""
     active = [domain.documents[key][0] for key in sorted(domain.documents) if domain.documents[key][1]]
     root = reference_shown(domain.root) if domain.root else "!None"
     return (["active:" + encoded(text) for text in active]
@@ -155,18 +170,20 @@ class Keeper:
         return number + 1
 
     def create(self, name):
+        """A domain is made, with the next number."""
         if not is_domain_name(name.encode()):
             raise Malformed
-        unless(name in self.domains, "Exists")
+        refuse_if(name in self.domains, "Exists")
         self.next, number = self.raised(self.next), self.next
         self.domains[name] = Domain(number)
 
     def remove(self, name):
-        unless(name not in self.domains, "Absent")
+        """A domain is removed."""
+        refuse_if(name not in self.domains, "Absent")
         del self.domains[name]
 
     def change(self, change, name, text):
-        unless(name not in self.domains, "Absent")
+        refuse_if(name not in self.domains, "Absent")
         domain = copy.copy(self.domains[name])
         domain.tokens, domain.documents = dict(domain.tokens), dict(domain.documents)
         found = change(domain, text)

@@ -16,6 +16,7 @@ STATUSES = {
 
 
 def reply(status, body, media="json", line=""):
+    """The bytes of a reply, which may have a line more in its head."""
     head = (f"HTTP/1.1 {status} {PHRASES[status]}\r\nContent-Type: application/{media}\r\n"
             f"Content-Length: {len(body)}\r\n{line}\r\n")
     return head.encode() + body

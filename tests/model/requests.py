@@ -20,22 +20,26 @@ Attribute = collections.namedtuple("Attribute", "id issuer is_included data_type
 
 
 def of_kind(kind, found):
+    """The JSON, which is of this kind."""
     if type(found) is not kind:
         raise NotProfile
     return found
 
 
 def at(found, name, kind, absent):
+    """A member that may be left out."""
     return of_kind(kind, found[name]) if name in found else absent
 
 
 def needed(found, name, kind):
+    """A member that has to be there."""
     if name not in found:
         raise NotProfile
     return of_kind(kind, found[name])
 
 
 def listed(found):
+    """The items of an array, or what stands alone in its place."""
     return found if type(found) is list else [found]
 
 
@@ -45,6 +49,7 @@ def objects(found, name):
 
 
 def type_of(name):
+    """The data type of that name (4.2; core, B.3)."""
     if name not in DATA_TYPES:
         raise NotProfile
     return DATA_TYPES[name]
@@ -61,6 +66,7 @@ def value(data_type, held):
 
 
 def attribute(found):
+    """An attribute (4.2), whose type is that of its JSON if it names none."""
     name, issuer = needed(found, "AttributeId", str), at(found, "Issuer", str, None)
     included, named = at(found, "IncludeInResult", bool, False), at(found, "DataType", str, None)
     held = listed(found["Value"]) if "Value" in found else []
@@ -79,6 +85,7 @@ def category_object(found, named):
 
 
 def references(found):
+    """The ids of objects that each reference of MultiRequests names (4.2; Multiple Decision Profile, section 2)."""
     if "MultiRequests" not in found:
         return []
     group = of_kind(dict, found["MultiRequests"])
@@ -133,6 +140,7 @@ def individuals_of(found, named):
 
 
 def request(body):
+    """The answer to a row: what the request asks for."""
     try:
         (combined, identified), found, _ = request_of(decoded(body))
     except (NotJson, NotProfile) as fault:
@@ -147,6 +155,7 @@ def request(body):
 
 
 def individuals(body):
+    """The answer to a row: the places of each individual request's objects."""
     try:
         _, found, named = request_of(decoded(body))
     except (NotJson, NotProfile):

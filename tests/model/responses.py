@@ -12,6 +12,7 @@ def plain(value):
 
 
 def without_absent(members):
+    """The members that have a value."""
     return {name: held for name, held in members.items() if held is not None}
 
 
@@ -22,11 +23,13 @@ def duties_shown(duties):
 
 
 def assignment_shown(assigned):
+    """An assignment of an obligation or of advice (5)."""
     return without_absent({"AttributeId": assigned.attribute_id, "Category": assigned.category, "DataType": NAMESPACE
                            + assigned.value[0], "Issuer": assigned.issuer, "Value": plain(assigned.value)})
 
 
 def attribute_shown(attribute):
+    """An attribute that is included in the result (5): one value alone, or an array."""
     values = [plain(value) for value in attribute.values]
     return without_absent({"AttributeId": attribute.id, "DataType": NAMESPACE + attribute.data_type,
                            "Issuer": attribute.issuer, "Value": values[0] if len(values) == 1 else values})

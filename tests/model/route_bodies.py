@@ -28,6 +28,7 @@ def is_token(held):
 
 
 def token(value):
+    """A text that has the shape of a token."""
     return kept(is_token(text(value).encode()), value)
 
 
@@ -38,6 +39,7 @@ def new_token_of(held):
 
 
 def old_token_of(held):
+    """The token of a body."""
     return token(members("OldToken", json_in(held))["Token"])
 
 
@@ -52,6 +54,7 @@ def root_of(held):
 
 
 def source_row(value):
+    """A row of a source of attributes."""
     found = members("SourceRow", value)
     return SourceRow(category(found["Category"]), text(found["Entity"]), text(found["AttributeId"]), typed_value(found),
                      optional(text, found, "Issuer"))
@@ -63,6 +66,7 @@ def rows_of(held):
 
 
 def row_shown(row):
+    """A row in JSON, as it is listed."""
     shown = {"AttributeId": row.attribute_id, "Category": row.category, "DataType": NAMESPACE + row.value[0],
              "Entity": row.entity, "Value": plain(row.value)}
     return shown if row.issuer is None else {**shown, "Issuer": row.issuer}

@@ -59,6 +59,7 @@ def place_of(target):
 
 
 def is_domain_name(held):
+    """Whether the bytes may name a domain: 1 to 32 small letters, digits and `-`, not first."""
     return 1 <= len(held) <= 32 and held[0] in LETTERS and all(byte in LETTERS + b"-" for byte in held)
 
 

@@ -2,9 +2,17 @@
 
 In a field a backslash begins an escape: \\n, \\r, \\t, \\\\, \\xHH for a byte, and \\{COUNT,TEXT\\} for COUNT times
 the text, in which no other is repeated.
-Sources may also write \\u{HEX} for a character, letters beyond ASCII as they are, \\(NAME) for a text that a line `define NAME TEXT` gave
-before, where `file:PATH` is the text of a file of the repository and `rows:PATH` a field `row:..` for each source row in one, \\[COUNT,TEXT\\]
-for COUNT times the text, and \\[FIRST-LAST,TEXT\\] for the text once with each of these numbers where it has \\#, and the one before where it has \\-; two spaces or more part fields too, fields between `[COUNT` and `]` stand COUNT times, and a field that begins with `(` or `<` is parted at spaces and before `)` and `>`.
+
+Sources may also write:
+- \\u{HEX} for a character, and letters beyond ASCII as they are;
+- \\(NAME) for a text that a line `define NAME TEXT` gave before, where `file:PATH` is the text of a file of the
+  repository, and `rows:PATH` a field `row:..` for each source row in one;
+- \\[COUNT,TEXT\\] for COUNT times the text;
+- \\[FIRST-LAST,TEXT\\] for the text once with each of these numbers where it has \\#, and the one before where it
+  has \\-;
+- two spaces or more between fields;
+- fields between `[COUNT` and `]`, which stand COUNT times;
+- a field that begins with `(` or `<`, which is parted at spaces and before `)` and `>`.
 """
 import json
 import pathlib
@@ -60,7 +68,9 @@ def shortened(held):
     """The same, where a few bytes that stand there again and again are written once."""
     parts = re.split(rb"((?s:(.{1,8}?)\2{15,}))", held)
     texts = [encoded(part) for part in parts]
-    return texts[0] + "".join(f"\\{{{len(parts[at]) // len(parts[at + 1])},{texts[at + 1]}\\}}" + texts[at + 2] for at in range(1, len(parts), 3))
+    # the parts are what stands alone, then by threes what is repeated, one of it, and what stands alone again
+    repeats = ((len(parts[at]) // len(parts[at + 1]), texts[at + 1], texts[at + 2]) for at in range(1, len(parts), 3))
+    return texts[0] + "".join(f"\\{{{count},{one}\\}}{plain}" for count, one, plain in repeats)
 
 
 def text_of(field):
@@ -111,7 +121,8 @@ def repeated(fields):
 def numbered(found):
     """The text of a match of its first number, its last one and itself, once with each number."""
     first, last, text = found.groups()
-    return "".join(text.replace("\\#", str(number)).replace("\\-", str(number - 1)) for number in range(int(first), int(last) + 1))
+    return "".join(text.replace("\\#", str(number)).replace("\\-", str(number - 1))
+                   for number in range(int(first), int(last) + 1))
 
 
 def parted(field):
@@ -146,6 +157,7 @@ class Source:
                 self.take(number, text.strip())
 
     def take(self, number, text):
+        """Takes the line of this number: a comment, a definition or a row."""
         if not text or text.startswith("#"):
             return
         text = re.sub(r"\\\((\w+)\)", lambda found: self.defined[found.group(1)], text)

@@ -1,4 +1,5 @@
-"""What a server answers to the messages of a stream, after messages that make its domains, with tokens, documents, a root and a source of attributes."""
+"""What a server answers to the messages of a stream, after messages that make its domains, with tokens, documents, a
+root and a source of attributes."""
 import re
 from urllib.parse import quote
 
@@ -24,6 +25,7 @@ def quoted(held):
 
 
 def json_object(members):
+    """The object of members whose values are JSON."""
     return b"{" + b",".join(b'"%b":%b' % (name.encode(), held) for name, held in members) + b"}"
 
 
@@ -33,10 +35,12 @@ def path(*parts):
 
 
 def new_token(role, token):
+    """The body that gives a domain a token."""
     return json_object([("Role", quoted(role.encode())), ("Token", quoted(token))])
 
 
 def old_token(token):
+    """The body that takes a token away."""
     return json_object([("Token", quoted(token))])
 
 
@@ -56,6 +60,7 @@ def row(field):
 
 
 def rows(fields):
+    """The body that sets the source's rows."""
     return json_object([("Row", b"[" + b",".join(map(row, fields)) + b"]")])
 
 
@@ -66,14 +71,17 @@ class Setup:
         self.server, self.name, self.rows = server, None, []
 
     def send(self, method, target, body, token=OPERATOR_TOKEN):
+        """Sends a message, which has to succeed."""
         reply = self.server.answer(Message(method, target, [(b"Authorization", b"Bearer " + token)], body), 0)
         if not re.match(rb"HTTP/1.1 20[01] ", reply):
             raise TurnedAway(reply)
 
     def by_operator(self, method, body, *parts):
+        """A message of the operator about the domain."""
         self.send(method, path("operator", "domains", self.name, *parts), body)
 
     def by_domain(self, method, body, *parts):
+        """A message of the domain's administrator."""
         self.send(method, path("domains", self.name, *parts), body, SETUP_TOKEN)
 
     def views(self, text):
@@ -97,6 +105,7 @@ class Setup:
         self.server.views.room = int(text)
 
     def domain(self, text):
+        """A domain of this name begins; what follows is its own."""
         self.end()
         self.name = decoded(text)
         self.by_operator(b"PUT", b"")
@@ -109,9 +118,11 @@ class Setup:
         self.by_operator(b"POST", new_token("admin", decoded(text)), "tokens")
 
     def inactive(self, text):
+        """A document that stays inactive."""
         self.by_domain(b"POST", decoded(text), "pap", "policies")
 
     def document(self, text):
+        """A document that is made active."""
         self.inactive(text)
         document = document_of(decoded(text))
         kind = "policy" if document.form == "Policy" else "policyset"
@@ -161,11 +172,13 @@ def in_runs(shown):
 
 
 def each_encoded(replies):
+    """The field of each reply, alone in a list."""
     return [[encoded(reply)] for reply in replies]
 
 
 def replied(stream, server, moment, held):
-    """The replies to the messages that are whole after these bytes, the reply to a fault, if it is one that follows, and what the stream answers then."""
+    """The replies to the messages that are whole after these bytes, the reply to a fault, if it is one that follows,
+    and what the stream answers then."""
     stream.held += held
     replies = []
     while isinstance(found := stream.next(), Message):

@@ -27,7 +27,7 @@ class NotOpened(Exception):
     """Why the store isn't opened."""
 
 
-def unless(is_refused, why):
+def refuse_if(is_refused, why):
     if is_refused:
         raise NotOpened(why)
 
@@ -130,24 +130,24 @@ JUDGED = {
 
 def judge(db, schema, following):
     """That all rows are sound, where the next domain has that number."""
-    unless(following < 0, "Damaged")
+    refuse_if(following < 0, "Damaged")
     found = {}
     for table in OF_SCHEMA[schema]:
         if table in JUDGED:
             columns, is_sound = JUDGED[table]
             found[table] = select(db, columns, table)
-            unless(not all(0 <= row[0] < following and is_sound(*row[1:]) for row in found[table]), "Damaged")
-    unless(schema == 2 and found["attributes"], "Damaged")
-    unless(not are_places(row[:2] for row in found["sources" if schema == 2 else "attributes"]), "Damaged")
+            refuse_if(not all(0 <= row[0] < following and is_sound(*row[1:]) for row in found[table]), "Damaged")
+    refuse_if(schema == 2 and found["attributes"], "Damaged")
+    refuse_if(not are_places(row[:2] for row in found["sources" if schema == 2 else "attributes"]), "Damaged")
 
 
 def schema_and_next(db):
     """The number of the schema, and that of the next domain."""
     found = select(db, "id, schema_no, next_number", "meta")
-    unless(len(found) != 1 or found[0][:2] not in ((1, 1), (1, 2)), "NotThisSchema")
+    refuse_if(len(found) != 1 or found[0][:2] not in ((1, 1), (1, 2)), "NotThisSchema")
     _, schema, following = found[0]
     # the tables of one schema with the number of the other are of none
-    unless((schema == 2) != ("sources" in names_taken(db)), "NotThisSchema")
+    refuse_if((schema == 2) != ("sources" in names_taken(db)), "NotThisSchema")
     return schema, following
 
 

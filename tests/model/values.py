@@ -29,6 +29,7 @@ class Fault(Exception):
 
 
 def shaped(shape, text):
+    """The groups of a text that has the shape."""
     found = re.fullmatch(shape, text, re.ASCII | re.DOTALL)
     if found is None:
         raise Fault("NotThisType")
@@ -36,15 +37,18 @@ def shaped(shape, text):
 
 
 def within(holds):
+    """That a part is within its range."""
     if not holds:
         raise Fault("OutOfRange")
 
 
 def is_leap(year):
+    """Whether February has 29 days."""
     return year % 4 == 0 and (year % 100 != 0 or year % 400 == 0)
 
 
 def days_in(year, month):
+    """How many days a month has."""
     return 29 if month == 2 and is_leap(year) else [31, 28, 31, 30, 31, 30, 31, 31, 30, 31, 30, 31][month - 1]
 
 
@@ -67,11 +71,13 @@ def date_of(number):
 
 
 def fraction(digits):
+    """The nanoseconds of a second's digits, of which there are at most nine."""
     within(digits is None or len(digits) <= 9)
     return int((digits or "").ljust(9, "0"))
 
 
 def read_zone(text):
+    """The minutes of a zone (XSD 3.2.7.3), up to 14 hours either way."""
     if text in (None, "Z"):
         return None if text is None else 0
     hours, minutes = int(text[1:3]), int(text[4:6])
@@ -80,18 +86,21 @@ def read_zone(text):
 
 
 def read_date(year, month, day):
+    """A date (XSD 3.2.9) of the years 1 to 9999."""
     year, month, day = int(year), int(month), int(day)
     within(year >= 1 and 1 <= month <= 12 and 1 <= day <= days_in(year, month))
     return year, month, day
 
 
 def read_clock(hour, minute, second, digits):
+    """The nanoseconds of a time of day (XSD 3.2.8)."""
     hour, minute, second = int(hour), int(minute), int(second)
     within(hour <= 23 and minute <= 59 and second <= 59)
     return ((hour * 60 + minute) * 60 + second) * SECOND + fraction(digits)
 
 
 def read_day_time(text):
+    """The nanoseconds of a dayTimeDuration (XSD 3.2.6; XQuery and XPath data model, section 3.3.2)."""
     sign, days, after_t, hours, minutes, seconds, digits = shaped(DAY_TIME, text)
     if days is None and after_t is None or after_t == "T":
         raise Fault("NotThisType")
@@ -102,6 +111,7 @@ def read_day_time(text):
 
 
 def read_year_month(text):
+    """The months of a yearMonthDuration (XSD 3.2.6; XQuery and XPath data model, section 3.3.2)."""
     sign, years, months = shaped(YEAR_MONTH, text)
     if years is None and months is None:
         raise Fault("NotThisType")
@@ -111,6 +121,7 @@ def read_year_month(text):
 
 
 def read_base64(text):
+    """The bytes of a base64Binary (XSD 3.2.16), with white space anywhere."""
     text = "".join(letter for letter in text if letter not in WHITE_SPACE)
     try:
         held = base64.b64decode(text, validate=True)
@@ -155,29 +166,35 @@ def read(data_type, text):
 
 
 def print_zone(zone):
+    """The text of a zone (XSD 3.2.7.3)."""
     if zone is None:
         return ""
     return "Z" if zone == 0 else f"{'-' if zone < 0 else '+'}{abs(zone) // 60:02}:{abs(zone) % 60:02}"
 
 
 def print_fraction(nanos):
+    """The digits of a second's nanoseconds, without zeros at the end."""
     return f".{nanos:09}".rstrip("0") if nanos else ""
 
 
 def print_date(date):
+    """The text of a date (XSD 3.2.9)."""
     return "{:04}-{:02}-{:02}".format(*date)
 
 
 def print_clock(nanos):
+    """The text of a time of day (XSD 3.2.8)."""
     seconds, rest = divmod(nanos, SECOND)
     return f"{seconds // 3600:02}:{seconds // 60 % 60:02}:{seconds % 60:02}" + print_fraction(rest)
 
 
 def part(count, letter):
+    """A part of a duration, if it isn't zero."""
     return f"{count}{letter}" if count else ""
 
 
 def print_day_time(nanos):
+    """The text of a dayTimeDuration, without parts that are zero."""
     if nanos == 0:
         return "PT0S"
     seconds, rest = divmod(abs(nanos), SECOND)
@@ -187,6 +204,7 @@ def print_day_time(nanos):
 
 
 def print_year_month(months):
+    """The text of a yearMonthDuration, without parts that are zero."""
     if months == 0:
         return "P0M"
     return ("-" if months < 0 else "") + "P" + part(abs(months) // 12, "Y") + part(abs(months) % 12, "M")
