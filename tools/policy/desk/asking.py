@@ -6,9 +6,10 @@ from dataclasses import dataclass
 from . import names
 from .check import Disagreement, json_of, marked
 from .faults import Remarks
+from .members import kind_of, name_node
 from .model import identifiers, json_texts, requests, values
 from .positions import Node, Source
-from .shapes import SHAPES, kind_of, name_node
+from .scalars import SHAPES
 from .text import listed
 
 OF_REQUEST = ["ReturnPolicyIdList", "CombinedDecision", "Category", "MultiRequests", *identifiers.SHORTHANDS]

@@ -23,7 +23,7 @@ def checked_together(options: argparse.Namespace) -> tuple[list[Checked], Rows |
     documents, rows = files.documents(options.files), files.rows(options.rows)
     together.Together(documents).check()
     off = set(options.off)
-    unknown = off - set(lints.NAMES) - {"leads-nowhere", "circle", "way-too-long", "tree-too-large", "same-key"}
+    unknown = off - set(lints.NAMES) - set(together.NAMES)
     if unknown:
         raise setting.Usage(f"no lint is called {text.listed(sorted(unknown))}; `policy lints` lists them")
     lints.Lints(documents, rows, off).run()
@@ -241,7 +241,8 @@ def parser() -> argparse.ArgumentParser:
 
 def lints_run(_: argparse.Namespace) -> int:
     """Answers `lints`."""
-    print("\n".join(lints.lint_lines()))
+    for name, meaning in {**lints.NAMES, **together.NAMES}.items():
+        print(f"{name:18} {meaning}")
     return FINE
 
 

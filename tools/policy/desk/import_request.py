@@ -8,9 +8,9 @@ from .check import json_of
 from .drafted import Draft, taken_over, text_of
 from .faults import Remarks
 from .importing import Imported, Importing
+from .members import name_node
 from .model import identifiers
 from .positions import Node, Source
-from .shapes import name_node
 from .xml_reading import Element, Spot
 
 # the longest body that the server reads

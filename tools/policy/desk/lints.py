@@ -10,9 +10,9 @@ from .check import Checked, Rows
 from .contradictions import TargetLints
 from .elements import Designator, Document, Expression, Rule
 from .faults import Remarks
+from .members import name_node
 from .model import contexts, identifiers
 from .positions import Node
-from .shapes import name_node
 
 NAMES = {
     "unknown-category": "a category that is no shorthand and no known URI",
@@ -265,8 +265,3 @@ def all_designators(document: Document | None) -> Iterator[Designator]:
     """The designators of a document and of those inside it."""
     for inner in document.documents() if document else []:
         yield from inner.designators()
-
-
-def lint_lines() -> list[str]:
-    """The lints by their names."""
-    return [f"{name:18} {meaning}" for name, meaning in NAMES.items()]

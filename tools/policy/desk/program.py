@@ -122,7 +122,7 @@ def built() -> int:
         print("The toolchain's command rt isn't on the path: see README.md, What it stands on.")
         return 1
     print("Proving and building xa_trials; from nothing this takes long, after small changes a minute.", flush=True)
-    made_of = programs.begun([CRATE.name])
+    made_of = programs.withdraw_notes([CRATE.name])
     with open(CRATE / "stdin", "rb") as stored:
         ran = subprocess.run(["rt", "run"], cwd=CRATE, stdin=stored, stdout=subprocess.PIPE, check=False)
     if ran.returncode != 0:
@@ -131,7 +131,7 @@ def built() -> int:
     if ran.stdout != (CRATE / "stdout").read_bytes():
         print(f"{name} is proved, but answers its stored rows otherwise.")
         return 1
-    programs.ended(made_of)
+    programs.write_notes(made_of)
     if not is_built():
         print(f"{name} is proved, but a source changed meanwhile.")
         return 1

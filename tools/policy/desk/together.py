@@ -10,6 +10,14 @@ from .model import linking, versions
 from .setting import no_document
 
 EFFECT = "it stands for Indeterminate, processing-error"
+# what is remarked here, each by the name by which it is switched off
+NAMES = {
+    "leads-nowhere": "a reference for which there is no document",
+    "circle": "a reference that leads back to a document on its way",
+    "way-too-long": f"a way through more than {linking.MOST_ON_A_PATH} documents",
+    "tree-too-large": f"a tree of more than {linking.MOST_IN_A_TREE:,} policies and sets",
+    "same-key": "two documents of one kind, id and version",
+}
 
 
 class TooLarge(Exception):

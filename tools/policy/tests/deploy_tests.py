@@ -149,7 +149,7 @@ def server_shown() -> str:
     if PDPD is None:
         return "the model's server in Python, since pdpd isn't built (`make pdpd`)"
     try:
-        is_proved = pathlib.Path(PDPD) == programs.proved("pdpd")
+        is_proved = pathlib.Path(PDPD) == programs.proved_program("pdpd")
     except programs.NotBuilt:  # there is no toolchain to compare with
         is_proved = False
     return f"{PDPD}, " + ("proved of these sources" if is_proved else "taken as it is")

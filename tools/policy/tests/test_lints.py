@@ -186,7 +186,7 @@ class Lints(DeskTest):
     def test_each_lint_is_listed(self) -> None:
         status, written, _ = run("lints")
         self.assertEqual(status, 0)
-        for name in lints.NAMES:
+        for name in (*lints.NAMES, *together.NAMES):
             self.assertIn(name, written)
 
 
