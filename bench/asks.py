@@ -3,9 +3,10 @@
 ordinary ones that are worked out.
 
 Usage: bench/asks.py [PDPD]     PDPD: the built program (build/pdpd, which `make pdpd` makes)
-       bench/asks.py PDPD --instructions     instructions in place of times, in some minutes (valgrind, Debian's
-                                             package); and those of asks with many values, by policies of so many
-                                             matches on them that are all false
+       bench/asks.py [--write] PDPD --instructions     instructions in place of times, in some minutes (valgrind,
+                                                       Debian's package); and those of asks with many values, by
+                                                       policies of so many matches on them that are all false
+                                                       --write: the latter are written into docs/PERFORMANCE.md too
 
 A domain has one policy, of ten rules with a match each, of which the last permits. A request has three attributes.
 The same bytes again and again are worked out once; 1,000 requests in turn are more than are kept, so that each is
@@ -18,6 +19,7 @@ import sys
 
 sys.dont_write_bytecode = True
 from asking import alternatives, ask, ask_with_values, domain, policy  # noqa: E402
+from page import shown, words  # noqa: E402
 from transcripts import instructions, seconds, statuses  # noqa: E402
 
 CLOCK = "urn:oasis:names:tc:xacml:1.0:environment:current-time"
@@ -59,8 +61,14 @@ def instructions_of_each(setup, asks, times=1):
 
 
 def by_instructions():
+    """The instructions of each kind of asks, and of those with many values."""
     for kind, (setup, asks) in kinds().items():
         print(f"{kind:44}{instructions_of_each(setup, asks, 1 if len(asks) > 1 else 1000):16,.0f} instructions")
+    return shown("asks.py instructions", by_matches)
+
+
+def by_matches():
+    """The instructions of asks with many values, by how many matches are false on them."""
     print("values, by matches" + "".join(f"{count:12}" for count in MATCHES))
     for values in VALUES:
         asks = [ask_with_values("acme", number, values) for number in range(LARGE_ASKS)]
@@ -69,13 +77,14 @@ def by_instructions():
 
 
 def main():
-    if sys.argv[2:] == ["--instructions"]:
+    if words()[1:] == ["--instructions"]:
         return by_instructions()
     print(f"{'':44}{'microseconds a message':>24}")
     for kind, (setup, asks) in kinds().items():
         print(f"{kind:44}{each(setup, asks) * 1e6:24.2f}   {statuses(setup + asks)}")
     print(f"a match takes {of_a_match() * 1e9:.0f} nanoseconds")
+    return 0
 
 
 if __name__ == "__main__":
-    main()
+    sys.exit(main())

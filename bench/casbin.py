@@ -1,7 +1,8 @@
 #!/usr/bin/env python3
 """Decisions a second, and processor time a decision, of pdpd and of casbin (the Go library), in one run.
 
-Usage: bench/casbin.py [PDPD]     PDPD: the built program (build/pdpd, which `make pdpd` makes)
+Usage: bench/casbin.py [--write] [PDPD]     PDPD: the built program (build/pdpd, which `make pdpd` makes)
+                                            --write: the table is written into docs/PERFORMANCE.md too
 
 Both decide by 10, 50 or 150 rules with one comparison each, of which the last permits; 1,000 different subjects ask in
 turn, which are more decisions than pdpd keeps. pdpd takes each ask as an HTTP message with a request of the JSON
@@ -19,6 +20,7 @@ import tempfile
 
 sys.dont_write_bytecode = True
 from asking import ask, domain, policy  # noqa: E402
+from page import shown  # noqa: E402
 from sent import OPERATOR  # noqa: E402
 from transcripts import PROGRAM, transcript  # noqa: E402
 
@@ -126,4 +128,4 @@ def main():
 
 
 if __name__ == "__main__":
-    main()
+    sys.exit(shown("casbin.py", main))

@@ -2,10 +2,11 @@
 """Decisions on large requests, by 999 policies of 10 designators each: nanoseconds a designator, and what the
 rest of a decision takes.
 
-Usage: bench/decide.py [XA_TRIALS]     XA_TRIALS: the built program; without it the proved one, which is proved and
-                                       built first where it isn't yet
-       bench/decide.py --instructions [XA_TRIALS]     instructions in place of times, in some minutes
-                                                      (valgrind, Debian's package)
+Usage: bench/decide.py [--write] [XA_TRIALS]     XA_TRIALS: the built program; without it the proved one, which is
+                                                 proved and built first where it isn't yet
+                                                 --write: the table is written into docs/PERFORMANCE.md too
+       bench/decide.py [--write] --instructions [XA_TRIALS]     instructions for a designator in place of times, in
+                                                                some minutes (valgrind, Debian's package)
 
 The program xa_trials answers `decide` rows, each with 1,000 documents. A request with 64 individual requests asks each
 designator 63 times more than the same request with one, and links no more: so the difference of their times is what
@@ -23,11 +24,12 @@ TOP = pathlib.Path(__file__).resolve().parent.parent
 sys.path.insert(0, str(TOP / "tests" / "model"))
 
 from inputs import as_read  # noqa: E402
+from page import shown, words  # noqa: E402
 from transcripts import CACHEGRIND, instructions_in  # noqa: E402
 
 CRATE = TOP / "crates" / "xa_trials"
-BY_INSTRUCTIONS = "--instructions" in sys.argv[1:]
-WORDS = [word for word in sys.argv[1:] if word != "--instructions"]
+BY_INSTRUCTIONS = "--instructions" in words()
+WORDS = [word for word in words() if word != "--instructions"]
 PROGRAM = pathlib.Path(WORDS[0]) if WORDS else CRATE / "out" / "xa_trials"
 ALGORITHM = "urn:oasis:names:tc:xacml:3.0:%s-combining-algorithm:deny-overrides"
 RESOURCE = "urn:oasis:names:tc:xacml:3.0:attribute-category:resource"
@@ -125,34 +127,57 @@ def instructions(fields, body):
         return instructions_in(log.read())
 
 
+def cases():
+    """What is decided: its name, the fields of the view, and the attributes of the request."""
+    return [("no designators", view(designators=0), ids(3)),
+            ("3 attributes", view(), ids(3)),
+            ("3 attributes, of which each match looks at one", view(one_id=True), ids(3)),
+            ("5,000 attributes", view(), ids(ATTRIBUTES)),
+            ("5,000 attributes of one id, by an issuer", view(one_id=True, named=True), issuers(ATTRIBUTES)),
+            ("5,000 attributes of one id, none with a value", view(one_id=True), without_values(ATTRIBUTES)),
+            ("4,096 rows of the source, none of the entity, no attribute", view(rows=ROWS), []),
+            ("the same, and 5,000 names of the resource", view(rows=ROWS), names(ATTRIBUTES)),
+            ("4,096 rows of one key and as many issuers, by an issuer",
+             view(one_id=True, named=True, issued=ROWS), names(1))]
+
+
+def measured(taken):
+    """Of each case its name, what it takes with one individual request and with many, and what a designator takes;
+    None for the latter where there are no designators."""
+    alone = 0
+    for name, fields, attributes in cases():
+        one, many = (taken(fields, request(attributes, individuals)) for individuals in (1, INDIVIDUALS))
+        if name == "no designators":
+            alone = many - one
+            yield name, one, many, None
+        else:
+            yield name, one, many, (many - one - alone) / ((INDIVIDUALS - 1) * POLICIES * DESIGNATORS)
+
+
+def show_seconds():
+    """The times with one individual request and with many, and what of these a designator takes."""
+    print(f"{'':<60} {'1 individual, ms':>18} {'64, ms':>9} {'ns for a designator':>20}", flush=True)
+    for name, one, many, of_one in measured(seconds):
+        shown_one = "" if of_one is None else f"{of_one * 1e9:.0f}"
+        print(f"{name:<60} {one * 1000:>18.0f} {many * 1000:>9.0f} {shown_one:>20}", flush=True)
+
+
+def show_instructions():
+    """What a designator takes."""
+    print(f"{'instructions':<60} {'for a designator':>20}", flush=True)
+    for name, _, _, of_one in measured(instructions):
+        if of_one is not None:
+            print(f"{name:<60} {of_one:>20,.0f}", flush=True)
+
+
 def main():
     if not WORDS:
         subprocess.run(["rt", "run"], cwd=CRATE, stdin=subprocess.DEVNULL, stdout=subprocess.DEVNULL,
                        stderr=subprocess.DEVNULL, check=True)
-    cases = [("no designators", view(designators=0), ids(3)),
-             ("3 attributes", view(), ids(3)),
-             ("3 attributes, of which each match looks at one", view(one_id=True), ids(3)),
-             ("5,000 attributes", view(), ids(ATTRIBUTES)),
-             ("5,000 attributes of one id, by an issuer", view(one_id=True, named=True), issuers(ATTRIBUTES)),
-             ("5,000 attributes of one id, none with a value", view(one_id=True), without_values(ATTRIBUTES)),
-             ("4,096 rows of the source, none of the entity, no attribute", view(rows=ROWS), []),
-             ("the same, and 5,000 names of the resource", view(rows=ROWS), names(ATTRIBUTES)),
-             ("4,096 rows of one key and as many issuers, by an issuer",
-              view(one_id=True, named=True, issued=ROWS), names(1))]
-    heads = (("1 individual, 10^6", "64, 10^6", "for a designator")
-             if BY_INSTRUCTIONS else ("1 individual, ms", "64, ms", "ns for a designator"))
-    print(f"{'instructions' if BY_INSTRUCTIONS else '':<60} {heads[0]:>18} {heads[1]:>9} {heads[2]:>20}", flush=True)
-    measured, scale, unit = (instructions, 1e-6, 1) if BY_INSTRUCTIONS else (seconds, 1000, 1e9)
-    alone = 0
-    for name, fields, attributes in cases:
-        one, many = (measured(fields, request(attributes, individuals)) for individuals in (1, INDIVIDUALS))
-        further = many - one
-        if "no designators" in name:
-            alone, of_one = further, ""
-        else:
-            of_one = f"{(further - alone) / ((INDIVIDUALS - 1) * POLICIES * DESIGNATORS) * unit:.0f}"
-        print(f"{name:<60} {one * scale:>18.0f} {many * scale:>9.0f} {of_one:>20}", flush=True)
+    if BY_INSTRUCTIONS:
+        return shown("decide.py instructions", show_instructions)
+    return shown("decide.py", show_seconds)
 
 
 if __name__ == "__main__":
-    main()
+    sys.exit(main())

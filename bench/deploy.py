@@ -1,7 +1,8 @@
 #!/usr/bin/env python3
 """Asks a second and their times through the kit of deploy/: 1, 2 and 4 shards, 1, 10 and 100 clients.
 
-usage: bench/deploy.py [PROGRAM]   the program, or that which is proved and built of these very sources
+usage: bench/deploy.py [--write] [PROGRAM]   the program, or that which is proved and built of these very sources;
+                                             with --write the table is written into docs/PERFORMANCE.md too
 
 In namespaces of its own, as tests/deploy.py, and with what that one wants, and nginx. The asks are of
 examples/ward, whose policy names the clock, so that each response is worked out; 16 domains of it are
@@ -22,6 +23,7 @@ TOP = pathlib.Path(__file__).resolve().parent.parent
 sys.path.insert(0, str(TOP / "tests"))
 
 from deployed import clients, machine  # noqa: E402
+from page import shown, words  # noqa: E402
 from serving import message  # noqa: E402
 
 WARD, DOMAINS, SECONDS = TOP / "examples" / "ward", 16, 4
@@ -94,24 +96,28 @@ def measure(made):
     server.wait()
 
 
+def table(made):
+    """Prints all lines, between the loads of the machine before and behind."""
+    print(f"load of the machine before: {os.getloadavg()[0]:.1f}, on {os.cpu_count()} cores")
+    print(f"{'':36}{'clients':>8}{'asks/s':>12}{'p50, ms':>10}{'p99, ms':>10}")
+    measure(made)
+    print(f"load of the machine behind: {os.getloadavg()[0]:.1f}")
+
+
 def main():
-    words = sys.argv[1:]
-    program = os.path.abspath(words[0]) if words else None
+    program = os.path.abspath(words()[0]) if words() else None
     machine.WANTED["nginx"] = "nginx"
     if lacks := list(machine.missing(program)):
         print("\n".join(f"bench/deploy.py: missing: {what}" for what in lacks))
         return 2
     if machine.INSIDE not in os.environ:
-        return machine.enter([os.path.abspath(__file__), *words])
+        return machine.enter([os.path.abspath(__file__), *sys.argv[1:]])
     made = machine.Machine(os.environ[machine.INSIDE])
     made.pack(program)
     for _ in made.walk():
         pass
     made.operator = clients.Operator(pathlib.Path("/etc/pdpd/token").read_text().strip())
-    print(f"load of the machine before: {os.getloadavg()[0]:.1f}, on {os.cpu_count()} cores")
-    print(f"{'':36}{'clients':>8}{'asks/s':>12}{'p50, ms':>10}{'p99, ms':>10}")
-    measure(made)
-    print(f"load of the machine behind: {os.getloadavg()[0]:.1f}")
+    shown("deploy.py", lambda: table(made))
     made.end()
     return 0
 

@@ -2,13 +2,14 @@
 """Policy documents: how long one takes to read, beside the time that `serde_json` alone takes for the same text, and
 the memory that each of the two takes.
 
-Usage: bench/documents.py
+Usage: bench/documents.py [--write]     --write: the table is written into docs/PERFORMANCE.md too
 
 Proves and builds the program below over a copy of xa_notation and what it stands on, and gives it documents of 1, 8
 and 64 KiB of rules with targets, conditions and obligations, and documents of shapes that would show work which grows
-faster than the text, each at 8 and at 64 KiB: what is read in time in proportion to its bytes takes as many
-nanoseconds a byte at both. Times are the best of five measurements of 2,000,000 bytes at least. Peak memory is what
-GNU time reads where the text is read once, less that of a program that reads none.
+faster than the text, each at 64 KiB and, by its ratio alone, at 8: what is read in time in proportion to its bytes has
+about the same ratio to JSON alone at both. Times are the best of five measurements of 2,000,000 bytes at least. Peak
+memory is what GNU time reads where the text is read once, less that of a program that reads none. Behind the table
+stands what each text was read as.
 """
 import json
 import os
@@ -17,6 +18,9 @@ import shutil
 import subprocess
 import sys
 import tempfile
+
+sys.dont_write_bytecode = True
+from page import shown  # noqa: E402
 
 TOP = os.path.dirname(os.path.dirname(os.path.abspath(__file__)))
 BELOW = ["xa_value", "xa_func", "xa_bag", "xa_expr", "xa_policy", "xa_notation"]
@@ -307,22 +311,41 @@ def peak(program, line):
         return int(memory.read())
 
 
+def ratio(program, text):
+    """What reading the text as a document takes, in times of what its JSON alone takes."""
+    return measure(program, "document", text)[0] / measure(program, "json", text)[0]
+
+
+def of_sizes():
+    """The documents: a name, a shape, how many bytes it may have, and the size that stands beside in its line."""
+    usual_name = "rules with targets and conditions"
+    for size in (1_024, 8_192, 65_536):
+        yield usual_name, usual, size, None
+    for name, shape in SHAPES:
+        yield name, shape, 65_536, 8_192
+
+
+def table(program, outcomes):
+    """Prints what each document takes; puts what it was read as behind the outcomes."""
+    print(f"{'document':44} {'parts':>5} {'bytes':>6} {'us':>8} {'ns/byte':>7}  {'JSON us':>8} {'ns/byte':>7} "
+          f"{'ratio':>6} {'at 8 KiB':>8} {'KiB':>6} {'JSON KiB':>8}")
+    for name, shape, most, beside in of_sizes():
+        text, count = filled(shape, most)
+        whole, outcome = measure(program, "document", text)
+        alone, _ = measure(program, "json", text)
+        small = "" if beside is None else f"{ratio(program, filled(shape, beside)[0]):.2f}"
+        none = peak(program, f"{text}\n")
+        kept, kept_json = (peak(program, f"once\t{kind}\t{text}\n") - none for kind in ("document", "json"))
+        print(f"{name:44} {count:5} {len(text):6} {whole / 1e3:8.1f} {whole / len(text):7.1f}  {alone / 1e3:8.1f} "
+              f"{alone / len(text):7.1f} {whole / alone:6.2f} {small:>8} {kept:6} {kept_json:8}", flush=True)
+        outcomes.append(f"{name:44} {len(text):6}  {outcome}")
+
+
 def main():
     with tempfile.TemporaryDirectory() as work:
-        program = build(work)
-        print(f"{'document':44} {'parts':>5} {'bytes':>6} {'read/s':>8} {'us':>8} {'ns/byte':>7}  {'JSON us':>8} "
-              f"{'ns/byte':>7} {'KiB':>6} {'JSON KiB':>8}  read as")
-        sizes = [("rules with targets and conditions", usual, 1_024), ("", usual, 8_192), ("", usual, 65_536)]
-        for name, shape in SHAPES:
-            sizes += [(name, shape, 8_192), ("", shape, 65_536)]
-        for name, shape, most in sizes:
-            text, count = filled(shape, most)
-            whole, outcome = measure(program, "document", text)
-            alone, _ = measure(program, "json", text)
-            none = peak(program, f"{text}\n")
-            kept, kept_json = (peak(program, f"once\t{kind}\t{text}\n") - none for kind in ("document", "json"))
-            print(f"{name:44} {count:5} {len(text):6} {1e9 / whole:8.0f} {whole / 1e3:8.1f} {whole / len(text):7.1f}  "
-                  f"{alone / 1e3:8.1f} {alone / len(text):7.1f} {kept:6} {kept_json:8}  {outcome}", flush=True)
+        program, outcomes = build(work), []
+        shown("documents.py", lambda: table(program, outcomes))
+        print("\n".join(outcomes))
 
 
 if __name__ == "__main__":

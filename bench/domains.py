@@ -3,7 +3,8 @@
 each: microseconds of processor time a message, which may differ by three tenths and 3 microseconds, for a table of
 many rows is one or two pages deeper; and the operator's list of all domains, which may take 5 ms.
 
-Usage: bench/domains.py [PDPD]     PDPD: the built program (build/pdpd, which `make pdpd` makes)
+Usage: bench/domains.py [--write] [PDPD]     PDPD: the built program (build/pdpd, which `make pdpd` makes)
+                                             --write: the table is written into docs/PERFORMANCE.md too
 
 The files are written by Python's sqlite3. Messages of one kind after another go to one of the domains, in pieces of
 100 without waiting, each kind nine times; the best counts. In each message is the system call that sends its reply,
@@ -18,11 +19,12 @@ import tempfile
 
 sys.dont_write_bytecode = True
 TOP = os.path.dirname(os.path.dirname(os.path.abspath(__file__)))
-PROGRAM = os.path.abspath(sys.argv[1] if len(sys.argv) > 1 else os.path.join(TOP, "build/pdpd"))
 sys.path.insert(0, f"{TOP}/tests")
 from kept import write  # noqa: E402
+from page import shown, words  # noqa: E402
 from serving import OPERATOR, Served, answered, message, policy  # noqa: E402
 
+PROGRAM = os.path.abspath(words()[0] if words() else os.path.join(TOP, "build/pdpd"))
 TOKEN, RUNS, MOST, MORE, COUNT, LISTINGS, MOST_LISTING = "domain-token-1", 9, 1.3, 3, 2_000, 30, 5_000
 
 
@@ -102,4 +104,4 @@ def main():
 
 
 if __name__ == "__main__":
-    raise SystemExit(main())
+    raise SystemExit(shown("domains.py", main))

@@ -2,10 +2,11 @@
 """The keeper in memory: nanoseconds a call of one domain, with 10 and with 10,000 domains of 10 documents each; the
 two may differ by three tenths.
 
-Usage: bench/records.py [XA_TRIALS]     XA_TRIALS: the built program; without it the proved one, which is proved and
-                                        built first where it isn't yet
-       bench/records.py --instructions [XA_TRIALS]     instructions in place of times, in some minutes
-                                                       (valgrind, Debian's package)
+Usage: bench/records.py [--write] [XA_TRIALS]     XA_TRIALS: the built program; without it the proved one, which is
+                                                  proved and built first where it isn't yet
+                                                  --write: the table is written into docs/PERFORMANCE.md too
+       bench/records.py [--write] --instructions [XA_TRIALS]     instructions in place of times, in some minutes
+                                                                 (valgrind, Debian's package)
 
 The program xa_trials answers rows of a keeper. A row makes all domains and then calls one of them, so many times or
 twice as many: the difference is what the calls take, with what the program takes to read their fields, which is the
@@ -23,11 +24,12 @@ TOP = pathlib.Path(__file__).resolve().parent.parent
 sys.path.insert(0, str(TOP / "tests" / "model"))
 
 from inputs import as_read  # noqa: E402
+from page import shown, words  # noqa: E402
 from transcripts import CACHEGRIND, instructions_in  # noqa: E402
 
 CRATE = TOP / "crates" / "xa_trials"
-BY_INSTRUCTIONS = "--instructions" in sys.argv[1:]
-WORDS = [word for word in sys.argv[1:] if word != "--instructions"]
+BY_INSTRUCTIONS = "--instructions" in words()
+WORDS = [word for word in words() if word != "--instructions"]
 PROGRAM = pathlib.Path(WORDS[0]) if WORDS else CRATE / "out" / "xa_trials"
 RULES = "urn:oasis:names:tc:xacml:3.0:rule-combining-algorithm:deny-overrides"
 RUNS, MOST = 9, 1.3
@@ -111,32 +113,37 @@ def instructions(calls):
 
 
 def by_instructions(setups):
-    """The instructions of a call of each kind; how many kinds take more than they may with many domains."""
-    failed = 0
+    """Of each kind the instructions of a call, for each number of domains."""
     alone = {domains: instructions(setup) for domains, setup in setups.items()}
     for kind in KINDS:
-        took = [(instructions(setup + calls_of(kind, domains // 2, COUNTED_CALLS)) - alone[domains]) / COUNTED_CALLS
-                for domains, setup in setups.items()]
-        failed += took[1] > MOST * took[0]
-        print(f"{kind:26}{took[0]:14,.0f}{took[1]:17,.0f}"
-              f"{'' if took[1] <= MOST * took[0] else '   more than three tenths above'}", flush=True)
-    return failed
+        yield kind, [(instructions(setup + calls_of(kind, domains // 2, COUNTED_CALLS)) - alone[domains])
+                     / COUNTED_CALLS for domains, setup in setups.items()]
+
+
+def by_time(setups):
+    """Of each kind the nanoseconds of a call, for each number of domains."""
+    for kind in KINDS:
+        yield kind, nanoseconds(kind, setups)
+
+
+def table(unit, found):
+    """Prints what calls take; 1 if a kind takes more than it may with many domains."""
+    failed = 0
+    print(f"{f'{unit} a call':26}{'10 domains':>14}{'10,000 domains':>17}")
+    for kind, (few, many) in found:
+        failed += many > MOST * few
+        remark = "   more than three tenths above" if many > MOST * few else ""
+        print(f"{kind:26}{few:14,.0f}{many:17,.0f}{remark}", flush=True)
+    return 1 if failed else 0
 
 
 def main():
     if not WORDS:
         subprocess.run(["rt", "run"], cwd=CRATE, stdin=subprocess.DEVNULL, stdout=subprocess.DEVNULL, check=True)
     setups = {domains: setup_of(domains) for domains in (10, 10_000)}
-    failed = 0
-    print(f"{'instructions a call' if BY_INSTRUCTIONS else '':26}{'10 domains':>14}{'10,000 domains':>17}")
     if BY_INSTRUCTIONS:
-        return 1 if by_instructions(setups) else 0
-    for kind in KINDS:
-        took = nanoseconds(kind, setups)
-        failed += took[1] > MOST * took[0]
-        print(f"{kind:26}{took[0]:11,.0f} ns{took[1]:14,.0f} ns"
-              f"{'' if took[1] <= MOST * took[0] else '   more than three tenths above'}", flush=True)
-    return 1 if failed else 0
+        return shown("records.py instructions", lambda: table("instructions", by_instructions(setups)))
+    return shown("records.py", lambda: table("nanoseconds", by_time(setups)))
 
 
 if __name__ == "__main__":

@@ -1,7 +1,8 @@
 #!/usr/bin/env python3
 """Messages per second and peak memory of the proved pdpd, over transcripts of one decision message.
 
-Usage: bench/replay.py [PDPD]     PDPD: the built program (build/pdpd, which `make pdpd` makes)
+Usage: bench/replay.py [--write] [PDPD]     PDPD: the built program (build/pdpd, which `make pdpd` makes)
+                                            --write: the table is written into docs/PERFORMANCE.md too
 
 Each transcript holds N copies of one request for a decision, once with an entry for each message and once in entries of
 up to 1 MiB that hold many. The time is the best of three runs, with standard input
@@ -20,9 +21,10 @@ import time
 sys.dont_write_bytecode = True
 TOP = os.path.dirname(os.path.dirname(os.path.abspath(__file__)))
 sys.path.append(os.path.join(TOP, "tests"))
+from page import shown, words  # noqa: E402
 from sent import OPERATOR, making, message  # noqa: E402
 
-PROGRAM = sys.argv[1] if len(sys.argv) > 1 else os.path.join(TOP, "build/pdpd")
+PROGRAM = words()[0] if words() else os.path.join(TOP, "build/pdpd")
 MAX_ENTRY_BYTES = 1_048_576
 # the operator makes the domain, and it permits everything
 SETUP = b"".join(held for held, _ in making("acme", "acme-token-1"))
@@ -108,4 +110,4 @@ def main():
 
 
 if __name__ == "__main__":
-    main()
+    sys.exit(shown("replay.py", main))

@@ -2,7 +2,8 @@
 """Asks a second over a socket, and the processor time that an ask takes, of the proved `pdpd serve`; beside nginx,
 which answers `return 200`, or a file.
 
-Usage: bench/serve.py [PDPD]     PDPD: the built program (build/pdpd, which `make pdpd` makes)
+Usage: bench/serve.py [--write] [PDPD]     PDPD: the built program (build/pdpd, which `make pdpd` makes)
+                                           --write: the table is written into docs/PERFORMANCE.md too
 
 The server has one core, and the client another: one connection, requests one at a time, each behind the reply to the
 one before, by wrk. Each kind has some rounds of two seconds, all kinds in turn, so that all have the same minute; the
@@ -31,10 +32,11 @@ import time
 
 sys.dont_write_bytecode = True
 TOP = os.path.dirname(os.path.dirname(os.path.abspath(__file__)))
-PROGRAM = os.path.abspath(sys.argv[1] if len(sys.argv) > 1 else os.path.join(TOP, "build/pdpd"))
 sys.path.insert(0, f"{TOP}/tests")
+from page import shown, words  # noqa: E402
 from serving import OPERATOR, Client, Served, decided, free_port, message, processor_seconds_of  # noqa: E402
 
+PROGRAM = os.path.abspath(words()[0] if words() else os.path.join(TOP, "build/pdpd"))
 IDS = "urn:oasis:names:tc:xacml:1.0:"
 RULES = "urn:oasis:names:tc:xacml:3.0:rule-combining-algorithm:deny-overrides"
 TOKEN, ROUNDS, SECONDS, PIECE = "domain-token-1", 3, 2, 100
@@ -317,4 +319,4 @@ def main():
 
 
 if __name__ == "__main__":
-    main()
+    sys.exit(shown("serve.py", main))

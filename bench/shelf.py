@@ -2,7 +2,8 @@
 """What an ask of a domain with ten active documents of 5 KB costs through the proved pdpd: the first, which reads
 them, and a second, for which the domain's view is ready.
 
-Usage: bench/shelf.py [PDPD]     PDPD: the built program (build/pdpd, which `make pdpd` makes)
+Usage: bench/shelf.py [--write] [PDPD]     PDPD: the built program (build/pdpd, which `make pdpd` makes)
+                                           --write: the table is written into docs/PERFORMANCE.md too
 
 The cost is in instructions, as `valgrind --tool=cachegrind` counts them, or without valgrind in microseconds of
 processor time. The asks differ in a space, so that each is worked out. A domain with one active document, the root's,
@@ -15,6 +16,7 @@ import sys
 
 sys.dont_write_bytecode = True
 from asking import RULES, permitting  # noqa: E402
+from page import shown  # noqa: E402
 from sent import OPERATOR, message  # noqa: E402
 from transcripts import TOKEN, instructions, seconds  # noqa: E402
 
@@ -89,4 +91,4 @@ def main():
 
 
 if __name__ == "__main__":
-    main()
+    sys.exit(shown("shelf.py", main))

@@ -1,9 +1,10 @@
 #!/usr/bin/env python3
 """What the tables of the proved `pdpd serve` cost: messages over 10, 1,000 and 10,000 domains, and opening them.
 
-Usage: bench/store.py [PDPD]                   PDPD: the built program (build/pdpd, which `make pdpd` makes)
-       bench/store.py --instructions [PDPD]    instructions in place of times, over 10 and 10,000 domains, in some
-                                               minutes (valgrind, Debian's package)
+Usage: bench/store.py [--write] [PDPD]                   PDPD: the built program (build/pdpd, which `make pdpd` makes)
+                                                         --write: the last table is written into docs/PERFORMANCE.md too
+       bench/store.py [--write] --instructions [PDPD]    instructions in place of times, over 10 and 10,000 domains, in
+                                                         some minutes (valgrind, Debian's package)
 
 The files are written by Python's sqlite3, with one active document of 1 KB, a token and a root in
 each domain. Of each size:
@@ -35,15 +36,18 @@ import time
 
 sys.dont_write_bytecode = True
 TOP = os.path.dirname(os.path.dirname(os.path.abspath(__file__)))
-BY_INSTRUCTIONS = "--instructions" in sys.argv[1:]
-WORDS = [word for word in sys.argv[1:] if word != "--instructions"]
-PROGRAM = os.path.abspath(WORDS[0] if WORDS else os.path.join(TOP, "build/pdpd"))
 sys.path.insert(0, f"{TOP}/tests")
 from kept import FIRST_MAKING, as_first, write  # noqa: E402
+from page import shown, words  # noqa: E402
 from serving import OPERATOR, PIECE, Served, answered, message, policy  # noqa: E402
 from transcripts import CACHEGRIND, instructions_in  # noqa: E402
 
+BY_INSTRUCTIONS = "--instructions" in words()
+WORDS = [word for word in words() if word != "--instructions"]
+PROGRAM = os.path.abspath(WORDS[0] if WORDS else os.path.join(TOP, "build/pdpd"))
 SIZES = (10, 1_000, 10_000)
+# the lines of the table: of the wrong tokens the gate alone
+LINES = ("refused", "gate", "kept", "one document", "many documents", "uploads")
 TOKEN, RUNS, MOST_OPENING, SOURCES, MOST_FIRST = "domain-token-1", 3, 2.0, 8, 2
 DOCUMENTS_OF_LARGE = 20
 
@@ -154,7 +158,7 @@ def instructions_of(folder, path, token, held):
 
 
 def by_instructions(folder, token):
-    """The instructions of a message over few domains and many; whether `gate` is flat."""
+    """Prints the instructions of a message over few domains and many; 1 if `gate` isn't flat."""
     print(f"{'instructions a message':42}{'10 domains':>16}{'10,000 domains':>16}")
     found = {}
     for domains in (SIZES[0], SIZES[-1]):
@@ -170,38 +174,55 @@ def by_instructions(folder, token):
         found[domains, "gate"] = found[domains, "a wrong token"] - found[domains, "refused"]
     for name in ("refused", "a wrong token", "gate", "kept", "one document", "uploads"):
         print(f"{name:42}{found[SIZES[0], name]:16,.0f}{found[SIZES[-1], name]:16,.0f}")
-    return found[SIZES[-1], "gate"] <= 1.3 * found[SIZES[0], "gate"]
+    is_flat = found[SIZES[-1], "gate"] <= 1.3 * found[SIZES[0], "gate"]
+    if not is_flat:
+        print("gate grows with the number of domains")
+    return 0 if is_flat else 1
+
+
+def measured(folder, token, domains):
+    """What opening so many domains takes, and microseconds a message of each kind."""
+    path = f"{folder}/{domains}.db"
+    write(path, rows(domains))
+    opened = opening(path, token)
+    wall, processor, memory = opened
+    print(f"{domains:,} domains: a file of {os.path.getsize(path) / 2**20:.1f} MiB; opening {wall:.3f} s, "
+          f"{processor:.2f} s of processor time, {memory:.1f} MiB")
+    with Served(PROGRAM, path, token) as served:
+        found = {name: cost(served, held) for name, held in messages(domains).items()}
+    for name, (took, wall, status) in found.items():
+        print(f"    {name:42} {took:9.2f} us, {wall:9.2f} us of wall time   {status}")
+    of_each = {name: took for name, (took, _, _) in found.items()}
+    return opened, {**of_each, "gate": of_each["a wrong token"] - of_each["refused"]}
+
+
+def table(found):
+    """Prints what was measured of each number of domains."""
+    print(f"{'microseconds a message':26}" + "".join(f"{f'{domains:,} domains':>16}" for domains in SIZES))
+    for name in LINES:
+        print(f"{name:26}" + "".join(f"{found[domains][1][name]:16.1f}" for domains in SIZES))
+    for what, place in (("opening, processor s", 1), ("memory then, MiB", 2)):
+        print(f"{what:26}" + "".join(f"{found[domains][0][place]:16.2f}" for domains in SIZES))
 
 
 def main():
     if not os.path.isfile(PROGRAM):
         sys.exit(f"bench/store.py: {PROGRAM} is not there: `make pdpd` builds it")
-    failed, gates = [], {}
     with tempfile.TemporaryDirectory() as folder:
         token = pathlib.Path(folder) / "token"
         token.write_text(f"{OPERATOR}\n")
         if BY_INSTRUCTIONS:
-            sys.exit(None if by_instructions(folder, str(token)) else "gate grows with the number of domains")
-        for domains in SIZES:
-            path = f"{folder}/{domains}.db"
-            write(path, rows(domains))
-            wall, processor, memory = opening(path, str(token))
-            print(f"{domains:,} domains: a file of {os.path.getsize(path) / 2**20:.1f} MiB; opening {wall:.3f} s, "
-                  f"{processor:.2f} s of processor time, {memory:.1f} MiB")
-            with Served(PROGRAM, path, str(token)) as served:
-                found = {name: cost(served, held) for name, held in messages(domains).items()}
-            gates[domains] = found["a wrong token"][0] - found["refused"][0]
-            print(f"    {'gate':42} {gates[domains]:9.2f} us")
-            for name, (took, wall, status) in found.items():
-                print(f"    {name:42} {took:9.2f} us, {wall:9.2f} us of wall time   {status}")
-            if domains == SIZES[-1] and processor >= MOST_OPENING:
-                failed.append(f"opening {domains:,} domains takes {processor:.2f} s")
-        failed += opening_schemas(folder, str(token), SIZES[-1])
-    if gates[SIZES[-1]] > 1.3 * gates[SIZES[0]] + 2:
+            return shown("store.py instructions", lambda: by_instructions(folder, str(token)))
+        found = {domains: measured(folder, str(token), domains) for domains in SIZES}
+        failed = opening_schemas(folder, str(token), SIZES[-1])
+    few, many = found[SIZES[0]], found[SIZES[-1]]
+    shown("store.py", lambda: table(found))
+    if many[0][1] >= MOST_OPENING:
+        failed.append(f"opening {SIZES[-1]:,} domains takes {many[0][1]:.2f} s")
+    if many[1]["gate"] > 1.3 * few[1]["gate"] + 2:
         failed.append("gate grows with the number of domains")
-    if failed:
-        sys.exit("; ".join(failed))
+    return "; ".join(failed) or 0
 
 
 if __name__ == "__main__":
-    main()
+    sys.exit(main())

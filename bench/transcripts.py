@@ -8,9 +8,10 @@ import tempfile
 
 TOP = os.path.dirname(os.path.dirname(os.path.abspath(__file__)))
 sys.path.append(os.path.join(TOP, "tests"))
+from page import words  # noqa: E402
 from sent import OPERATOR  # noqa: E402
 
-PROGRAM = sys.argv[1] if len(sys.argv) > 1 else os.path.join(TOP, "build/pdpd")
+PROGRAM = words()[0] if words() else os.path.join(TOP, "build/pdpd")
 TOKEN = "domain-token-1"
 MAX_ENTRY_BYTES, RUNS = 1_048_576, 3
 # the words before a program's, which count its instructions

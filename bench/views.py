@@ -3,8 +3,9 @@
 instructions (valgrind, Debian's package) where the domain is small and in processor time where it is large; and what
 memory a view takes for each byte of the texts that were read for it.
 
-Usage: bench/views.py [XA_TRIALS]     XA_TRIALS: the built program; without it the proved one, which is proved and built
-                                      first where it isn't yet
+Usage: bench/views.py [--write] [XA_TRIALS]     XA_TRIALS: the built program; without it the proved one, which is proved
+                                                and built first where it isn't yet
+                                                --write: the instructions are written into docs/PERFORMANCE.md too
 
 The program xa_trials answers rows of a server over a keeper in memory. Each ask has another subject, so that no
 response is one that is held. The asks of a row, and more of them: the difference is what they take. One domain has a
@@ -32,12 +33,13 @@ sys.dont_write_bytecode = True
 TOP = pathlib.Path(__file__).resolve().parent.parent
 sys.path += [str(TOP / "tests"), str(TOP / "tests" / "model")]
 from asking import ID, match, policy, request, target  # noqa: E402
+from page import shown, words  # noqa: E402
 from rows import encoded  # noqa: E402
 from sent import OPERATOR, message  # noqa: E402
 from transcripts import CACHEGRIND, instructions_in  # noqa: E402
 
 CRATE = TOP / "crates" / "xa_trials"
-PROGRAM = pathlib.Path(sys.argv[1]) if len(sys.argv) > 1 else CRATE / "out" / "xa_trials"
+PROGRAM = pathlib.Path(words()[0]) if words() else CRATE / "out" / "xa_trials"
 POLICIES = "urn:oasis:names:tc:xacml:3.0:policy-combining-algorithm:deny-overrides"
 ADMIN, TOKEN = "admin-token-1", "domain-token-1"
 ASKS, FEW_ASKS, TIMED_ASKS, RUNS, DOMAINS = 600, 4, 1_000, 2, 300
@@ -218,9 +220,9 @@ def show_memory():
 
 
 def main():
-    if len(sys.argv) == 1:
+    if not words():
         subprocess.run(["rt", "run"], cwd=CRATE, stdin=subprocess.DEVNULL, stdout=subprocess.DEVNULL, check=True)
-    show_instructions()
+    shown("views.py", show_instructions)
     show_seconds()
     return 1 if show_memory() else 0
 

@@ -26,22 +26,19 @@ import resource
 import subprocess
 import sys
 import tempfile
-import time
 
 sys.dont_write_bytecode = True
 TOP = pathlib.Path(__file__).resolve().parent.parent
 sys.path[:0] = [str(TOP / "tests" / "model"), str(TOP / "bench"), str(TOP / "tests")]
 
-from gate import head  # noqa: E402
 from inputs import as_read  # noqa: E402
-from prove import machine  # noqa: E402
+from page import WRITES, words, write  # noqa: E402
 from unit_forms import forms  # noqa: E402
 from unit_times import each  # noqa: E402
 from worst_ends import ENDED, LIMIT, READ, READING, REPLY, large_asks, large_row, limited_row  # noqa: E402
 from worst_rows import LINES  # noqa: E402
 
-CRATE, PAGE = TOP / "crates" / "xa_trials", TOP / "docs" / "PERFORMANCE.md"
-WORDS = [word for word in sys.argv[1:] if word != "--write"]
+CRATE, WORDS = TOP / "crates" / "xa_trials", words()
 PROGRAM = pathlib.Path(WORDS[0]) if WORDS else CRATE / "out" / "xa_trials"
 RUNS = 3
 MOST_SECONDS, MOST_BYTES, LAST_SECOND = 4, 2**30, 60
@@ -174,36 +171,15 @@ def growths():
     return listing
 
 
-# ---- the page
-
-def marks(name):
-    return f"<!-- bench/worst.py {name} -->", f"<!-- end of bench/worst.py {name} -->"
-
-
-def write(listings):
-    """Writes the lists into the page, each between its marks, with the date, the commit, the machine and the kit."""
-    text, found = PAGE.read_text(encoding="utf-8"), machine()
-    heading = (f"{time.strftime('%Y-%m-%d', time.gmtime())}, `{head()}`, `{found['kit'].split()[0]}`, on\n"
-               f"{found['model']} with {found['processors']} processors and {found['memory']} GB:")
-    for name, listing in listings.items():
-        first, last = marks(name)
-        block = "\n".join([first, heading, "", "```", *listing.lines, "```", last])
-        text, count = re.subn(f"{re.escape(first)}.*?{re.escape(last)}", lambda _: block, text, flags=re.S)
-        if count != 1:
-            sys.exit(f"docs/PERFORMANCE.md has {count} places between {first} and {last}")
-    PAGE.write_text(text, encoding="utf-8")
-
-
 def main():
     if not WORDS:
         subprocess.run(["rt", "run"], cwd=CRATE, stdin=subprocess.DEVNULL, stdout=subprocess.DEVNULL, check=True)
     listings = {"limits": ends(), "units": dearest_forms(), "asks": asks_of_large(), "growth": growths()}
     failed = sum(listing.failed for listing in listings.values())
-    if "--write" in sys.argv[1:]:
-        if failed:
-            print("docs/PERFORMANCE.md stays as it is, since there is too much.")
-        else:
-            write(listings)
+    if WRITES and failed:
+        print("docs/PERFORMANCE.md stays as it is, since there is too much.")
+    elif WRITES:
+        write({f"worst.py {name}": listing.lines for name, listing in listings.items()})
     return 1 if failed else 0
 
 
