@@ -29,25 +29,25 @@ def program_of(named):
     if named:
         return named.resolve(), "This program was named by whoever made the archive: it isn't known to be proved."
     try:
-        path = programs.proved("pdpd")
+        path = programs.proved_program("pdpd")
     except programs.NotBuilt as fault:
         raise SystemExit(f"deploy/dist.py: {fault}") from None
     if path is None:
         raise SystemExit("deploy/dist.py: pdpd isn't proved and built of these very sources: `make prove` or "
                          "`make pdpd` does it")
     return path, ("This program was proved and built of the sources of checksum "
-                  f"{programs.fingerprint('pdpd')}\nby {said_by('rt', 'version')}.")
+                  f"{programs.fingerprint('pdpd')}\nby {first_line_of('rt', 'version')}.")
 
 
-def said_by(*words):
+def first_line_of(*words):
     return subprocess.run(words, capture_output=True, text=True, check=True).stdout.split("\n")[0].strip()
 
 
 def files(program, line):
     """Each file of the archive: its name, its bytes, and whether it is run."""
     yield "pdpd", program.read_bytes(), True
-    told = f"{said_by(program, '--version')}, SHA-256 {programs.sum_of(program)}\n{line}\n"
-    yield "PROGRAM", told.encode(), False
+    line_of_program = f"{first_line_of(program, '--version')}, SHA-256 {programs.sum_of(program)}\n{line}\n"
+    yield "PROGRAM", line_of_program.encode(), False
     for page in PAGES:
         yield page, (TOP / page).read_bytes(), False
     for path in sorted((TOP / "deploy").rglob("*")):
@@ -55,9 +55,9 @@ def files(program, line):
             yield str(path.relative_to(TOP)), path.read_bytes(), bool(path.stat().st_mode & 0o100)
 
 
-def packed(program, line, folder):
+def pack(program, line, folder):
     """Writes the archive into the folder, and gives its path and the name of the folder in it."""
-    name = "-".join(said_by(program, "--version").split())
+    name = "-".join(first_line_of(program, "--version").split())
     held = list(files(program, line))
     sums = "".join(f"{hashlib.sha256(data).hexdigest()}  {file}\n" for file, data, _ in held)
     path = folder / f"{name}.tar.gz"
@@ -73,7 +73,7 @@ def packed(program, line, folder):
     return path, name
 
 
-def installed(path, name, prefix):
+def install(path, name, prefix):
     """Installs the archive, as whoever unpacks it does."""
     with tempfile.TemporaryDirectory() as made:
         with tarfile.open(path) as archive:
@@ -91,8 +91,8 @@ def main():
                        help="where the archive goes: build/")
     words.add_argument("--install", metavar="PREFIX", help="installs it under this folder, too")
     given = words.parse_args()
-    path, name = packed(*program_of(given.program), given.to)
-    return installed(path, name, given.install) if given.install else 0
+    path, name = pack(*program_of(given.program), given.to)
+    return install(path, name, given.install) if given.install else 0
 
 
 if __name__ == "__main__":

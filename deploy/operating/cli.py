@@ -1,6 +1,6 @@
 """pdpd-shards: several pdpd, each over a file of its own, behind HAProxy.
 
-  pdpd-shards config [--write]         shows the configuration of HAProxy; writes it, once HAProxy takes it
+  pdpd-shards config [--write]         shows the configuration of HAProxy; writes it, if HAProxy finds no fault in it
   pdpd-shards services                 has the supervisor run all of it, now and after each start
   pdpd-shards reload                   has HAProxy read its files: its configuration, the certificate
   pdpd-shards restart [SHARD]          restarts the shards one after another, or one
@@ -24,10 +24,10 @@ import subprocess
 import sys
 
 from . import backups, moving, proxy, status, supervisor, talk, watchdog
-from .settings import DOMAIN, ENDS, Wrong, alone, number_of, read
+from .settings import DOMAIN, ENDS, Wrong, alone, errors_of, number_in_word, read
 
 
-def told(what):
+def say(what):
     print(f"pdpd-shards: {what}", flush=True)
 
 
@@ -38,12 +38,12 @@ def shards_in(settings, words):
 
 def config(settings, words):
     if words == ["--write"]:
-        had = talk.shards_in_configuration(settings)
-        if had not in (None, settings.shards):
-            raise Wrong(f"SHARDS is {settings.shards}, and there are {had}: write {had} again; pdpd-shards grow "
+        count = talk.shards_in_configuration(settings)
+        if count not in (None, settings.shards):
+            raise Wrong(f"SHARDS is {settings.shards}, and there are {count}: write {count} again; pdpd-shards grow "
                         "makes more")
         talk.write_configuration(settings)
-        told(f"{settings.haproxy_etc}/haproxy.cfg is written, and HAProxy takes it")
+        say(f"{settings.haproxy_etc}/haproxy.cfg is written and valid; pdpd-shards reload has HAProxy read it")
     else:
         print(proxy.configuration(settings), end="")
 
@@ -54,7 +54,7 @@ def services(settings, words):
     by.start_proxy()
     for shard in range(settings.shards):
         talk.wait_until_up(settings, shard)
-    told(f"{settings.shards} shards answer, under {settings.supervisor}")
+    say(f"{settings.shards} shards answer, under {settings.supervisor}")
 
 
 def reload(settings, words):
@@ -62,14 +62,14 @@ def reload(settings, words):
     # a process that begins while another tool holds messages back would know nothing of it
     with alone(settings):
         talk.reload(settings, supervisor.of(settings))
-    told("HAProxy has read its files")
+    say("HAProxy has read its files")
 
 
 def restart(settings, words):
     for shard in shards_in(settings, words):
-        with alone(settings), moving.away(settings, shard):
+        with alone(settings), moving.restart_between_messages(settings, shard):
             pass
-        told(f"shard {shard} is restarted")
+        say(f"shard {shard} is restarted")
 
 
 def upgrade(settings, words):
@@ -78,12 +78,12 @@ def upgrade(settings, words):
     with alone(settings):
         by.renew()
         talk.reload(settings, by)
-    told("HAProxy, the watchdog and the backups run what is installed")
+    say("HAProxy, the watchdog and the backups run what is installed")
     restart(settings, [])
 
 
 def show_status(settings, words):
-    lines, wrong = status.shown(settings)
+    lines, wrong = status.report(settings)
     print("\n".join(lines))
     for what in wrong:
         print(f"WRONG: {what}")
@@ -101,7 +101,7 @@ def backup(settings, words):
     for shard in shards_in(settings, words):
         with alone(settings):
             path, domains, took = backups.backup(settings, shard)
-        told(f"backup of shard {shard}: {backups.shown(path, domains, took)}")
+        say(f"backup of shard {shard}: {backups.summary(path, domains, took)}")
 
 
 def list_backups(settings, words):
@@ -114,27 +114,27 @@ def put_back(settings, words):
     shard, name = words
     with alone(settings):
         domains, aside = backups.put_back(settings, settings.shard_in(shard), name)
-    told(f"shard {shard} is that of {name}: {len(domains)} domains; the files before are in {aside}")
+    say(f"shard {shard} is that of {name}: {len(domains)} domains; the files before are in {aside}")
 
 
 def move(settings, words):
     domain, one, other = words
     with alone(settings):
         took = moving.move(settings, domain, settings.shard_in(one), settings.shard_in(other))
-    told(f"{domain} is in shard {other}; both shards were away for {took:.2f} s")
+    say(f"{domain} is in shard {other}; both shards were away for {took:.2f} s")
 
 
 def grow(settings, words):
-    shards = number_of(*words)
+    shards = number_in_word(*words)
     if shards is None:
         raise Wrong("a number of shards is wanted")
     with alone(settings):
         count = moving.grow(settings, shards)
-    told(f"there are {shards} shards; {count} domains stay where they were")
+    say(f"there are {shards} shards; {count} domains stay where they were")
 
 
 def keep_backups(settings, words):
-    seconds = number_of(*words)
+    seconds = number_in_word(*words)
     if seconds is None:
         raise Wrong("a number of seconds is wanted")
     backups.keep_making(read, seconds)
@@ -175,5 +175,6 @@ def main(words):
     try:
         return call(read(), words[1:]) or 0
     except (Wrong, OSError, sqlite3.Error, subprocess.SubprocessError) as fault:
-        print(f"pdpd-shards: {fault}", file=sys.stderr)
+        for error in errors_of(fault):
+            print(f"pdpd-shards: {error}", file=sys.stderr)
         return 1

@@ -10,7 +10,7 @@ import sqlite3
 import time
 
 from . import supervisor, talk
-from .settings import DOMAIN, NUMBERS, Wrong, set_in_file, unbroken
+from .settings import DOMAIN, NUMBERS, Wrong, errors_of, put_off_signals, set_in_file
 
 SCHEMA = 2
 # The tables of a domain's rows, beside `number`, which each file gives itself (crates/xa_store/README.md).
@@ -28,7 +28,7 @@ class NotBegun(Wrong):
 
 
 @contextlib.contextmanager
-def unchanged(what):
+def as_not_begun(what):
     """Where SQLite refuses something here, nothing was changed."""
     try:
         yield
@@ -37,13 +37,15 @@ def unchanged(what):
 
 
 @contextlib.contextmanager
-def opened(settings, shard):
+def open_store(settings, shard):
     """A shard's file, which no pdpd may have open."""
-    path = settings.folder(shard) / "pdpd.db"
-    with unchanged(f"{path} can't be opened"):
+    path, mark = settings.folder(shard) / "pdpd.db", settings.unfinished_put_back(shard)
+    if mark.exists():
+        raise NotBegun(f"a backup was put back in part ({mark}): give pdpd-shards put-back again")
+    with as_not_begun(f"{path} can't be opened"):
         base = sqlite3.connect(f"file:{path}?mode=rw", uri=True, isolation_level=None)
     with contextlib.closing(base):
-        with unchanged(f"{path} can't be read"):
+        with as_not_begun(f"{path} can't be read"):
             base.execute("PRAGMA foreign_keys = ON")
             base.execute("PRAGMA synchronous = FULL")
             schema = base.execute("SELECT schema_no FROM meta").fetchone()
@@ -53,7 +55,7 @@ def opened(settings, shard):
         yield base
 
 
-def number_of(base, domain):
+def domain_number(base, domain):
     """The number under which a file keeps a domain, or None."""
     row = base.execute("SELECT number FROM domains WHERE name = ?", (domain,)).fetchone()
     return row and row[0]
@@ -61,7 +63,7 @@ def number_of(base, domain):
 
 def rows_of(base, domain):
     """All that a file keeps of a domain, but for its number."""
-    number = number_of(base, domain)
+    number = domain_number(base, domain)
     epoch = base.execute("SELECT epoch FROM domains WHERE number = ?", (number,)).fetchone()[0]
     of_table = "SELECT {} FROM {} WHERE number = ?"
     rows = lambda table, columns: base.execute(of_table.format(columns, table), (number,)).fetchall()
@@ -82,7 +84,7 @@ def put_rows(one, other, domain):
         other.executemany(insert, ((new, *row) for row in rows[table]))
 
 
-def same(one, other, domain):
+def is_same(one, other, domain):
     """Whether both files keep the same of a domain."""
     (epoch, rows), (other_epoch, other_rows) = rows_of(one, domain), rows_of(other, domain)
     in_order = lambda found: {table: sorted(map(repr, held)) for table, held in found.items()}
@@ -90,20 +92,27 @@ def same(one, other, domain):
 
 
 @contextlib.contextmanager
-def stopped(settings, shards):
-    """The shards' programs are ended meanwhile, and started behind it."""
-    by = supervisor.of(settings)
-    with unbroken():
+def stop_shard(by, shard):
+    """Stops a shard's program, and starts it at the end."""
+    try:
         try:
-            for shard in shards:
-                try:
-                    by.stop(shard)
-                except Wrong as fault:
-                    raise NotBegun(str(fault)) from None
-            yield
-        finally:
-            for shard in shards:
-                by.start(shard)
+            by.stop(shard)
+        except (Wrong, OSError) as fault:
+            raise NotBegun(str(fault)) from None
+        yield
+    finally:
+        by.start(shard)
+
+
+@contextlib.contextmanager
+def stop_shards(settings, shards):
+    """Stops the shards' programs. At the end each start is tried, whatever becomes of the others, and an error of
+    one keeps those before it (`errors_of`)."""
+    by = supervisor.of(settings)
+    with put_off_signals(), contextlib.ExitStack() as stops:
+        for shard in shards:
+            stops.enter_context(stop_shard(by, shard))
+        yield
 
 
 def wait_until_up(settings, shards):
@@ -112,10 +121,10 @@ def wait_until_up(settings, shards):
 
 
 @contextlib.contextmanager
-def ended(settings, *shards):
-    """The shards' programs are ended meanwhile; they answer again behind it, also where nothing was changed."""
+def restart_shards(settings, *shards):
+    """Restarts the shards' programs, which are stopped meanwhile, and waits until they answer, after an error too."""
     try:
-        with stopped(settings, shards):
+        with stop_shards(settings, shards):
             yield
     except Exception:
         with contextlib.suppress(Wrong):
@@ -125,21 +134,21 @@ def ended(settings, *shards):
 
 
 @contextlib.contextmanager
-def away(settings, shard):
-    """A shard's program is ended meanwhile, with nothing under way."""
-    with talk.held(settings, shard), ended(settings, shard):
+def restart_between_messages(settings, shard):
+    """Restarts a shard's program, which is stopped meanwhile, while its messages are held back."""
+    with talk.hold_messages(settings, shard), restart_shards(settings, shard):
         yield
 
 
-def carried(settings, domain, one, other):
+def carry_domain(settings, domain, one, other):
     """Carries the domain over between the two files; a move that was cut is gone on with."""
-    with opened(settings, one) as source, opened(settings, other) as target:
-        with unchanged(f"{domain} can't be copied"):
-            has_source, has_target = number_of(source, domain) is not None, number_of(target, domain) is not None
+    with open_store(settings, one) as source, open_store(settings, other) as target:
+        with as_not_begun(f"{domain} can't be copied"):
+            has_source, has_target = (domain_number(base, domain) is not None for base in (source, target))
             if not has_source and not has_target:
                 raise NotBegun(f"neither shard {one} nor {other} has {domain}. If it is moving and no shard has it, "
                                f"take its line out of {settings.map}, and give pdpd-shards reload")
-            if has_source and has_target and not same(source, target, domain):
+            if has_source and has_target and not is_same(source, target, domain):
                 raise NotBegun(f"both shards have a domain {domain}, and not the same of it: look which is right")
             if has_source and not has_target:
                 put_rows(source, target, domain)
@@ -157,14 +166,16 @@ def move(settings, domain, one, other):
     talk.settle(settings)
     before = talk.map_in_file(settings).get(domain)
     began = time.time()
-    with talk.held(settings, one, other):
+    with talk.hold_messages(settings, one, other):
         # what is left where this is cut: nobody asks either shard for it
         talk.set_in_map(settings, {domain: "moving"})
         try:
-            with ended(settings, one, other):
-                carried(settings, domain, one, other)
-        except NotBegun:
-            if before != "moving":
+            with restart_shards(settings, one, other):
+                carry_domain(settings, domain, one, other)
+        except BaseException as fault:
+            # (a failed start, or a signal to end, may have come behind the reason why nothing was changed)
+            is_unchanged = any(isinstance(error, NotBegun) for error in errors_of(fault))
+            if is_unchanged and before != "moving":
                 talk.set_in_map(settings, {domain: before})
             raise
     return time.time() - began
@@ -183,11 +194,11 @@ def grow(settings, shards):
     for shard in many:
         talk.wait_for_turn(settings, shard)
     known = talk.map_in_file(settings)
-    there = [(name, shard) for shard in many for name in talk.domains_of(settings, shard)]
+    places = [(name, shard) for shard in many for name in talk.domains_of(settings, shard)]
     # of a domain that is in two shards that one counts to which its messages are led
-    there.sort(key=lambda it: talk.place(settings, known, it[0]) == it[1])
-    found = dict(there)
-    talk.set_in_map(settings, {name: shard for name, shard in found.items() if name not in known})
+    places.sort(key=lambda it: talk.place(settings, known, it[0]) == it[1])
+    shard_of = dict(places)
+    talk.set_in_map(settings, {name: shard for name, shard in shard_of.items() if name not in known})
     by.set_up(range(shards))
     larger = copy.copy(settings)
     larger.shards = shards
@@ -197,4 +208,4 @@ def grow(settings, shards):
     for shard in range(shards):
         talk.wait_until_up(larger, shard)
     talk.set_in_map(larger, {"NEW": None})
-    return len(found)
+    return len(shard_of)

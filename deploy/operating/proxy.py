@@ -89,10 +89,10 @@ defaults
 
 def binds(settings):
     """Where clients come in."""
-    found = f"    bind {settings.plain_bind}\n" if settings.plain_bind else ""
+    lines = f"    bind {settings.plain_bind}\n" if settings.plain_bind else ""
     if settings.tls_bind:
-        found += f"    bind {settings.tls_bind} ssl crt {settings.certificate} alpn h2,http/1.1\n"
-    return found
+        lines += f"    bind {settings.tls_bind} ssl crt {settings.certificate} alpn h2,http/1.1\n"
+    return lines
 
 
 def head_rules():

@@ -25,6 +25,12 @@ class Wrong(Exception):
     """What the operator has to mend, in words."""
 
 
+def errors_of(fault):
+    """An error and those behind which it came, the first one first."""
+    before = None if fault.__suppress_context__ else fault.__context__
+    return [*(errors_of(before) if before else ()), fault]
+
+
 def lines_of(text):
     """The names and values that lines set."""
     for number, line in enumerate(text.splitlines(), 1):
@@ -37,7 +43,7 @@ def lines_of(text):
         yield name, value
 
 
-def number_in(name, value):
+def number_of_setting(name, value):
     """The number that a setting is."""
     least, most = NUMBERS[name]
     if not re.fullmatch(r"[0-9]{1,19}", value) or not least <= int(value) <= most:
@@ -45,7 +51,7 @@ def number_in(name, value):
     return int(value)
 
 
-def number_of(word):
+def number_in_word(word):
     """The number that a word of the command line is, if it is one of up to nine digits."""
     return int(word) if re.fullmatch(r"[0-9]{1,9}", word) else None
 
@@ -62,7 +68,7 @@ class Settings:
         for name in values.keys() - DEFAULTS.keys():
             raise Wrong(f"{FILE}: there is no setting {name}")
         for name, value in values.items():
-            setattr(self, name.lower(), number_in(name, value) if name in NUMBERS else value)
+            setattr(self, name.lower(), number_of_setting(name, value) if name in NUMBERS else value)
         if not self.supervisor:
             self.supervisor = "systemd" if os.path.isdir("/run/systemd/system") else "runit"
         if self.supervisor not in ("systemd", "runit"):
@@ -74,6 +80,10 @@ class Settings:
     def folder(self, shard):
         """Where a shard's files are."""
         return pathlib.Path(self.data) / str(shard)
+
+    def unfinished_put_back(self, shard):
+        """The file that is there while a backup replaces a shard's files: pdpd-run starts no program beside it."""
+        return self.folder(shard) / "put-back-unfinished"
 
     def port(self, shard):
         return self.first_port + shard
@@ -90,10 +100,10 @@ class Settings:
 
     def shard_in(self, word):
         """The shard that a word of the command line names."""
-        found = number_of(word)
-        if found is None or found >= self.shards:
+        shard = number_in_word(word)
+        if shard is None or shard >= self.shards:
             raise Wrong(f"there is no shard {word}: they are 0 to {self.shards - 1}")
-        return found
+        return shard
 
 
 def read():
@@ -110,7 +120,7 @@ def alone(settings):
 
 
 @contextlib.contextmanager
-def unbroken():
+def put_off_signals():
     """A signal to end waits meanwhile."""
     before = signal.pthread_sigmask(signal.SIG_BLOCK, ENDS)
     try:
@@ -119,7 +129,7 @@ def unbroken():
         signal.pthread_sigmask(signal.SIG_SETMASK, before)
 
 
-def written(path, text, mode=0o644):
+def write_whole(path, text, mode=0o644):
     """Puts a file in place of the one that is there, whole or not at all."""
     path = pathlib.Path(path)
     with tempfile.NamedTemporaryFile("w", dir=path.parent, prefix=f".{path.name}.", delete=False) as file:
@@ -135,4 +145,4 @@ def set_in_file(name, value):
     text = FILE.read_text() if FILE.exists() else ""
     line = f"{name}={value}"
     changed, count = re.subn(rf"(?m)^{name}=.*$", line, text)
-    written(FILE, changed if count else f"{text}{line}\n")
+    write_whole(FILE, changed if count else f"{text}{line}\n")

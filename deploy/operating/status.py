@@ -14,15 +14,15 @@ def size(path):
 
 def age(settings, shard):
     """How many seconds old the newest backup is; None where there is none."""
-    found = backups.backups_of(settings, shard)
-    return time.time() - found[-1].stat().st_mtime if found else None
+    folders = backups.backups_of(settings, shard)
+    return time.time() - folders[-1].stat().st_mtime if folders else None
 
 
 def copies(settings, shard, known, names):
     """What is wrong where a shard has domains whose messages go to another one."""
-    led = {name: talk.place(settings, known, name) for name in names}
+    places = {name: talk.place(settings, known, name) for name in names}
     return [f"shard {shard} has {name}, whose messages go to shard {where}: look which is right"
-            for name, where in led.items() if where not in (shard, "moving")]
+            for name, where in places.items() if where not in (shard, "moving")]
 
 
 def of_shard(settings, shard, known):
@@ -44,7 +44,7 @@ def of_shard(settings, shard, known):
     return [str(shard), state, count, *sizes, last], wrong
 
 
-def shown(settings):
+def report(settings):
     """The lines of a table, and what is wrong."""
     rows, wrong = [["shard", "state", "domains", "file MiB", "log MiB", "backup"]], []
     known = talk.map_in_file(settings)

@@ -16,10 +16,10 @@ SCRIPT = "/etc/init.d/haproxy"
 
 
 def run(*words):
-    ran = subprocess.run(words, capture_output=True, text=True, check=False)
-    if ran.returncode != 0:
-        raise Wrong(f"{' '.join(map(str, words))}: {(ran.stderr or ran.stdout).strip()}")
-    return ran.stdout.strip()
+    result = subprocess.run(words, capture_output=True, text=True, check=False)
+    if result.returncode != 0:
+        raise Wrong(f"{' '.join(map(str, words))}: {(result.stderr or result.stdout).strip()}")
+    return result.stdout.strip()
 
 
 class Systemd:

@@ -11,7 +11,7 @@ import time
 import zlib
 
 from .proxy import configuration
-from .settings import LIBRARY, Wrong, unbroken, written
+from .settings import LIBRARY, Wrong, put_off_signals, write_whole
 
 # how long a message may wait for its turn, and then for its reply (`timeout queue`, `timeout server`)
 QUEUE, SERVER = 10, 12
@@ -30,16 +30,16 @@ class OtherToken(Wrong):
     """A shard answers, and knows another operator's token than the file has."""
 
 
-def told(settings, command):
+def admin_reply(settings, command):
     """What HAProxy says to a command."""
     with socket.socket(socket.AF_UNIX) as admin:
         admin.settimeout(10)
         admin.connect(f"{settings.haproxy_run}/admin.sock")
         admin.sendall(command.encode() + b"\n")
-        said = b""
+        reply = b""
         while data := admin.recv(65_536):
-            said += data
-    return said.decode()
+            reply += data
+    return reply.decode()
 
 
 class Inner(http.client.HTTPConnection):
@@ -55,7 +55,7 @@ class Inner(http.client.HTTPConnection):
         self.sock.connect(self.path)
 
 
-def asked(settings, shard, method, path, token, *, in_turn=False, timeout=30.0, body=None):
+def shard_reply(settings, shard, method, path, token, *, in_turn=False, timeout=30.0, body=None):
     """The status and the body of a shard's reply; in turn behind all that waits, else before it."""
     fields = {"X-Shard": str(shard), "Authorization": f"Bearer {token}", "Content-Type": "application/json"}
     if in_turn:
@@ -73,7 +73,7 @@ def is_up(settings, shard, timeout=5.0):
     """Whether the shard answers."""
     try:
         # without a token: 401
-        return asked(settings, shard, "GET", "/operator/domains", "-", timeout=timeout)[0] == 401
+        return shard_reply(settings, shard, "GET", "/operator/domains", "-", timeout=timeout)[0] == 401
     except NO_REPLY:
         return False
 
@@ -93,7 +93,7 @@ def wait_for_turn(settings, shard):
     while time.time() < end:
         began = time.time()
         try:
-            status, _ = asked(settings, shard, "GET", "/operator/domains", "-", in_turn=True)
+            status, _ = shard_reply(settings, shard, "GET", "/operator/domains", "-", in_turn=True)
         except NO_REPLY:
             status = 0
         if status == 401:
@@ -110,7 +110,7 @@ def wait_for_turn(settings, shard):
 def domains_of(settings, shard):
     """The names of the domains that a shard has."""
     try:
-        status, body = asked(settings, shard, "GET", "/operator/domains", settings.operator())
+        status, body = shard_reply(settings, shard, "GET", "/operator/domains", settings.operator())
     except NO_REPLY as fault:
         why = getattr(fault, "strerror", None) or fault
         raise Wrong(f"HAProxy doesn't answer at {settings.haproxy_run}/inner.sock ({why}): it doesn't run, or its log "
@@ -133,35 +133,35 @@ def map_in_file(settings):
 
 def place(settings, known, domain):
     """The shard to which a domain's messages are led, where the map says that; `moving` for one that moves."""
-    said = known.get(domain)
-    if said is None:
+    value = known.get(domain)
+    if value is None:
         return zlib.crc32(domain.encode()) % settings.shards
-    return int(said) if said.isdecimal() else said
+    return int(value) if value.isdecimal() else value
 
 
 def set_in_map(settings, changes):
     """Says where domains are, in the file first, for the next start of HAProxy; None takes a name out."""
-    found = {**map_in_file(settings), **changes}
-    lines = "".join(f"{name} {value}\n" for name, value in sorted(found.items()) if value is not None)
-    written(settings.map, lines)
+    entries = {**map_in_file(settings), **changes}
+    lines = "".join(f"{name} {value}\n" for name, value in sorted(entries.items()) if value is not None)
+    write_whole(settings.map, lines)
     set_while_it_runs(settings, changes)
 
 
 def set_while_it_runs(settings, changes):
     """Says where domains are to the HAProxy that runs alone."""
-    shown = told(settings, f"show map {settings.map}")
-    there = {line.split()[1] for line in shown.splitlines() if line.strip()}
+    lines = admin_reply(settings, f"show map {settings.map}").splitlines()
+    names = {line.split()[1] for line in lines if line.strip()}
     for name, value in changes.items():
-        if value is None and name not in there:
+        if value is None and name not in names:
             continue
         # in one step: between a `del` and an `add` the domain would be where its name leads
-        word = "del" if value is None else "set" if name in there else "add"
-        said = told(settings, f"{word} map {settings.map} {name} {'' if value is None else value}").strip()
-        if said:
-            raise Wrong(f"HAProxy: {said}")
+        word = "del" if value is None else "set" if name in names else "add"
+        fault = admin_reply(settings, f"{word} map {settings.map} {name} {'' if value is None else value}").strip()
+        if fault:
+            raise Wrong(f"HAProxy: {fault}")
 
 
-def renews(settings, is_over):
+def renew_lease(settings, is_over):
     """Renews what is held until that is over."""
     while not is_over.wait(1):
         # (a HAProxy that isn't there holds nothing)
@@ -170,12 +170,12 @@ def renews(settings, is_over):
 
 
 @contextlib.contextmanager
-def renewed(settings):
+def keep_lease(settings):
     """What is held stays so meanwhile, and not for long where this process is killed."""
     is_over = threading.Event()
-    thread = threading.Thread(target=renews, args=(settings, is_over), daemon=True)
+    thread = threading.Thread(target=renew_lease, args=(settings, is_over), daemon=True)
     # a thread takes no signal that the tool has put off
-    with unbroken():
+    with put_off_signals():
         thread.start()
     try:
         yield
@@ -185,7 +185,7 @@ def renewed(settings):
 
 
 @contextlib.contextmanager
-def held(settings, *shards):
+def hold_messages(settings, *shards):
     """Nothing is under way at these shards meanwhile: HAProxy holds their messages back (domains.lua).
 
     So nothing is lost where their programs are ended. Should this be killed, it lets them go by itself after a while.
@@ -195,7 +195,7 @@ def held(settings, *shards):
     # LAST comes last: a list that sees it anew sees what is held, too
     set_while_it_runs(settings, {**{key: "held" for key in keys}, "HELD": until, "LAST": time.time_ns()})
     try:
-        with renewed(settings):
+        with keep_lease(settings):
             time.sleep(TURN)
             for shard in shards:
                 wait_for_turn(settings, shard)
@@ -209,18 +209,18 @@ def held(settings, *shards):
 def check(path):
     """That HAProxy takes the configuration."""
     words = ["haproxy", "-c", "-q", "-f", str(path)]
-    ran = subprocess.run(words, capture_output=True, text=True, check=False)
-    if ran.returncode != 0:
-        raise Wrong(f"HAProxy doesn't take {path}:\n{ran.stderr.strip()}")
+    result = subprocess.run(words, capture_output=True, text=True, check=False)
+    if result.returncode != 0:
+        raise Wrong(f"HAProxy doesn't take {path}:\n{result.stderr.strip()}")
 
 
 def write_configuration(settings):
-    """Writes what HAProxy reads, once it has taken it."""
+    """Writes what HAProxy reads, if it finds no fault in it."""
     if not settings.map.exists():
-        written(settings.map, "")
-    written(settings.map.with_name("domains.lua"), (LIBRARY / "domains.lua").read_text())
+        write_whole(settings.map, "")
+    write_whole(settings.map.with_name("domains.lua"), (LIBRARY / "domains.lua").read_text())
     new, place = (settings.map.with_name(name) for name in ("haproxy.cfg.new", "haproxy.cfg"))
-    written(new, configuration(settings))
+    write_whole(new, configuration(settings))
     check(new)
     if place.exists() and shards_in_configuration(settings) is None:
         place.rename(place.with_name("haproxy.cfg.before-pdpd"))
@@ -230,13 +230,13 @@ def write_configuration(settings):
 def shards_in_configuration(settings):
     """How many shards HAProxy's file has; None where there is none of ours."""
     path = settings.map.with_name("haproxy.cfg")
-    found = re.search(r"setenv PDPD_SHARDS (\d+)", path.read_text()) if path.exists() else None
-    return int(found[1]) if found else None
+    line = re.search(r"setenv PDPD_SHARDS (\d+)", path.read_text()) if path.exists() else None
+    return int(line[1]) if line else None
 
 
 def info(settings, name):
     """A number that HAProxy tells of itself."""
-    for line in told(settings, "show info").splitlines():
+    for line in admin_reply(settings, "show info").splitlines():
         if line.startswith(f"{name}: "):
             return int(line.split()[1])
     raise Wrong(f"HAProxy doesn't tell its {name}")

@@ -21,7 +21,7 @@ from . import supervisor, talk
 LIMIT, PAUSE = 5.0, 1.0
 
 
-def listening(port):
+def listener(port):
     """The number of the socket at which a program takes connections at 127.0.0.1 and that port, or None.
 
     Another program has another one.
@@ -33,20 +33,20 @@ def listening(port):
     return None
 
 
-def found(settings, shard):
+def shard_state(settings, shard):
     """`up`, `stuck`, or `down`, and the socket of the program that was there before."""
-    before = listening(settings.port(shard))
+    before = listener(settings.port(shard))
     try:
         # a domain that isn't there, and no token: 401 shows that it answers
         path = "/domains/watchdog/pdp"
-        status, _ = talk.asked(settings, shard, "POST", path, "-", timeout=LIMIT, body=b"{}")
+        status, _ = talk.shard_reply(settings, shard, "POST", path, "-", timeout=LIMIT, body=b"{}")
     except TimeoutError:
         status = 504
     except talk.NO_REPLY:
         return "down", before  # HAProxy isn't there, or has cut its reply
     if status == 504:
         # (the question may have waited for a program that has only just begun)
-        is_same = before and listening(settings.port(shard)) == before
+        is_same = before and listener(settings.port(shard)) == before
         return "stuck" if is_same else "down", before
     return "down" if status in (502, 503) else "up", before
 
@@ -54,7 +54,7 @@ def found(settings, shard):
 def kill(settings, shard, before):
     """Kills the shard's program, if it still is the one with that socket: a tool may have started another one."""
     process = supervisor.of(settings).pid(shard)
-    if process and listening(settings.port(shard)) == before:
+    if process and listener(settings.port(shard)) == before:
         with contextlib.suppress(ProcessLookupError):
             os.kill(process, signal.SIGKILL)
 
@@ -68,11 +68,15 @@ def tell(what):
 def look(shard, before):
     """Looks at a shard, tells if it is otherwise than before, kills what is stuck, and gives how it is now."""
     settings = setting.read()
-    now, socket = found(settings, shard)
+    now, socket = shard_state(settings, shard)
     if now != before:
         tell(f"shard {shard} is {now}")
     if now == "stuck":
-        kill(settings, shard, socket)
+        try:
+            kill(settings, shard, socket)
+        except (setting.Wrong, OSError, ValueError) as fault:
+            # told here, so that how the shard is now isn't lost, and is told once
+            tell(f"shard {shard} wasn't killed: {fault}")
     return now
 
 
@@ -90,9 +94,9 @@ def watch(shard):
 
 def watch_all():
     """Watches all shards, also those that come later."""
-    watched = 0
+    count = 0
     while True:
-        while watched < setting.read().shards:
-            threading.Thread(target=watch, args=(watched,), daemon=True).start()
-            watched += 1
+        while count < setting.read().shards:
+            threading.Thread(target=watch, args=(count,), daemon=True).start()
+            count += 1
         time.sleep(PAUSE)

@@ -1,5 +1,6 @@
 """Backups under load, and what they are for."""
 import itertools
+import pathlib
 import re
 import shutil
 import sqlite3
@@ -10,7 +11,7 @@ import time
 import zlib
 
 from .clients import Load, Makers, decision, many, message, once, policy, status
-from .machine import LIBRARY, sh, shards
+from .machine import LIBRARY, pid, sh, shards, wait_until
 
 BACKUPS = 50
 # so many of the texts that were uploaded last are kept, and the others are deleted
@@ -89,6 +90,22 @@ def put_back(machine, checks, shard):
     checks.expect("and there again", decision(once(ask)), "Permit")
     said = shards("put-back", shard, "20000101T000000Z", status=1)
     checks.expect("a backup that isn't there", "is no backup" in said, True)
+    cut_put_back(checks, shard, name)
+    checks.expect("and there again behind a cut", decision(once(ask)), "Permit")
+
+
+def cut_put_back(checks, shard, name):
+    """A shard into which a backup was put back in part isn't started, until that is given again."""
+    service, place = f"/etc/service/pdpd-{shard}", pathlib.Path(f"/var/lib/pdpd/{shard}")
+    sh(f"sv down {service}")
+    wait_until(lambda: not pid(shard), "a shard isn't ended")
+    (place / "put-back-unfinished").write_text("before-cut\n")
+    sh(f"sv up {service}")
+    log = pathlib.Path(f"/var/log/pdpd/pdpd-{shard}/current")
+    wait_until(lambda: "a backup was put back in part" in log.read_text(), "the log doesn't say why a shard is away")
+    shards("put-back", shard, name)
+    found = (place / "put-back-unfinished").exists(), (place / "before-cut" / "pdpd.db").exists()
+    checks.expect("whether the mark is there, and the files before", found, (False, True))
 
 
 def anew(machine, checks):

@@ -127,7 +127,7 @@ def watched(machine, checks):
     wait_until(lambda: not pid(3), "a shard isn't ended")
     for delay, wanted in ((2, "down"), (0, "stuck")):
         with Mute(7103, delay):
-            found, _ = watchdog.found(settings.read(), 3)
+            found, _ = watchdog.shard_state(settings.read(), 3)
         checks.expect(f"without a reply, and with connections taken after {delay} s", found, wanted)
     sh("sv up /etc/service/pdpd-3")
     wait_until(machine.operator.is_answered, "the shard isn't there again")
@@ -143,7 +143,7 @@ def holding(machine, checks):
     in_one = [shards("where", f"d{number}").strip() == "1" for number in range(8)]
     (ask, wanted), (beside, other) = asks[in_one.index(True)], asks[in_one.index(False)]
     began = time.time()
-    with settings.alone(now), talk.held(now, 1):
+    with settings.alone(now), talk.hold_messages(now, 1):
         reload = subprocess.Popen(["pdpd-shards", "reload"], stdout=subprocess.DEVNULL)
         checks.expect("beside what is held", decision(once(beside)), other)
         found = decision(once(ask))

@@ -31,7 +31,7 @@ PLAIN = 8080
 def is_proved():
     """Whether there is a program that is proved and built of these very sources."""
     try:
-        return programs.proved("pdpd") is not None
+        return programs.proved_program("pdpd") is not None
     except programs.NotBuilt:  # there is no toolchain to compare with
         return False
 

@@ -87,80 +87,118 @@ def many_fields(count):
     return b"".join(b"\r\nX-%d: x" % number for number in range(count))
 
 
-def odd_requests(operator, ask):
-    """Requests with the statuses that may come, by RFC 9110 and 9112 and by the page; None: just an end."""
-    head, _, body = ask.partition(b"\r\n\r\n")
-    line, _, fields = head.partition(b"\r\n")
-    fields = b"\r\n" + fields
-    bare = b"\r\n".join(it for it in fields.split(b"\r\n") if not it.startswith(b"Content-Length"))
-    authorization, coding = operator.message("GET", "").split(b"\r\n")[1], b"\r\nTransfer-Encoding: chunked"
+class Forms:
+    """A good list of domains and a good ask, of whose requests odd ones are made."""
 
-    def get(version, more=b""):
-        return b"GET /operator/domains " + version + b"\r\n" + authorization + more + b"\r\n\r\n"
+    def __init__(self, operator, ask):
+        head, _, self.body = ask.partition(b"\r\n\r\n")
+        self.line, _, fields = head.partition(b"\r\n")
+        # the fields of the ask, but for its length
+        self.fields = b"".join(b"\r\n" + field for field in fields.split(b"\r\n")
+                               if not field.startswith(b"Content-Length"))
+        self.authorization = operator.message("GET", "").split(b"\r\n")[1]
+        self.coding = b"\r\nTransfer-Encoding: chunked"
 
-    def post(more, data=body):
-        return line + bare + more + b"\r\n\r\n" + data
+    def get(self, version, more=b""):
+        return b"GET /operator/domains " + version + b"\r\n" + self.authorization + more + b"\r\n\r\n"
 
-    def put_in(old, new):
-        return get(b"HTTP/1.1", b"\r\nHost: h").replace(old, new, 1)
+    def post(self, more, data=None):
+        return self.line + self.fields + more + b"\r\n\r\n" + (self.body if data is None else data)
 
-    def upgrade(to, more=b""):
-        return get(b"HTTP/1.1", b"\r\nConnection: Upgrade\r\nUpgrade: " + to + more)
+    def put_in(self, old, new):
+        return self.get(b"HTTP/1.1", b"\r\nHost: h").replace(old, new, 1)
 
+    def upgrade(self, to, more=b""):
+        return self.get(b"HTTP/1.1", b"\r\nConnection: Upgrade\r\nUpgrade: " + to + more)
+
+
+def odd_lines(forms):
+    """Versions and methods."""
     return {
-        "HTTP/1.0": (get(b"HTTP/1.0"), {505}),
-        "HTTP/1.0 that wants to go on": (get(b"HTTP/1.0", b"\r\nConnection: keep-alive"), {505}),
+        "HTTP/1.0": (forms.get(b"HTTP/1.0"), {505}),
+        "HTTP/1.0 that wants to go on": (forms.get(b"HTTP/1.0", b"\r\nConnection: keep-alive"), {505}),
         "HTTP/0.9": (b"GET /operator/domains\r\n\r\n", {400, 505}),
-        "HTTP/1.2": (get(b"HTTP/1.2"), {505}),
-        "HTTP/3.0": (get(b"HTTP/3.0"), {505}),
-        "no version": (get(b"HTTP"), {400}),
-        "HEAD": (b"HEAD /operator/domains HTTP/1.1\r\n" + authorization + b"\r\nConnection: close\r\n\r\n", {405}),
-        "a method in small letters": (get(b"HTTP/1.1").replace(b"GET", b"get"), {405}),
-        "a method that is none": (get(b"HTTP/1.1").replace(b"GET", b"G(T"), {400}),
+        "HTTP/1.2": (forms.get(b"HTTP/1.2"), {505}),
+        "HTTP/3.0": (forms.get(b"HTTP/3.0"), {505}),
+        "no version": (forms.get(b"HTTP"), {400}),
+        "HEAD": (b"HEAD /operator/domains HTTP/1.1\r\n" + forms.authorization + b"\r\nConnection: close\r\n\r\n",
+                 {405}),
+        "a method in small letters": (forms.get(b"HTTP/1.1").replace(b"GET", b"get"), {405}),
+        "a method that is none": (forms.get(b"HTTP/1.1").replace(b"GET", b"G(T"), {400}),
         "OPTIONS of all": (b"OPTIONS * HTTP/1.1\r\nHost: h\r\n\r\n", {400, 404, 405}),
         "CONNECT": (b"CONNECT localhost:443 HTTP/1.1\r\nHost: h\r\n\r\n", {400, 404, 405}),
         "TRACE": (b"TRACE /operator/domains HTTP/1.1\r\nHost: h\r\n\r\n", {405}),
-        "a length too large": (post(b"\r\nContent-Length: 524289", b""), {413}),
-        "a length of letters": (post(b"\r\nContent-Length: 1a"), {400}),
-        "a length below nothing": (post(b"\r\nContent-Length: -1"), {400}),
-        "two lengths": (post(b"\r\nContent-Length: 14\r\nContent-Length: 15"), {400}),
-        "a body that doesn't come": (post(b"\r\nContent-Length: 100"), {408}),
-        "a NUL in a field": (get(b"HTTP/1.1", b"\r\nX: a\0b"), {400}),
-        "a control in a field": (get(b"HTTP/1.1", b"\r\nX: a\x01b"), {400}),
-        "DEL in a field": (get(b"HTTP/1.1", b"\r\nX: a\x7fb"), {400}),
-        "a blank before the colon": (get(b"HTTP/1.1", b"\r\nX : a"), {400}),
-        "a field without a name": (get(b"HTTP/1.1", b"\r\n: a"), {400}),
-        "a field without a colon": (get(b"HTTP/1.1", b"\r\nAccept application/json"), {400}),
-        "a folded field": (get(b"HTTP/1.1", b"\r\nX: a\r\n b"), {200, 400}),
-        "lines that end with LF alone": (get(b"HTTP/1.1").replace(b"\r\n", b"\n"), {200, 400}),
-        "empty lines before": (b"\r\n\r\n" + get(b"HTTP/1.1"), {200, 400}),
-        "two hosts": (get(b"HTTP/1.1", b"\r\nHost: a\r\nHost: b"), {200, 400}),
-        "two tokens": (get(b"HTTP/1.1", b"\r\n" + authorization), {401}),
-        "63 fields": (get(b"HTTP/1.1", many_fields(62)), {200}),
-        "64 fields": (get(b"HTTP/1.1", many_fields(63)), {431}),
-        "120 fields": (get(b"HTTP/1.1", many_fields(119)), {431}),
-        "a field of 16,384 bytes": (get(b"HTTP/1.1", b"\r\nCookie: " + b"x" * 16_384), {431}),
-        "a target of 16,300 bytes": (put_in(b"domains", b"domains?" + b"x" * 16_300), {431}),
-        "a blank in the target": (put_in(b"domains", b"dom ains"), {400}),
-        "a letter that is no ASCII in the target": (put_in(b"domains", b"dom\xffains"), {400, 404}),
-        "a fragment": (put_in(b"domains", b"domains#x"), {200, 400, 404}),
-        "an absolute target": (put_in(b"/operator", b"http://h/operator"), {200}),
-        "a chunked body": (post(coding, chunked(body)), {200}),
-        "a chunk of no size": (post(coding, b"zz\r\n" + body), {400}),
-        "a chunked body too large": (post(coding, chunked(b"x" * 524_289)), {413}),
-        "chunked and a length": (post(coding + b"\r\nContent-Length: 3", chunked(body)), {200, 400}),
-        "two codings": (post(b"\r\nTransfer-Encoding: gzip, chunked", chunked(body)), {400, 422, 501}),
-        "a coding that is none": (post(b"\r\nTransfer-Encoding: identity", b""), {400, 501}),
-        "Expect": (post(b"\r\nExpect: 100-continue\r\nContent-Length: %d" % len(body)), {200}),
-        "half of a websocket's handshake": (upgrade(b"websocket"), {200, 400}),
-        "h2c": (upgrade(b"h2c", b"\r\nHTTP2-Settings: AAMAAABkAAQAAP__"), {200}),
-        "a reading with a body": (get(b"HTTP/1.1", b"\r\nContent-Length: 2") + b"{}", {200}),
-        "524,288 bytes that are no JSON": (post(b"\r\nContent-Length: 524288", b"x" * 524_288), {400}),
+    }
+
+
+def odd_fields(forms):
+    """Lengths and fields."""
+    return {
+        "a length too large": (forms.post(b"\r\nContent-Length: 524289", b""), {413}),
+        "a length of letters": (forms.post(b"\r\nContent-Length: 1a"), {400}),
+        "a length below nothing": (forms.post(b"\r\nContent-Length: -1"), {400}),
+        "two lengths": (forms.post(b"\r\nContent-Length: 14\r\nContent-Length: 15"), {400}),
+        "a body that doesn't come": (forms.post(b"\r\nContent-Length: 100"), {408}),
+        "a NUL in a field": (forms.get(b"HTTP/1.1", b"\r\nX: a\0b"), {400}),
+        "a control in a field": (forms.get(b"HTTP/1.1", b"\r\nX: a\x01b"), {400}),
+        "DEL in a field": (forms.get(b"HTTP/1.1", b"\r\nX: a\x7fb"), {400}),
+        "a blank before the colon": (forms.get(b"HTTP/1.1", b"\r\nX : a"), {400}),
+        "a field without a name": (forms.get(b"HTTP/1.1", b"\r\n: a"), {400}),
+        "a field without a colon": (forms.get(b"HTTP/1.1", b"\r\nAccept application/json"), {400}),
+        "a folded field": (forms.get(b"HTTP/1.1", b"\r\nX: a\r\n b"), {200, 400}),
+        "lines that end with LF alone": (forms.get(b"HTTP/1.1").replace(b"\r\n", b"\n"), {200, 400}),
+        "empty lines before": (b"\r\n\r\n" + forms.get(b"HTTP/1.1"), {200, 400}),
+        "two hosts": (forms.get(b"HTTP/1.1", b"\r\nHost: a\r\nHost: b"), {200, 400}),
+        "two tokens": (forms.get(b"HTTP/1.1", b"\r\n" + forms.authorization), {401}),
+        "63 fields": (forms.get(b"HTTP/1.1", many_fields(62)), {200}),
+        "64 fields": (forms.get(b"HTTP/1.1", many_fields(63)), {431}),
+        "120 fields": (forms.get(b"HTTP/1.1", many_fields(119)), {431}),
+        "a field of 16,384 bytes": (forms.get(b"HTTP/1.1", b"\r\nCookie: " + b"x" * 16_384), {431}),
+    }
+
+
+def odd_targets(forms):
+    """Targets."""
+    return {
+        "a target of 16,300 bytes": (forms.put_in(b"domains", b"domains?" + b"x" * 16_300), {431}),
+        "a blank in the target": (forms.put_in(b"domains", b"dom ains"), {400}),
+        "a letter that is no ASCII in the target": (forms.put_in(b"domains", b"dom\xffains"), {400, 404}),
+        "a fragment": (forms.put_in(b"domains", b"domains#x"), {200, 400, 404}),
+        "an absolute target": (forms.put_in(b"/operator", b"http://h/operator"), {200}),
+    }
+
+
+def odd_bodies(forms):
+    """Codings, bodies and upgrades."""
+    return {
+        "a chunked body": (forms.post(forms.coding, chunked(forms.body)), {200}),
+        "a chunk of no size": (forms.post(forms.coding, b"zz\r\n" + forms.body), {400}),
+        "a chunked body too large": (forms.post(forms.coding, chunked(b"x" * 524_289)), {413}),
+        "chunked and a length": (forms.post(forms.coding + b"\r\nContent-Length: 3", chunked(forms.body)), {200, 400}),
+        "two codings": (forms.post(b"\r\nTransfer-Encoding: gzip, chunked", chunked(forms.body)), {400, 422, 501}),
+        "a coding that is none": (forms.post(b"\r\nTransfer-Encoding: identity", b""), {400, 501}),
+        "Expect": (forms.post(b"\r\nExpect: 100-continue\r\nContent-Length: %d" % len(forms.body)), {200}),
+        "half of a websocket's handshake": (forms.upgrade(b"websocket"), {200, 400}),
+        "h2c": (forms.upgrade(b"h2c", b"\r\nHTTP2-Settings: AAMAAABkAAQAAP__"), {200}),
+        "a reading with a body": (forms.get(b"HTTP/1.1", b"\r\nContent-Length: 2") + b"{}", {200}),
+        "524,288 bytes that are no JSON": (forms.post(b"\r\nContent-Length: 524288", b"x" * 524_288), {400}),
+    }
+
+
+def odd_streams(forms):
+    """Bytes that are no request, or half of one."""
+    return {
         "TLS where there is none": (b"\x16\x03\x01\x02\x00\x01\x00\x01\xfc" + b"\0" * 60, {400, None}),
         "random bytes": (bytes(range(256)) * 8 + b"\r\n\r\n", {400, None}),
         "nothing": (b"", {400, None}),
-        "half a head": (get(b"HTTP/1.1")[:30], {None, 400, 408}),
+        "half a head": (forms.get(b"HTTP/1.1")[:30], {None, 400, 408}),
     }
+
+
+def odd_requests(operator, ask):
+    """Requests with the statuses that may come, by RFC 9110 and 9112 and by the page; None: just an end."""
+    forms = Forms(operator, ask)
+    return {**odd_lines(forms), **odd_fields(forms), **odd_targets(forms), **odd_bodies(forms), **odd_streams(forms)}
 
 
 def odd_reply(data):
