@@ -1,8 +1,8 @@
 #!/usr/bin/env python3
 """Measures the gate from nothing: runs `make prove` in a fresh clone of what is committed, by a copy of the
 toolchain whose store is empty (its files by further names where the disk allows, so that it takes no room), and
-writes what it took into docs/GATE.md, in place of what stood there for as many processors. With the word `test`
-it does the same of `make test`, which compiles the programs without proof there.
+writes what it took into docs/GATE.md, in place of what stood there for as many processors, and what each wrong
+body took. With the word `test` it measures `make test`, which compiles the programs without proof there.
 
 usage: bench/gate.py [test]                     with all processors, and nothing else running
        taskset -c 0,1 bench/gate.py [test]      with two
@@ -19,6 +19,11 @@ import tempfile
 import time
 
 TOP = pathlib.Path(__file__).resolve().parent.parent
+sys.path.insert(0, str(TOP / "tests"))
+sys.dont_write_bytecode = True
+
+import edits  # noqa: E402
+
 PAGE = TOP / "docs" / "GATE.md"
 
 
@@ -119,6 +124,7 @@ def main():
         write(processors, [f"**{processors} processors**, {day}, `{head()}`: {found}"], " test")
     else:
         write(processors, table(found))
+        edits.write(found["edits"])
     print(f"docs/GATE.md has what it took on {processors} processors.")
     return 0
 

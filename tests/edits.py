@@ -5,7 +5,7 @@ src/, no two edits of a crate have one name, and the table of edits in docs/GATE
 nothing: the gate and `make edits X` do.
 
 usage: tests/edits.py             looks
-       tests/edits.py --write     writes the table anew, with the costs that stand in it
+       tests/edits.py --write     writes the table anew, with the costs that stand in it (bench/gate.py: with new ones)
 """
 import pathlib
 import re
@@ -65,9 +65,13 @@ def fault_of(path, crate):
     return faults[0] if faults else None if found else "it changes nothing"
 
 
-def table(old):
-    """The table of edits, with the costs that a former one has; what no run has told yet is `?`."""
+def table(old, took=None):
+    """The table of edits, with the costs that a run of tests/prove.py took, else those of a former table; what no
+    run has told yet is `?`."""
     costs, checks = (dict(re.findall(it, old, re.M)) for it in (r"`(\w+)` (\d+)", r"^\| `(\w+)` \| (\d+) \|"))
+    for crate, seconds in (took or {}).items():
+        costs.update({name: f"{it:.0f}" for name, it in seconds.items() if name != "seed"})
+        checks.update({crate: f"{seconds['seed']:.0f}"} if "seed" in seconds else {})
     text, seconds, numbers = HEAD, 0, [0, 0]
     for crate in crates():
         names = [path.stem for path in sorted(TOP.glob(f"crates/{crate}/must-fail/*.edit"))]
@@ -87,11 +91,17 @@ def page():
     return before, old, behind
 
 
-def main():
+def write(took=None):
+    """Writes the table anew."""
     before, old, behind = page()
+    PAGE.write_text(before + FIRST + table(old, took) + LAST + behind, encoding="utf-8")
+
+
+def main():
     if sys.argv[1:] == ["--write"]:
-        PAGE.write_text(before + FIRST + table(old) + LAST + behind, encoding="utf-8")
+        write()
         return 0
+    _, old, _ = page()
     names, failed, count = set(), 0, 1
     if old != table(old):
         failed += 1

@@ -42,9 +42,12 @@ ROOM_WANTED = 10
 BEGINS_WITHIN, LOOKED_EVERY = 180, 5
 # The forerunner's stages, one after another: crates that are proved side by side, each in a run of its own with
 # those below it. In one run by both names each of two crates that become ready together would get one job.
-STAGES = (("xa_link",), ("xa_server", "xa_store"), ("xa_trials", "pdpd"))
-# What is proved with one job: with two, `pdpd` and `xa_trials` would hold too much memory between them.
-WITH_ONE_JOB = ("pdpd",)
+STAGES = (("xa_link",), ("xa_records",), ("xa_server", "xa_store"), ("xa_trials",), ("pdpd",))
+# For memory the two programs come one after the other, and the judge stands still beside them: it would prove the
+# other one, or try wrong bodies, which hold up to 4 GB each. It tries those that are left afterwards.
+ALONE = STAGES[-2:]
+# What is proved with one job, for memory.
+WITH_ONE_JOB = ("xa_server", "xa_store", "pdpd")
 # How much the judge and its wrong bodies stand back behind the forerunner.
 NICE = 10
 # Bytes of memory that have to be free for the judge to try wrong bodies without asking for more: `rt ci` counts
@@ -74,13 +77,42 @@ def memory_of(process):
     return 0
 
 
+def words_of(process):
+    """The words by which a process was started."""
+    with contextlib.suppress(OSError):
+        return pathlib.Path(f"/proc/{process}/cmdline").read_text(errors="replace").split("\0")
+    return [""]
+
+
+def word_behind(flag, words):
+    """The word behind a flag, if it is there."""
+    return words[words.index(flag) + 1] if flag in words[:-1] else None
+
+
 def name_of(process):
     """What a process works at: the crate that it compiles or proves, else its program's name."""
-    words = [b""]
+    words = words_of(process)
+    return word_behind("--crate-name", words) or words[0].rpartition("/")[2] or "unknown"
+
+
+def edit_of(process):
+    """The wrong body that a process tries, as its crate and its name; `seed` is the check before a crate's first
+    one. `rt ci` keeps what they prove in folders `rt-edits-..`, by the numbers of the edits in order."""
+    words = words_of(process)
+    crate, folder = word_behind("--crate-name", words), pathlib.Path(word_behind("--incremental", words) or "/")
+    if not crate or not folder.parent.name.startswith("rt-edits-"):
+        return None
+    names = [path.stem for path in sorted((TOP / "crates" / crate / "must-fail").glob("*.edit"))]
+    is_one = folder.name.isdigit() and int(folder.name) < len(names)
+    return crate, names[int(folder.name)] if is_one else folder.name
+
+
+def seconds_of(process):
+    """The seconds of a processor that a process has had."""
     with contextlib.suppress(OSError):
-        words = pathlib.Path(f"/proc/{process}/cmdline").read_bytes().split(b"\0")
-    at = words.index(b"--crate-name") + 1 if b"--crate-name" in words[:-1] else 0
-    return words[at].decode(errors="replace").rpartition("/")[2] or "unknown"
+        fields = pathlib.Path(f"/proc/{process}/stat").read_text().rpartition(")")[2].split()
+        return sum(map(int, fields[11:15])) / os.sysconf("SC_CLK_TCK")
+    return 0
 
 
 def die_with_parent(behind=0):
@@ -98,16 +130,21 @@ def wait_for(is_so):
 
 
 class Watch:
-    """The times of what happens, and the most memory that is held at once: how much, when, and by whom."""
+    """The times of what happens; the most memory that is held at once: how much, when, and by whom; and what each
+    wrong body takes."""
 
     def __init__(self):
         self.began, self.most, self.proved, self.kept, self.marks = time.time(), 0, {}, set(), {}
-        self.most_at, self.held_by = 0, {}
+        self.most_at, self.held_by, self.edits = 0, {}, {}
         threading.Thread(target=self.look, daemon=True).start()
 
     def look(self):
         while True:
             held = [(process, memory_of(process)) for process in descendants()]
+            for process, _ in held:
+                if edit := edit_of(process):
+                    took = self.edits.setdefault(edit[0], {})
+                    took[edit[1]] = max(took.get(edit[1], 0), seconds_of(process))
             if (most := sum(memory for _, memory in held)) > self.most:
                 self.most, self.most_at, self.held_by = most, self.minutes(), {}
                 for process, memory in held:
@@ -146,7 +183,9 @@ class Run:
             self.log.flush()
             self.watch.note(line)
             self.last = line.strip() or self.last
-            self.waits = self.waits or line.endswith("waiting for it\n")
+            if line.endswith("waiting for it\n"):
+                self.waits = True
+                self.on_wait()
             if found := re.match(r"rt: (\w+) (?:proved|is kept|NOT PROVED)\b", line):
                 self.seen.add(found[1])
                 self.on_crate_seen(len(self.seen))
@@ -155,14 +194,13 @@ class Run:
     def on_crate_seen(self, number):
         """What follows once it has told of so many crates."""
 
+    def on_wait(self):
+        """What follows once it waits for a crate that another run proves."""
+
     def has_begun(self):
         """Whether it is at a proof, or has waited for another run's. Before its first proof, the compiler only
         lays out files."""
-        for process in descendants(self.process.pid):
-            with contextlib.suppress(OSError):
-                if b"--crate-name" in pathlib.Path(f"/proc/{process}/cmdline").read_bytes().split(b"\0"):
-                    return True
-        return self.waits
+        return self.waits or any("--crate-name" in words_of(it) for it in descendants(self.process.pid))
 
     def has_ended(self):
         return self.process.poll() is not None
@@ -187,6 +225,10 @@ class Ahead(Run):
 
     def on_crate_seen(self, number):
         self.forerunner.pause_judge_between_stages(self.name in self.seen)
+
+    def on_wait(self):
+        # it may be the judge that proves it
+        self.forerunner.send_to_judge(signal.SIGCONT)
 
 
 class Forerunner:
@@ -246,7 +288,8 @@ class Forerunner:
                     if failed or self.is_stopped:
                         break
                     self.runs = [Ahead(self, copied, name) for name in names]
-                threading.Thread(target=self.resume_judge, daemon=True).start()
+                if names not in ALONE:
+                    threading.Thread(target=self.resume_judge, daemon=True).start()
                 failed = self.wait_for_stage()
         finally:
             self.send_to_judge(signal.SIGCONT)
@@ -331,7 +374,7 @@ def figures(watch):
     """What the gate took."""
     used = resource.getrusage(resource.RUSAGE_CHILDREN)
     return {**machine(), "clock": watch.minutes(), "processor": (used.ru_utime + used.ru_stime) / 60,
-            "most": watch.most / 1e9, "most at": watch.most_at, "held by": watch.held_by,
+            "most": watch.most / 1e9, "most at": watch.most_at, "held by": watch.held_by, "edits": watch.edits,
             "marks": watch.marks, "proved": watch.proved,
             "kept": sorted(watch.kept - set(watch.proved))}
 
@@ -382,12 +425,12 @@ def tested():
 
 
 def main():
-    watch, made_of = Watch(), programs.begun(["pdpd", "xa_trials"])
+    watch, made_of = Watch(), programs.withdraw_notes(["pdpd", "xa_trials"])
     status, last = judged(watch)
     lasts = [last]
     watch.mark("rt ci ended")
     if status == 0:
-        programs.ended(made_of)
+        programs.write_notes(made_of)
         status, last = tested()
         lasts.append(last)
     watch.mark("end")
