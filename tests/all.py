@@ -17,6 +17,7 @@ import tempfile
 import threading
 import time
 from concurrent.futures import Future, ThreadPoolExecutor
+from functools import partial
 
 TESTS = pathlib.Path(__file__).resolve().parent
 TOP = TESTS.parent
@@ -42,38 +43,38 @@ class Program:
     def find(self):
         """Finds it, or compiles it."""
         try:
-            found = programs.proved(self.name)
+            found = programs.proved_program(self.name)
             self.is_proved = found is not None
             if not found and self.only_proved:
                 raise programs.NotBuilt(f"{self.name} isn't proved and built of these very sources")
-            self.path.set_result(str(found or programs.compiled(self.name)))
+            self.path.set_result(str(found or programs.compiled_program(self.name)))
         except Exception as fault:  # what waits for it is told
             self.path.set_exception(fault)
             raise
         return 0, 0, f"{'proved and built' if self.is_proved else 'compiled without proof'}, of these sources"
 
 
-def count(text):
+def count_of_last_line(text):
     """How many passed and failed, by the last line that says so."""
     found = re.findall(r"(\d+) passed, (\d+) failed", text)
     return tuple(map(int, found[-1])) if found else (0, 0)
 
 
-def ran(command, counted=count, **how):
+def outcome_of(command, count=count_of_last_line, **how):
     """Runs a command: how many passed and failed, and what it wrote. A status other than 0 is a failure."""
     how = {"cwd": TOP, "env": SURROUNDINGS, "stdin": subprocess.DEVNULL, "timeout": SECONDS, **how}
-    done = subprocess.run(command, stdout=subprocess.PIPE, stderr=subprocess.STDOUT, check=False, **how)
-    text = done.stdout.decode(errors="replace")
-    passed, failed = counted(text)
-    return passed, max(failed, 1) if done.returncode or not passed + failed else failed, text
+    result = subprocess.run(command, stdout=subprocess.PIPE, stderr=subprocess.STDOUT, check=False, **how)
+    text = result.stdout.decode(errors="replace")
+    passed, failed = count(text)
+    return passed, max(failed, 1) if result.returncode or not passed + failed else failed, text
 
 
-def run(program, words, held):
+def output_of(program, words, data):
     """What a program writes to those bytes, and what is wrong with its end, if something is."""
     words = [program.path.result(), *words]
-    done = subprocess.run(words, input=held, capture_output=True, timeout=SECONDS, check=False)
-    said = f"{program.name} ended with status {done.returncode}: {done.stderr.decode(errors='replace')[-500:]}"
-    return done.stdout, said if done.returncode else ""
+    result = subprocess.run(words, input=data, capture_output=True, timeout=SECONDS, check=False)
+    fault = f"{program.name} ended with status {result.returncode}: {result.stderr.decode(errors='replace')[-500:]}"
+    return result.stdout, fault if result.returncode else ""
 
 
 def beginning(lines, at):
@@ -83,24 +84,24 @@ def beginning(lines, at):
 
 def rows(program, words, first, asked, wanted):
     """Some of the stored rows, of which the first has that number, behind those that define words."""
-    written, said = run(program, [], b"".join(line + b"\n" for line in [*words, *asked]))
+    written, fault = output_of(program, [], b"".join(line + b"\n" for line in [*words, *asked]))
     found = written.split(b"\n")[len(words):-1]
     others = [at for at, answer in enumerate(wanted) if found[at:at + 1] != [answer]]
     differences = [f"line {first + at} of crates/xa_trials/stdin: {beginning(asked, at)}\n"
                    f"  found  {beginning(found, at)}\n  wanted {beginning(wanted, at)}" for at in others[:5]]
-    failed = max(len(others), 1 if said or len(found) != len(asked) else 0)
-    return len(asked) - len(others), failed, "\n".join([*differences, said])
+    failed = max(len(others), 1 if fault or len(found) != len(asked) else 0)
+    return len(asked) - len(others), failed, "\n".join([*differences, fault])
 
 
 def transcript(program):
     """The stored transcript of pdpd, and what it writes to it."""
     crate = TOP / "crates" / "pdpd"
-    written, said = run(program, (crate / "args").read_text().split(), (crate / "stdin").read_bytes())
-    is_right = not said and written == (crate / "stdout").read_bytes()
-    return (1, 0, "") if is_right else (0, 1, f"{said}\nIt wrote at last {written[-500:]!r}")
+    written, fault = output_of(program, (crate / "args").read_text().split(), (crate / "stdin").read_bytes())
+    is_right = not fault and written == (crate / "stdout").read_bytes()
+    return (1, 0, "") if is_right else (0, 1, f"{fault}\nIt wrote at last {written[-500:]!r}")
 
 
-def but_for(pattern, text):
+def count_of_wrong(pattern, text):
     """How many passed and failed, where a line says how many there were and how many were wrong."""
     found = re.search(pattern, text)
     return (int(found[1]) - int(found[2]), int(found[2])) if found else (0, 0)
@@ -109,7 +110,7 @@ def but_for(pattern, text):
 def model_alone():
     """Worked examples of all routes, answered by the model alone."""
     pattern = r"(\d+) messages in \d+ conversations, (\d+) answered otherwise"
-    return ran([sys.executable, "tests/model/compare/worked.py"], lambda text: but_for(pattern, text))
+    return outcome_of([sys.executable, "tests/model/compare/worked.py"], partial(count_of_wrong, pattern))
 
 
 def agreement(program, seed):
@@ -119,21 +120,22 @@ def agreement(program, seed):
         held, written = pathlib.Path(made) / "rows", pathlib.Path(made) / "answers"
         held.mkdir()
         subprocess.run([*agree, "rows", held, *words], cwd=TOP, env=SURROUNDINGS, check=True)
-        found, said = run(program, [], b"".join(path.read_bytes() for path in sorted(held.iterdir())))
+        found, fault = output_of(program, [], b"".join(path.read_bytes() for path in sorted(held.iterdir())))
         written.write_bytes(found)
         pattern = r"(\d+) of \d+ rows answered, (\d+) otherwise"
-        passed, failed, text = ran([*agree, "compare", written, *words], lambda text: but_for(pattern, text))
-    return passed, max(failed, ROWS_COMPARED - passed, 1 if said else 0), f"{text}{said}"
+        compare = [*agree, "compare", written, *words]
+        passed, failed, text = outcome_of(compare, partial(count_of_wrong, pattern))
+    return passed, max(failed, ROWS_COMPARED - passed, 1 if fault else 0), f"{text}{fault}"
 
 
 def outside(program, name):
     """A test that runs the real program from outside."""
-    return ran([f"tests/{name}.py", program.path.result()])
+    return outcome_of([f"tests/{name}.py", program.path.result()])
 
 
 def memory(pdpd, xa_trials):
     """Both programs, each of whose allocations fails in turn."""
-    return ran(["tests/memory.py", pdpd.path.result(), xa_trials.path.result()])
+    return outcome_of(["tests/memory.py", pdpd.path.result(), xa_trials.path.result()])
 
 
 def count_of_unittest(text):
@@ -146,7 +148,7 @@ def count_of_unittest(text):
 def desk(xa_trials, pdpd, name):
     """One file of the desk's tests, over both programs."""
     surroundings = {**SURROUNDINGS, "DESK_PROGRAM": xa_trials.path.result(), "DESK_PDPD": pdpd.path.result()}
-    return ran(["tools/policy/test.py", f"tests.{name}"], count_of_unittest, env=surroundings)
+    return outcome_of(["tools/policy/test.py", f"tests.{name}"], count_of_unittest, env=surroundings)
 
 
 class Steps:
@@ -178,9 +180,9 @@ def stored_rows():
     asked, wanted = ((crate / name).read_bytes().split(b"\n")[:-1] for name in ("stdin", "stdout"))
     if len(asked) != len(wanted):
         raise SystemExit(f"{len(asked)} rows are stored, and {len(wanted)} answers: `make rows` writes both")
-    count = sum(line.startswith(b"define\t") for line in asked)
-    for at in range(count, len(asked), ROWS_A_RUN):
-        yield asked[:count], at + 1, asked[at:at + ROWS_A_RUN], wanted[at:at + ROWS_A_RUN]
+    words = sum(line.startswith(b"define\t") for line in asked)
+    for at in range(words, len(asked), ROWS_A_RUN):
+        yield asked[:words], at + 1, asked[at:at + ROWS_A_RUN], wanted[at:at + ROWS_A_RUN]
 
 
 def all_steps(pdpd, xa_trials):
@@ -188,9 +190,9 @@ def all_steps(pdpd, xa_trials):
     for, and then those that take long."""
     yield [("pdpd", pdpd.find)]
     yield [("xa_trials", xa_trials.find)]
-    static = [(name, ran, [f"tests/{name}.py"]) for name in ("edits", "columns", "pages")]
+    static = [(name, outcome_of, [f"tests/{name}.py"]) for name in ("edits", "columns", "pages")]
     yield [*static, ("worked examples, by the model", model_alone)]
-    yield [("tests/rows/write.py", ran, ["tests/rows/write.py", "--stored"])]
+    yield [("tests/rows/write.py", outcome_of, ["tests/rows/write.py", "--stored"])]
     yield [("tests/program.py", outside, pdpd, "program")]
     yield [("tests/memory.py", memory, pdpd, xa_trials)]
     others = [(f"tests/{name}.py", outside, pdpd, name) for name in ("api", "serve", "tables")]

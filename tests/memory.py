@@ -177,7 +177,8 @@ class Asking(Refusing):
 
 def main():
     found = ([os.path.abspath(path) for path in sys.argv[1:]]
-             or [str(programs.proved(name) or programs.compiled(name)) for name in ("pdpd", "xa_trials")])
+             or [str(programs.proved_program(name) or programs.compiled_program(name))
+                 for name in ("pdpd", "xa_trials")])
     if len(found) != 2 or not all(map(os.path.isfile, found)):
         print(__doc__, file=sys.stderr)
         return 2

@@ -1,27 +1,34 @@
-"""What is generated in the pages (*.md), between the marks `<!-- pages: .. -->` and `<!-- end of pages -->`.
+"""What is generated in the pages (*.md), between the comments `pages: ..` and `end of pages`.
 
 Marks: `files PATTERN` is a table of the files with the first sentence of each; `definitions` the index of all
-definitions, crate by crate; `standing` the table of what each crate stands on; `lines` counts the lines of definitions
-that have to be read; `decisions ROOM,ROOM..` is the index of all decisions in docs/design/decisions, each of which is
-a heading and a line that begins with its date; `kinds PATTERN` an example of each kind of row; `tables FILE` the
-tables of SQL that a file of code makes; `said COMMAND,WORD..` what a command writes. `routes`, `route METHOD:PATH`,
-`errors`, `objects FIRST`, `states` and `examples METHOD:PATH` are parts of docs/guide, of what
-docs/guide/openapi.yaml has and the page doesn't write out.
+definitions, crate by crate; `standing` the table of all crates, with links to their pages; `lines` counts the lines of
+definitions that have to be read; `decisions ROOM,ROOM..` is the index of all decisions in docs/design/decisions, each
+of which is a heading and a line that begins with its date; `kinds PATTERN` an example of each kind of row;
+`tables FILE` the tables of SQL that a file of code makes; `said COMMAND,WORD..` what a command writes; `functions` the
+functions that policies can call, by tests/model/names.py. `routes`, `route METHOD:PATH`, `errors`, `objects FIRST`,
+`states` and `examples METHOD:PATH` are parts of docs/guide, of what docs/guide/openapi.yaml has and the page doesn't
+write out.
 """
 import ast
+import collections
 import functools
 import json
 import pathlib
 import re
 import subprocess
+import sys
 import textwrap
 
-from api_parts.examples import OPENAPI, response_body
-from api_parts.openapi import compact, operations
-from programs import crates
-from yaml_part import read_yaml
-
 TOP = pathlib.Path(__file__).resolve().parent.parent
+sys.path.append(str(TOP / "tests" / "model"))
+
+from api_parts.examples import OPENAPI, response_body  # noqa: E402
+from api_parts.openapi import compact, operations  # noqa: E402
+from names import NAMES, TAKEN  # noqa: E402
+from programs import crates  # noqa: E402
+from values import TYPES  # noqa: E402
+from yaml_part import read_yaml  # noqa: E402
+
 DECISIONS = TOP / "docs" / "design" / "decisions"
 COLUMNS = 100
 MARKED = re.compile(r"(<!-- pages: (\w+)(?: (\S+))? -->\n).*?(<!-- end of pages -->)", re.S)
@@ -57,7 +64,8 @@ def first_sentence(path):
         comment = ast.get_docstring(ast.parse(text)) or ""
     else:
         mark = "--" if path.suffix == ".antt" else "#"
-        comment = "\n".join(line.removeprefix(mark) for line in re.match(rf"(?:{mark}.*\n)*", text)[0].splitlines())
+        comment = re.match(rf"(?:#!.*\n)?((?:{mark}.*\n)*)", text)[1]
+        comment = "\n".join(line.removeprefix(mark) for line in comment.splitlines())
     paragraph = " ".join(comment.split("\n\n")[0].split())
     return re.split(r"(?<=[^.]\.) (?=[A-Z`<])", paragraph)[0].rstrip(".")
 
@@ -67,7 +75,8 @@ def cell(text):
 
 
 def files(pattern):
-    rows = [(path.name, first_sentence(path)) for path in sorted(TOP.glob(pattern)) if path.name != "__init__.py"]
+    found = [path for path in sorted(TOP.glob(pattern)) if path.is_file()]
+    rows = [(path.name, first_sentence(path)) for path in found if path.name not in ("__init__.py", "README.md")]
     lines = [f"| `{name}` | {cell(about)} |\n" for name, about in rows]
     return "| File | What it is about |\n|---|---|\n" + "".join(lines)
 
@@ -91,7 +100,9 @@ def standing(_):
     text = "| Crate | Stands on, of this repository | Of the kit |\n|---|---|---|\n"
     for name, rest in found.items():
         ours, kit = ([f"`{each}`" for each in rest if (each in found) == own] for own in (True, False))
-        text += f"| `{name}` | {', '.join(ours)} | {', '.join(kit)} |\n"
+        page = f"../../crates/{name}"
+        calls = f" ([calls]({page}/CALLING.md))" * (TOP / "crates" / name / "CALLING.md").exists()
+        text += f"| [`{name}`]({page}/README.md){calls} | {', '.join(ours)} | {', '.join(kit)} |\n"
     return text
 
 
@@ -138,6 +149,53 @@ def kinds(pattern):
         line = min(lines, key=lambda line: ("=>  !" in line, "\\(" in line, abs(len(line) - EXAMPLE), line))
         example = line.replace("|", r"\|") if len(line) <= GREATEST_EXAMPLE else f"{kind}  ..  =>  .."
         text += f"| `{kind}` | {len(lines):,} | `{example}` |\n"
+    return text
+
+
+# ---- functions
+
+# What stands behind the function in a call of a higher-order function (A.3.12), if it isn't one bag among values.
+BEHIND = {"any-of-any": "values and bags", "all-of-any": "two bags", "all-of-all": "two bags"}
+
+
+def shown_kind(kind, data_type):
+    """A kind that a function takes or gives, as pages have it: `T` in place of that data type."""
+    held = kind.rstrip("*").split(" ")[-1]
+    return "bag of " * kind.startswith("bag ") + ("T" if held == data_type else held) + " .." * kind.endswith("*")
+
+
+def families(name, takes, gives):
+    """The families that a function may belong to (name, what it takes, what it gives), each with what its `T` is."""
+    found = [((name, tuple(shown_kind(kind, "") for kind in takes), shown_kind(gives, "")), "")]
+    for data_type in TYPES:
+        taken = tuple(shown_kind(kind, data_type) for kind in takes)
+        for old, new in ((f"{data_type}-", "T-"), (f"string-from-{data_type}", "string-from-T")):
+            for given in sorted({shown_kind(gives, data_type), shown_kind(gives, "")}) if name.startswith(old) else ():
+                found.append(((new + name.removeprefix(old), taken, given), data_type))
+    return found
+
+
+def functions(_):
+    """The functions by their URIs; those that differ in a data type alone stand in one row, the largest there is."""
+    parted = {name: re.fullmatch(r"urn:oasis:names:tc:xacml:(.*?):function:(.*)", name) for name in NAMES}
+    named = [(*(found.groups() if found else ("", name)), *TAKEN.get(name, (None, None)))
+             for name, found in parted.items()]
+    found = [(version, families(name, takes, gives)) for version, name, takes, gives in named if takes is not None]
+    sizes = collections.Counter((version, family) for version, choices in found for family, _ in choices)
+    types, rows = {}, {}
+    for version, choices in found:
+        family, data_type = max(choices, key=lambda choice: sizes[version, choice[0]])
+        types.setdefault((version, *family), []).append(data_type)
+    for (version, name, takes, gives), held in types.items():
+        rows.setdefault((version, tuple(held), ", ".join(takes), gives), []).append(name)
+    for version, name in ((version, name) for version, name, takes, _ in named if takes is None):
+        inner, gives = ("", "bag of what it gives") if name == "map" else (" that gives a boolean", "boolean")
+        takes = f"a function of values{inner}, {BEHIND.get(name, 'values and one bag')}"
+        rows.setdefault((version, ("",), takes, gives), []).append(name)
+    text = "| Version | Functions | T | Takes | Gives |\n|---|---|---|---|---|\n"
+    for (version, held, takes, gives), names in rows.items():
+        shown = "each data type" if len(held) == len(TYPES) else ", ".join(held)
+        text += f"| {version} | {', '.join(f'`{name}`' for name in names)} | {shown} | {takes} | {gives} |\n"
     return text
 
 
@@ -297,5 +355,6 @@ def decisions(rooms):
 def generated(text):
     makers = {"files": files, "definitions": definitions, "standing": standing, "lines": lines, "states": states,
               "decisions": decisions, "kinds": kinds, "said": said, "tables": tables, "routes": routes, "route": route,
-              "errors": errors, "objects": objects, "examples": lambda route: examples(route, text)}
+              "errors": errors, "objects": objects, "functions": functions,
+              "examples": lambda route: examples(route, text)}
     return MARKED.sub(lambda found: found[1] + "\n" + makers[found[2]](found[3]) + "\n" + found[4], text)

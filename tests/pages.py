@@ -1,9 +1,8 @@
 #!/usr/bin/env python3
-"""Looks whether what the pages (*.md) have between the marks `<!-- pages: .. -->` and `<!-- end of pages -->` is what
-is generated of the files that it names, whether a line of prose is longer than 110 columns, whether each link leads
-to a file of the repository and to a heading in it, whether files and commands that pages name are there, whether each
-public call has an example in its crate's CALLING.md, and whether all pages together have more words than they may.
-Takes some seconds.
+"""Looks whether what the pages (*.md) have between the comments `pages: ..` and `end of pages` is what is generated of
+the files that it names, whether a line of prose is longer than 110 columns, whether each link leads to a file of the
+repository and to a heading in it, whether files and commands that pages name are there, whether each public call has an
+example in its crate's CALLING.md, and whether all pages together have more words than they may. Takes some seconds.
 
 usage: tests/pages.py             looks; the last line is 'N passed, M failed'
        tests/pages.py --write     writes what is generated, and wraps prose at 100 columns

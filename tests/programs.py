@@ -89,35 +89,35 @@ def note(program, made_of):
 def is_of(program, made_of):
     """Whether the program is there, and its note says that it, as it is, was made of that."""
     try:
-        said = json.loads(note_of(program).read_text(encoding="ascii"))
-        return said == {"sources": made_of, "program": sum_of(program)} and os.access(program, os.X_OK)
+        found = json.loads(note_of(program).read_text(encoding="ascii"))
+        return found == {"sources": made_of, "program": sum_of(program)} and os.access(program, os.X_OK)
     except (OSError, ValueError):
         return False
 
 
-def built(name):
+def prover_output(name):
     """Where the prover leaves a program."""
     return TOP / "crates" / name / "out" / name
 
 
-def proved(name):
+def proved_program(name):
     """The program that is proved and built of these very sources, if there is one."""
-    return built(name) if is_of(built(name), fingerprint(name)) else None
+    return prover_output(name) if is_of(prover_output(name), fingerprint(name)) else None
 
 
-def begun(names):
-    """What these programs are to be made of, before the prover makes them; their notes go."""
+def withdraw_notes(names):
+    """Removes the notes of these programs, before the prover makes them; gives what they are to be made of."""
     for name in names:
-        note_of(built(name)).unlink(missing_ok=True)
+        note_of(prover_output(name)).unlink(missing_ok=True)
     return {name: fingerprint(name) for name in names}
 
 
-def ended(before):
+def write_notes(before):
     """Notes beside each of the programs, which the prover has made, of what it is made, unless a source has
     changed meanwhile."""
     for name, made_of in before.items():
-        if built(name).is_file() and fingerprint(name) == made_of:
-            note(built(name), made_of)
+        if prover_output(name).is_file() and fingerprint(name) == made_of:
+            note(prover_output(name), made_of)
 
 
 def compilers_in(folder):
@@ -142,9 +142,9 @@ def has_main(translation):
     return named.returncode == 0 and b"main" in named.stdout.split()
 
 
-def taken(room, folder, seen):
+def compiler_words(room, folder, without_main):
     """The words of a compiler that runs in the room, once its translation, of which the folder has a copy then,
-    has `main`. What it looked at without success is told in `seen`."""
+    has `main`. Those that have none are put into `without_main`, with their bytes."""
     for words, at in compilers_in(room):
         source = next(word for word in words if word.endswith(".bc"))
         try:
@@ -153,7 +153,7 @@ def taken(room, folder, seen):
             continue
         if has_main(folder / source):
             return words
-        seen[str(at.relative_to(room) / source)] = (folder / source).stat().st_size
+        without_main[str(at.relative_to(room) / source)] = (folder / source).stat().st_size
     return None
 
 
@@ -169,60 +169,61 @@ def end_hints(process):
             continue
 
 
-def untaken(name, folder, seen):
-    """That no translation of a program was taken, and why."""
-    ended = f"`rt try` ended, or took over {PATIENCE} s, and no translation of {name} was taken."
-    parts = ", ".join(f"{source} of {size} bytes" for source, size in seen.items())
-    found = f"Without `main` were {parts}." if seen else "Its compiler wasn't seen to run."
-    said = (folder / "said").read_text(errors="replace")[-3000:]
-    return NotBuilt(f"{ended} {found} It said:\n{said}")
+def missing_translation(name, folder, without_main):
+    """The error that there is no translation of a program, and why."""
+    parts = ", ".join(f"{source} of {size} bytes" for source, size in without_main.items())
+    reason = f"Without `main` were {parts}." if without_main else "Its compiler wasn't seen to run."
+    output = (folder / "output").read_text(errors="replace")[-3000:]
+    return NotBuilt(f"`rt try` ended, or took over {PATIENCE} s, and no translation of {name} was taken. {reason} "
+                    f"It said:\n{output}")
 
 
-def translated(name, folder, level):
+def translation_command(name, folder, level):
     """Has `rt try` translate a program for LLVM, ends it there, and gives the words that compile it at that
     level; they name the translation, a file of the folder."""
-    room, case, seen = folder / "try", folder / "cases", {}
+    room, case, without_main = folder / "try", folder / "cases", {}
     room.mkdir()
     case.mkdir()
     (case / "none").touch()
     began = time.time()
-    with open(folder / "said", "wb") as said:
-        how = {"env": {**os.environ, "TMPDIR": str(room)}, "stdin": subprocess.DEVNULL, "stdout": said, "stderr": said}
+    with open(folder / "output", "wb") as output:
+        how = {"stdin": subprocess.DEVNULL, "stdout": output, "stderr": output}
         words = ["rt", "try", "--steps", "1", "--cases", case, "--", "none"]
-        ran = subprocess.Popen(words, cwd=TOP / "crates" / name, **how)
+        surroundings = {**os.environ, "TMPDIR": str(room)}
+        trial = subprocess.Popen(words, cwd=TOP / "crates" / name, env=surroundings, **how)
         try:
-            while not (words := taken(room, folder, seen)):
-                end_hints(ran.pid)
-                if ran.poll() is not None or time.time() - began > PATIENCE:
-                    raise untaken(name, folder, seen)
+            while not (words := compiler_words(room, folder, without_main)):
+                end_hints(trial.pid)
+                if trial.poll() is not None or time.time() - began > PATIENCE:
+                    raise missing_translation(name, folder, without_main)
                 time.sleep(PAUSE)
         finally:
-            ran.terminate()
-            ran.wait()
+            trial.terminate()
+            trial.wait()
     return [level if word == "-O0" else word for word in words if not word.startswith("-fsanitize")]
 
 
-def unproved(name, level):
+def unproved_path(name, level):
     """Where a program that is compiled at that level is kept."""
     return UNPROVED / (name if level == OPTIMISED else f"{name}{level}")
 
 
-def compiled(name, level=OPTIMISED):
+def compiled_program(name, level=OPTIMISED):
     """The program compiled of these sources without proof: what it does isn't proved, and it stops where an
     index is out of range, say. It is kept in build/unproved, and compiled again where a source has changed."""
-    program, made_of = unproved(name, level), fingerprint(name, ("src",))
+    program, made_of = unproved_path(name, level), fingerprint(name, ("src",))
     if is_of(program, made_of):
         return program
     UNPROVED.mkdir(parents=True, exist_ok=True)
     with tempfile.TemporaryDirectory(prefix=f"{name}-", dir=UNPROVED) as made:
         folder = pathlib.Path(made).resolve()
-        words, top = translated(name, folder, level), kit()
+        words, top = translation_command(name, folder, level), kit()
         parts = [words[words.index("-o") + 1], top / "c" / "libos_c.a", top / "c" / "liblibc_c.a"]
         link = [top / "bin" / "rattle-link", "--target", "x86_64-unknown-linux-gnu", "--toolchain", top / "toolchain"]
         for command in (words, [*link, "-o", name, *parts]):
-            ran = subprocess.run(command, cwd=folder, stdin=subprocess.DEVNULL, capture_output=True, check=False)
-            if ran.returncode != 0:
-                raise NotBuilt(f"{name} isn't compiled:\n{ran.stderr.decode(errors='replace')[-3000:]}")
+            result = subprocess.run(command, cwd=folder, stdin=subprocess.DEVNULL, capture_output=True, check=False)
+            if result.returncode != 0:
+                raise NotBuilt(f"{name} isn't compiled:\n{result.stderr.decode(errors='replace')[-3000:]}")
         if fingerprint(name, ("src",)) != made_of:
             raise NotBuilt(f"a source of {name} changed while it was compiled")
         note_of(program).unlink(missing_ok=True)
@@ -235,18 +236,18 @@ def say(text):
     print(text, file=sys.stderr, flush=True)
 
 
-def soonest(name):
+def soonest_program(name):
     """The program that is there soonest: the proved one, or else one that is compiled without proof. If none is
     there yet, it tells what it compiles, and how long that took."""
     made_of = fingerprint(name, ("src",))
-    kept = [path for level in (OPTIMISED, QUICKLY) if is_of(path := unproved(name, level), made_of)]
-    found = proved(name) or next(iter(kept), None)
+    kept = [path for level in (OPTIMISED, QUICKLY) if is_of(path := unproved_path(name, level), made_of)]
+    found = proved_program(name) or next(iter(kept), None)
     if found:
         return found
     say(f"# {name} isn't proved and built of these sources. It and the {len(tower(name)) - 1} crates below it are\n"
         "# compiled without proof, in some three minutes, and kept for the next time.")
     began = time.time()
-    found = compiled(name, QUICKLY)
+    found = compiled_program(name, QUICKLY)
     say(f"# Compiled in {time.time() - began:.0f} s: {found.relative_to(TOP)}. Nothing of it is proved.")
     return found
 
@@ -254,7 +255,7 @@ def soonest(name):
 def main():
     word, *rest = sys.argv[1:] or [""]
     if word == "soonest" and len(rest) == 1:
-        print(soonest(rest[0]))
+        print(soonest_program(rest[0]))
         return 0
     if word == "tower" and len(rest) == 1 and rest[0] in crates():
         print(*sorted(tower(rest[0])), sep="\n")
@@ -262,10 +263,10 @@ def main():
     if word != "proved" or len(rest) < 2:
         print(__doc__, file=sys.stderr)
         return 2
-    before = begun(rest[:1])
+    before = withdraw_notes(rest[:1])
     status = subprocess.run(rest[1:], check=False).returncode
     if status == 0:
-        ended(before)
+        write_notes(before)
     return status
 
 

@@ -1,4 +1,4 @@
--- A store of schema 1 as SQL: what the last program of schema 1 wrote for the messages of `filled` in tests/tables.py, as sqlite3 read its
+-- A store of schema 1 as SQL: what the last program of schema 1 wrote for the messages of `filled_model` in tests/tables_parts/shared.py, as sqlite3 read its
 -- file: the statements by which it made its tables, and its rows, each under its rowid. There are two domains, and the gap that a third one
 -- left, which was removed.
 BEGIN;
