@@ -77,8 +77,8 @@ def table(old, took=None):
         names = [path.stem for path in sorted(TOP.glob(f"crates/{crate}/must-fail/*.edit"))]
         beside = len(list(TOP.glob(f"edits/{crate}/*.edit")))
         listed = ", ".join(f"`{name}` {costs.get(name, '?')}" for name in names)
-        text += f"| `{crate}` | {checks.get(crate, '?') if names else ''} | {listed} | {beside or ''} |\n"
-        seconds += sum(int(costs.get(name, 0)) for name in names) + int(checks.get(crate, 0) if names else 0)
+        text += f"| `{crate}` | {checks.get(crate, '?') if len(names) > 1 else ''} | {listed} | {beside or ''} |\n"
+        seconds += sum(int(costs.get(name, 0)) for name in names) + int(checks.get(crate, 0) if len(names) > 1 else 0)
         numbers = [numbers[0] + len(names), numbers[1] + beside]
     total = f"{numbers[0]} edits, {seconds / 60:.0f} processor-minutes but for those with `?`"
     return f"{text}| all | | {total} | {numbers[1]} |\n"

@@ -97,14 +97,17 @@ def name_of(process):
 
 def edit_of(process):
     """The wrong body that a process tries, as its crate and its name; `seed` is the check before a crate's first
-    one. `rt ci` keeps what they prove in folders `rt-edits-..`, by the numbers of the edits in order."""
-    words = words_of(process)
+    one. `rt ci` tries it in a folder `rt-edit-..`. If a crate has several, what they prove is kept in folders
+    `rt-edits-..`, by their numbers in order."""
+    words, place = words_of(process), pathlib.Path("/")
+    with contextlib.suppress(OSError):
+        place = pathlib.Path(os.readlink(f"/proc/{process}/cwd"))
     crate, folder = word_behind("--crate-name", words), pathlib.Path(word_behind("--incremental", words) or "/")
-    if not crate or not folder.parent.name.startswith("rt-edits-"):
-        return None
-    names = [path.stem for path in sorted((TOP / "crates" / crate / "must-fail").glob("*.edit"))]
-    is_one = folder.name.isdigit() and int(folder.name) < len(names)
-    return crate, names[int(folder.name)] if is_one else folder.name
+    names = [path.stem for path in sorted((TOP / "crates" / (crate or "") / "must-fail").glob("*.edit"))]
+    if folder.parent.name.startswith("rt-edits-"):
+        is_one = folder.name.isdigit() and int(folder.name) < len(names)
+        return crate, names[int(folder.name)] if is_one else folder.name
+    return (crate, names[0]) if place.name.startswith("rt-edit-") and len(names) == 1 else None
 
 
 def seconds_of(process):
