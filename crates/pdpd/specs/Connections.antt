@@ -23,9 +23,9 @@ pub record IsConnectionServed (old new : FrontState) (before now : Known) : Type
   pub goes_on : fault_of_end end ≡ None
   pub closed : new ≡ record left { lines = none_open }
 
--- so many connections were served, one after another; `events` and `replies` are theirs, those of the first before
--- those of the second, and so on. Which connections these were, and what came and went on them, isn't said: of a
--- socket nothing is known
+-- `count` connections were served, one after another; `events` and `replies` are theirs, those of the first before
+-- those of the second, and so on. Which connections these were, and what came and went on them, isn't said: of a socket
+-- nothing is known
 abbrev pub AreServed : ℕ → FrontState → FrontState → List Event → List Reply → Type 0
 AreServed zero old new events replies = (new ≡ old) × (events ≡ []) × (replies ≡ [])
 AreServed (suc count) old new events replies =
@@ -33,7 +33,7 @@ AreServed (suc count) old new events replies =
     × (before : Known) × (now : Known) × (last : IsConnectionServed mid new before now)
     × (events ≡ earlier ++ last.is_driven.0.events) × (replies ≡ told ++ last.is_driven.0.run)
 
--- the headline over so many connections: all of their events are one run of the server, and each domain's replies in
+-- the headline over `count` connections: all of their events are one run of the server, and each domain's replies in
 -- it, whatever the connections on which its messages came, are those of its own machine, used by it alone
 pub record AreIsolated (count : ℕ) (old new : FrontState) : Type 0 where
   pub events : List Event

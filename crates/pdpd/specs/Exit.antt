@@ -7,7 +7,7 @@ use Rattle.pdpd.specs.declared.exit.Exit.TheVariants.{Done, Failed, Usage, Malfo
 use Rattle.pdpd.specs.declared.replay.transcript.EntryFault.{EntryFault}
 use Rattle.pdpd.specs.declared.replay.transcript.EntryFault.TheVariants as read
 
--- the status with which it ends
+-- the status with which the program ends
 abbrev pub status_of : Exit → ℕ
 status_of Done = 0
 status_of Failed = 1
@@ -17,12 +17,12 @@ status_of Store = 4
 status_of Socket = 5
 status_of Memory = 6
 
--- how it ends if standard input or output fails with that kind of error
+-- how the program ends if standard input or output fails with that kind of error
 abbrev pub exit_of : ErrorKind → Exit
 exit_of OutOfMemory = Memory
 exit_of _ = Failed
 
--- how it ends if that entry, counted from 1, can't be read
+-- how the program ends if that entry, counted from 1, can't be read
 abbrev pub exit_of_read : ℕ → EntryFault → Exit
 exit_of_read entry (read.Malformed fault) = Malformed entry fault
 exit_of_read entry read.Failed = Failed

@@ -15,7 +15,7 @@ use Rattle.pdpd.specs.declared.fault.Fault.TheVariants.{Address, TokenUnread, To
 use Rattle.pdpd.specs.declared.fault.Fault.TheVariants.{Socket, Connection, Clock, Output, Memory}
 use Rattle.pdpd.specs.declared.serve.setting.Setting.{Setting}
 
--- how the program ends
+-- how the program ends by a fault
 abbrev pub exit_of_fault : Fault → Exit
 exit_of_fault Address = exit.Usage
 exit_of_fault (variant.Setting _) = exit.Usage
@@ -31,24 +31,24 @@ exit_of_fault Memory = exit.Memory
 
 -- ---- what each step that fails may end by: a fault of its own, or want of memory
 
--- the operator's token
+-- a fault of the operator's token, or want of memory
 abbrev pub IsOfToken : Fault → Type 0
 IsOfToken TokenUnread = ⊤
 IsOfToken TokenBad = ⊤
 IsOfToken Memory = ⊤
 IsOfToken _ = ⊥
 
--- the store
+-- a fault of the store, or want of memory
 abbrev pub IsOfStore : Fault → Type 0
 IsOfStore (Store _) = ⊤
 IsOfStore Memory = ⊤
 IsOfStore _ = ⊥
 
--- either
+-- a fault of the operator's token or of the store, or want of memory
 abbrev pub IsOfFiles : Fault → Type 0
 IsOfFiles fault = IsOfToken fault ⊎ IsOfStore fault
 
--- the connections, one after another
+-- a fault of connections that are served one after another, or want of memory
 abbrev pub IsOfConnections : Fault → Type 0
 IsOfConnections Connection = ⊤
 IsOfConnections Clock = ⊤
@@ -56,7 +56,7 @@ IsOfConnections Shut = ⊤
 IsOfConnections Memory = ⊤
 IsOfConnections _ = ⊥
 
--- the socket, and then the connections
+-- a fault of the socket, of the output, or of connections that are served, or want of memory
 abbrev pub IsOfServing : Fault → Type 0
 IsOfServing Socket = ⊤
 IsOfServing Output = ⊤
@@ -66,7 +66,7 @@ IsOfServing Shut = ⊤
 IsOfServing Memory = ⊤
 IsOfServing _ = ⊥
 
--- a setting
+-- a fault of that setting, or want of memory
 abbrev pub IsOfSetting : Setting → Fault → Type 0
 IsOfSetting setting fault = (fault ≡ variant.Setting setting) ⊎ (fault ≡ Memory)
 
@@ -94,15 +94,15 @@ is_passing kind.TimedOut = true
 is_passing kind.Interrupted = true
 is_passing _ = false
 
--- so it may after these failures of the network, which have no kind of their own: Linux's EPROTO, ENOPROTOOPT,
--- EHOSTDOWN, ENONET and EOPNOTSUPP (accept(2))
+-- failures of the network that have no kind of their own, after which the next connection may be taken: Linux's EPROTO,
+-- ENOPROTOOPT, EHOSTDOWN, ENONET and EOPNOTSUPP (accept(2))
 abbrev pub is_of_network : ℕ → Bool
 is_of_network number = list_any (λ n. number == n) (71 ∷ 92 ∷ 112 ∷ 64 ∷ 95 ∷ [])
 
--- and if there was no room for it, which passes: EMFILE, ENFILE, ENOMEM and ENOBUFS (accept(2))
+-- want of room for a connection, which passes: EMFILE, ENFILE, ENOMEM and ENOBUFS (accept(2))
 abbrev pub is_want_of_room : ℕ → Bool
 is_want_of_room number = list_any (λ n. number == n) (24 ∷ 23 ∷ 12 ∷ 105 ∷ [])
 
--- by the kind of the failure, and by its number
+-- whether the next connection may be taken after a failure, by its kind and by its number
 abbrev pub goes_on_after : ErrorKind → ℕ → Bool
 goes_on_after kind number = is_want_of_room number || is_passing kind || is_of_network number

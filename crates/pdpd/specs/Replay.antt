@@ -29,7 +29,7 @@ pub record Exchange : Type 0 where
   pub replies : List Reply
   pub written : List ℕ
 
--- nothing was answered
+-- the exchange in which nothing was answered
 abbrev pub no_exchange : Exchange
 no_exchange = record { events = []; replies = []; written = [] }
 
@@ -59,7 +59,7 @@ StreamTakes heading bytes was is old new exchange =
       written = reply_entries heading.connection replies;
     })
 
--- unless it has ended: then they are passed over
+-- `StreamTakes`, unless the stream has ended: then the bytes are passed over
 abbrev pub OpenTakes : Bool → Heading → List ℕ → Stream → Stream → FrontState → FrontState → Exchange → Type 0
 OpenTakes true heading bytes was is old new exchange = (is ≡ was) × (new.server ≡ old.server) × (exchange ≡ no_exchange)
 OpenTakes false heading bytes was is old new exchange =
@@ -126,8 +126,8 @@ IsTranscriptRead done left rest (Malformed number wrong) =
     × (number ≡ length entries + 1) × done entries
 IsTranscriptRead done left rest _ = ⊤
 
--- how it was replayed: so it was read, and all those entries were answered, one after another, from connections of
--- which nothing has come
+-- how a transcript was replayed: as `IsTranscriptRead` says, and all entries that were read were answered, one after
+-- another, from connections of which nothing has come
 abbrev pub IsReplayed : FrontState → FrontState → Option (List ℕ) → Option (List ℕ) → Option (List ℕ)
     → Option (List ℕ) → Exit → Type 0
 IsReplayed old new left rest before now exit =

@@ -5,10 +5,10 @@ use Rattle.xa_value.specs.Digits.{number_up_to}
 use Rattle.pdpd.specs.declared.serve.setting.Setting.{Setting}
 use Rattle.pdpd.specs.declared.serve.setting.Setting.TheVariants.{Work, Reply, Reading, Views, Idle}
 
--- what each is if its variable isn't set: the limit of work for one message, 0 for none; how many bytes the body of a
--- response may have, and how many bytes of policies may be read for one message, 0 for any number; how many bytes of
--- memory cached views of domains may take, 0 to cache none; for how many seconds a connection may give nothing, or take
--- nothing, 0 for ever
+-- what each setting is if its variable isn't set: the limit of work for one message, 0 for none; how many bytes the
+-- body of a response may have, and how many bytes of policies may be read for one message, 0 for any number; how many
+-- bytes of memory cached views of domains may take, 0 to cache none; for how many seconds a connection may give
+-- nothing, or take nothing, 0 for ever
 abbrev pub default_of : Setting → ℕ
 default_of Work = 150_000_000
 default_of Reply = 16_777_216
@@ -16,7 +16,7 @@ default_of Reading = 16_000_000
 default_of Views = 268_435_456
 default_of Idle = 30
 
--- what it is, by the text to which its variable is set, if it is: a number
+-- what a setting is, by the text to which its variable is set, if it is: a number
 abbrev pub value_of : Setting → Option (List ℕ) → Option ℕ
 value_of setting None = Some (default_of setting)
 value_of setting (Some text) = number_up_to 18_446_744_073_709_551_615 text

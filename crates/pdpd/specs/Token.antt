@@ -12,6 +12,6 @@ first_line (byte ∷ bytes) = if byte == 10 then [] else byte ∷ first_line byt
 abbrev pub IsOperatorOf : List ℕ → List ℕ → Type 0
 IsOperatorOf operator text = (operator ≡ sha256 (first_line text)) × IsTrue (is_token (first_line text))
 
--- of some text
+-- the digest of the token in the first line of some text
 abbrev pub IsOperator : List ℕ → Type 0
 IsOperator operator = (text : List ℕ) × IsOperatorOf operator text

@@ -10,7 +10,7 @@ use Rattle.pdpd.specs.declared.replay.transcript_fault.TranscriptFault.{Transcri
 use Rattle.pdpd.specs.declared.replay.transcript_fault.TranscriptFault.TheVariants as fault
 use Rattle.pdpd.specs.Heading.{heading_of}
 
--- none of them is a line feed
+-- no byte of the text is a line feed
 abbrev pub HasNoFeed : List ℕ → Type 0
 HasNoFeed text = All (λ c. c ≢ 10) text
 
@@ -22,7 +22,7 @@ IsLine line = HasNoFeed line × (length line ≤ 64)
 abbrev pub IsHeading : Heading → List ℕ → Type 0
 IsHeading heading text = (line : List ℕ) × IsLine line × (heading_of line ≡ Ok heading) × (text ≡ line ++ codes "\n")
 
--- the text behind it: as many bytes as it counts, and a line feed
+-- the text behind a heading: as many bytes as it counts, and a line feed
 abbrev pub IsBody : ℕ → List ℕ → List ℕ → Type 0
 IsBody count bytes text = (length bytes ≡ count) × (text ≡ bytes ++ codes "\n")
 
@@ -40,7 +40,7 @@ IsNoHeading (fault.Heading wrong) text rest =
     (line : List ℕ) × IsLine line × (heading_of line ≡ Err wrong) × (text ≡ line ++ codes "\n")
 IsNoHeading _ text rest = ⊥
 
--- the text is not so many bytes and a line feed
+-- the text is not `count` bytes and a line feed
 abbrev pub IsNoBody : ℕ → TranscriptFault → List ℕ → Option (List ℕ) → Type 0
 IsNoBody count fault.CutBytes text rest = (length text < count) × IsAtEnd rest
 IsNoBody count fault.NoLineFeed text rest =

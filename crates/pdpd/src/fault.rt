@@ -127,7 +127,7 @@ impl Fault {
         }
     }
 
-    /// What it is about: a path or an address of the command line.
+    /// What the fault is about: a path or an address of the command line.
     fn subject<'a>(self, serving: &'a ServeCommand<'_>) -> Option<&'a str> {
         match self {
             Fault::TokenUnread | Fault::TokenBad => Some(serving.token_file.as_str()),

@@ -62,7 +62,7 @@ fn fault_at(rt: &HostRuntime, path: &str, fault: Fault) -> Fault
     }
 }
 
-/// Why its tables can't be opened.
+/// Why a store's tables can't be opened.
 fn fault_of_tables(error: OpenError) -> Fault
     ensures { IsOfStore result }
 {

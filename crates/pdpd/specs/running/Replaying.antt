@@ -18,7 +18,7 @@ abbrev pub end_of : Result (Unit {0}) Exit → Exit
 end_of (Ok _) = Done
 end_of (Err exit) = exit
 
--- that holds of an exchange, and a writer took what was written
+-- an exchange has that property, and a writer took what was written of it
 abbrev pub Writes : Option (List ℕ) → Option (List ℕ) → (Exchange → Type 0) → Type 0
 Writes before now is = (exchange : Exchange) × Appends before now exchange.written × is exchange
 
@@ -54,8 +54,8 @@ HasFree lines = (number : ℕ) × (first_free lines ≡ Some number)
 unfoldable pub IsOneOpen : Conn → Lines → Type 0
 IsOneOpen conn lines = (stream : Stream) × IsOpen conn lines stream
 
--- a connection that goes on took the bytes of an entry, and the replies were written; whether its session has
--- ended then
+-- a connection that goes on took the bytes of an entry, and the replies were written; `has_ended` says whether its
+-- session has ended then
 pub record HasStreamTaken (conn : Conn) (heading : Heading) (bytes : List ℕ) (old new : FrontState) (stream : Stream)
     (has_ended : Bool) (before now : Option (List ℕ)) : Type 0 where
   pub after : Stream
@@ -97,11 +97,11 @@ TakesAsHeld heading bytes was are old new before now =
 unfoldable pub AreReady : List TranscriptConnection → Lines → Type 0
 AreReady connections lines = AreOf connections lines × (length connections ≡ 64) × All HasRoom lines
 
--- so it is with one of them
+-- what is held of the connection is right, and it has room for a piece if its session goes on
 unfoldable pub IsReady : TranscriptConnection → Lines → Type 0
 IsReady connection lines = (stream : Stream) × IsConnectionHeld connection lines stream × HasRoom (Some stream)
 
--- and stays, after what was done with it; no other has changed
+-- a connection stays the one of its number, and has room for a piece if its session goes on; no other has changed
 unfoldable pub StaysReady : TranscriptConnection → TranscriptConnection → Lines → Lines → Type 0
 StaysReady was is old new =
     (after : Stream) × (new ≡ with_line was.conn (Some after) old) × (is.conn ≡ was.conn)

@@ -14,11 +14,11 @@ IsOfSettings fault =
     IsOfSetting Work fault
     ⊎ (IsOfSetting Reply fault ⊎ (IsOfSetting Reading fault ⊎ (IsOfSetting Views fault ⊎ IsOfSetting Idle fault)))
 
--- a connection was served, whatever is known of it
+-- a connection was served, whatever is known of its reader, its writer and the clock
 unfoldable pub ServesOne : FrontState → FrontState → Type 0
 ServesOne old new = (before : Known) × (now : Known) × IsConnectionServed old new before now
 
--- so many were
+-- that many connections were served, as `AreIsolated` says
 unfoldable pub Serves : ℕ → FrontState → FrontState → Type 0
 Serves count old new = AreIsolated count old new
 

@@ -36,12 +36,12 @@ abbrev pub replies_told : List Outcome → List (List ℕ)
 replies_told [] = []
 replies_told (outcome ∷ outcomes) = reply_told outcome ++ replies_told outcomes
 
--- after an answer, which is the last of its session or isn't
+-- the progress after an answer, which is the last of its session or isn't
 abbrev pub after_answer : Bool → Progress
 after_answer true = progress.Ended
 after_answer false = progress.Answered
 
--- after none: a session that has ended stays so
+-- the progress after no answer: a session that has ended stays so
 abbrev pub after_none : Progress → Progress
 after_none progress.Ended = progress.Ended
 after_none progress.Answered = progress.Waits
@@ -52,7 +52,7 @@ progress_after was (Answered (Ok (Some answer))) = after_answer answer.last
 progress_after was (Answered (Ok None)) = after_none was
 progress_after was _ = was
 
--- after one outcome and another
+-- the progress after one outcome and another
 abbrev pub progress_of : Progress → List Outcome → Progress
 progress_of was [] = was
 progress_of was (outcome ∷ outcomes) = progress_of (progress_after was outcome) outcomes
@@ -62,14 +62,14 @@ abbrev pub answers_behind : List Outcome → Option (List Outcome)
 answers_behind (Held (Ok _) ∷ outcomes) = Some outcomes
 answers_behind _ = None
 
--- ---- what a stream holds, answered as far as that
+-- ---- what a stream holds, answered up to some place
 
--- once the messages were cut off, the stream stands still, or it has ended by the fault
+-- the stream stands where messages that were cut off leave it, or it has ended there by the fault
 abbrev pub LeavesOff : Option SessionFault → Stream → Stream → Type 0
 LeavesOff None last after = after ≡ last
 LeavesOff (Some fault) last after = IsNext last (next.Fault fault) after
 
--- so much of what a stream held was answered: messages at its front, each at that moment, and after them the fault by
+-- a part of what a stream held was answered: messages at its front, each at that moment, and after them the fault by
 -- which it ends, if that was reached
 pub record AreTold (moment : ℤ) (old new : World) (stream after : Stream) (replies : List (List ℕ)) : Type 0 where
   pub messages : List Message
@@ -81,7 +81,7 @@ pub record AreTold (moment : ℤ) (old new : World) (stream after : Stream) (rep
   pub is_run : IsRun old (events_at moment messages) run new
   pub are_all : replies ≡ all_replies run fault
 
--- how the stream stands
+-- how a stream stands at that progress
 abbrev pub Stands : Progress → Stream → Type 0
 Stands progress.Answered stream = stream.ended ≡ false
 Stands progress.Waits stream = IsNext stream next.More stream
@@ -96,46 +96,46 @@ pub record IsTold (conn : Conn) (moment : ℤ) (old new : FrontState) (stream : 
   pub line : IsOpen conn new.lines after
   pub lines : new.lines ≡ with_line conn (Some after) old.lines
 
--- and the replies were written
+-- `IsTold`, and the replies were written
 abbrev pub IsToldAndWritten : Conn → Heading → FrontState → FrontState → Stream → Progress → Option (List ℕ)
     → Option (List ℕ) → Type 0
 IsToldAndWritten conn heading old new stream is before now =
     (replies : List (List ℕ)) × IsTold conn heading.moment old new stream is replies
     × Appends before now (reply_entries heading.connection replies)
 
--- so a connection that was open, and whose session hadn't ended, was told what it holds, with the piece that came, if
--- one did
+-- a connection that was open, and whose session hadn't ended, was told what it holds, with the piece that came, if one
+-- did; the replies were written
 unfoldable pub HasTold : Conn → Heading → (Stream → Stream) → FrontState → FrontState → Progress → Option (List ℕ)
     → Option (List ℕ) → Type 0
 HasTold conn heading with_piece old new is before now =
     (stream : Stream) → IsOpen conn old.lines stream → stream.ended ≡ false
     → IsToldAndWritten conn heading old new (with_piece stream) is before now
 
--- whether no more comes of a piece: its session has ended, or waits for the next
+-- the progress if no more comes of a piece: the session has ended, or waits for the next
 abbrev pub progress_at : Bool → Progress
 progress_at true = progress.Ended
 progress_at false = progress.Waits
 
--- ---- what becomes of the connection, whatever the keeper does
+-- ---- what becomes of a connection, whatever the keeper does
 
 -- a connection was asked, and there was memory
 abbrev pub HasAnswered : Outcome → Type 0
 HasAnswered (Answered (Ok _)) = ⊤
 HasAnswered _ = ⊥
 
--- it was asked, and there was memory, or not
+-- a connection was asked, whether there was memory or not
 abbrev pub IsAnswer : Outcome → Type 0
 IsAnswer (Answered (Ok _)) = ⊤
 IsAnswer (Answered (Err error)) = error ≡ Memory
 IsAnswer _ = ⊥
 
--- it took a piece, and was asked; or there was no memory for the piece
+-- a connection took a piece, and was asked; or there was no memory for the piece
 abbrev pub ArePieceAndAnswers : List Outcome → Type 0
 ArePieceAndAnswers (Held (Ok _) ∷ outcomes) = All IsAnswer outcomes
 ArePieceAndAnswers (Held (Err error) ∷ outcomes) = error ≡ Memory
 ArePieceAndAnswers _ = ⊥
 
--- if a session goes on, a piece of 65,536 bytes finds room
+-- a stream has room for a piece of 65,536 bytes, if its session goes on
 abbrev pub HasRoom : Option Stream → Type 0
 HasRoom None = ⊤
 HasRoom (Some stream) = stream.ended ≡ false → length stream.held + 65_536 ≤ 1_048_576
@@ -144,16 +144,16 @@ HasRoom (Some stream) = stream.ended ≡ false → length stream.held + 65_536 �
 unfoldable pub GoesOn : Conn → Lines → Type 0
 GoesOn conn lines = (stream : Stream) × IsOpen conn lines stream × (stream.ended ≡ false)
 
--- and has room for a piece
+-- the connection is open, its session goes on, and it has room for a piece
 unfoldable pub TakesPieces : Conn → Lines → Type 0
 TakesPieces conn lines = (stream : Stream) × IsOpen conn lines stream × (stream.ended ≡ false) × HasRoom (Some stream)
 
--- calls have left it open, and its stream stands so; no other connection has changed
+-- calls have left the connection open, and its stream stands at that progress; no other connection has changed
 unfoldable pub LeavesAt : Conn → Lines → Lines → Progress → Type 0
 LeavesAt conn old new is =
     (after : Stream) × IsOpen conn new after × Stands is after × (new ≡ with_line conn (Some after) old)
 
--- calls have left it open, with room for a piece
+-- calls have left the connection open, its session goes on with room for a piece, and no other connection has changed
 unfoldable pub LeavesRoom : Conn → Lines → Lines → Type 0
 LeavesRoom conn old new =
     (after : Stream) × IsOpen conn new after × (after.ended ≡ false) × HasRoom (Some after)

@@ -67,7 +67,7 @@ impl Setting {
         }
     }
 
-    /// What it is if its variable isn't set.
+    /// What the setting is if its variable isn't set.
     fn default_value(self) -> usize
         ensures { result ≡ default_of self }
     {
@@ -80,7 +80,8 @@ impl Setting {
         }
     }
 
-    /// What it is, by the text to which its variable is set, if it is. None exactly if that is no number.
+    /// What the setting is, by the text to which its variable is set, if it is. None exactly if that is no
+    /// number.
     fn value_of(self, set: Option<&str>) -> Option<usize>
         ensures { result ≡ value_of self (option_map (λ text. text.now) set.entry) }
     {
@@ -90,7 +91,7 @@ impl Setting {
         }
     }
 
-    /// What it is, by the environment.
+    /// What the setting is, by the environment.
     pub fn value(self, rt: &HostRuntime) -> Result<usize, Fault>
         ensures { IfErr result (IsOfSetting self) }
     {

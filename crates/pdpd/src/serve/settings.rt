@@ -74,8 +74,8 @@ fn front_over<R: Records + Drop>(
     Ok(Front::new(alloc, server)?)
 }
 
-/// The same over a keeper of tables in any store. That a server may be over such a keeper is proved here,
-/// of every store at once: of a certain store that proof is long.
+/// `front_over` a keeper of tables in any store. That a server may be over such a keeper is proved here, of
+/// every store at once: of a certain store that proof is long.
 pub fn front_of_tables<S: Alter + Drop>(
     alloc: Global,
     records: SqlRecords<S>,
