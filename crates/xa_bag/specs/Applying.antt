@@ -87,7 +87,7 @@ grows function.Intersection = true
 grows function.Union = true
 grows _ = false
 
--- it is of the kind that a function of the signature gives, if its arguments have no say in that
+-- the argument is of the kind that a function of the signature gives, if its arguments have no say in that
 abbrev pub IsOfResultKind : Signature → ValueOrBag → Type 0
 IsOfResultKind (signature.FirstOrder parameters k) argument = kind_of_argument argument ≡ k
 IsOfResultKind (signature.HigherOrder f) argument = Unit {0}
@@ -104,7 +104,7 @@ higher_order_applied higher.AllOfAny t f arguments =
 higher_order_applied higher.AllOfAll t f arguments =
     of_bags (λ a b. as_boolean (all_of_all f a.values b.values)) arguments
 
--- the kind of what it gives: of map a bag of the inner function's values, of every other a boolean
+-- the kind of what a higher-order function gives: of map a bag of the inner function's values, of every other a boolean
 abbrev pub kind_given : HigherOrder → DataType → Kind
 kind_given higher.Map t = kind.Bag t
 kind_given _ t = kind.Value type.Boolean

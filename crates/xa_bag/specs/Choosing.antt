@@ -14,7 +14,7 @@ choices_from place [] = []
 choices_from place (argument ∷ arguments) =
     flat_map (λ v. map (λ vs. v ∷ vs) (choices arguments)) (drop place (values_of argument))
 
--- none
+-- no choices, whatever the arguments
 abbrev pub no_choices : List ValueOrBag → List (List Value)
 no_choices arguments = []
 
@@ -36,7 +36,7 @@ AreChosen (v ∷ vs) (place ∷ places) [] = ⊥
 AreChosen (v ∷ vs) (place ∷ places) (argument ∷ arguments) =
     (type_of v ≡ type_of_each argument) × AreChosen vs places arguments
 
--- and there is one for each argument
+-- `AreChosen`, and there is one value for each argument
 abbrev pub AreAllChosen : List Value → List ℕ → List ValueOrBag → Type 0
 AreAllChosen vs places arguments = AreChosen vs places arguments × (length vs ≡ length arguments)
 
@@ -45,13 +45,13 @@ abbrev pub from_found : Bool → List Value → List ℕ → List ValueOrBag →
 from_found true vs places arguments = vs ∷ left no_choices vs places arguments
 from_found false vs places arguments = []
 
--- of these choices the first was found, or there is none
+-- the first of these choices was found, or there is none
 abbrev pub Finds : List (List Value) → Bool → List Value → List ℕ → List ValueOrBag → Type 0
 Finds whole found vs places arguments =
     (whole ≡ from_found found vs places arguments) × (found ≡ true → AreAllChosen vs places arguments)
 
--- beside the values `vs` a value of the next argument was chosen, that at the place, and nothing is lost of what is
--- left; or it has none there, and nothing changes
+-- a value of the next argument was chosen beside the values `vs`, that at the place, and nothing is lost of what is
+-- left; or the argument has none there, and nothing changes
 abbrev pub Chooses : ℕ → List ValueOrBag → List Value → List ℕ → Bool → List Value → List ℕ → Type 0
 Chooses place arguments vs places true ws ends =
     AreChosen ws ends arguments × (length ws ≡ suc (length vs))

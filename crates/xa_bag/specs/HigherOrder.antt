@@ -42,20 +42,20 @@ truth (Err e) = Err e
 abbrev pub holds : {F : Type 0} → (List Value → Result Value F) → List Value → Result Bool (BagFault F)
 holds f vs = truth (outcome (f vs))
 
--- any-of and any-of-any: it holds of some choice
+-- any-of and any-of-any: the inner function holds of some choice
 abbrev pub any_of : {F : Type 0} → (List Value → Result Value F) → List ValueOrBag → Result Bool (BagFault F)
 any_of f arguments = or_of (map (holds f) (choices arguments))
 
--- all-of: it holds of each choice
+-- all-of: the inner function holds of each choice
 abbrev pub all_of : {F : Type 0} → (List Value → Result Value F) → List ValueOrBag → Result Bool (BagFault F)
 all_of f arguments = and_of (map (holds f) (choices arguments))
 
--- all-of-any: for each value of the first bag it holds with some value of the second
+-- all-of-any: for each value of the first bag the inner function holds with some value of the second
 abbrev pub all_of_any : {F : Type 0} → (List Value → Result Value F) → List Value → List Value
     → Result Bool (BagFault F)
 all_of_any f vs ws = and_of (map (λ v. or_of (map (λ w. holds f (v ∷ w ∷ [])) ws)) vs)
 
--- all-of-all: for each value of the first bag it holds with each value of the second
+-- all-of-all: for each value of the first bag the inner function holds with each value of the second
 abbrev pub all_of_all : {F : Type 0} → (List Value → Result Value F) → List Value → List Value
     → Result Bool (BagFault F)
 all_of_all f vs ws = and_of (map (λ v. and_of (map (λ w. holds f (v ∷ w ∷ [])) ws)) vs)
@@ -76,7 +76,7 @@ abbrev pub as_bag : {F : Type 0} → DataType → Result (List Value) F → Resu
 as_bag t (Ok vs) = Ok (bag_of t vs)
 as_bag t (Err e) = Err e
 
--- map: the bag of what it gives for each choice, the type being that of its values
+-- map: the bag of what the inner function gives for each choice, the type being that of its values
 abbrev pub bag_of_results : {F : Type 0} → DataType → (List Value → Result Value F) → List ValueOrBag
     → Result Contents (BagFault F)
 bag_of_results t f arguments = as_bag t (collected (map (λ vs. outcome (f vs)) (choices arguments)))

@@ -42,7 +42,7 @@ n_of_counted trues booleans n =
     else if nat_lt booleans (unsigned_abs n) then Err Position
     else Ok (nat_le (unsigned_abs n) trues)
 
--- the same by the value of its first argument
+-- what n-of gives by the value of its first argument, if `trues` of its `booleans` booleans are True
 abbrev pub n_of_value : ℕ → ℕ → Value → Result Bool FuncFault
 n_of_value trues booleans (value.Integer n) = n_of_counted trues booleans n
 n_of_value trues booleans _ = misfit

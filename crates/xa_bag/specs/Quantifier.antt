@@ -3,7 +3,7 @@ use Rattle.std.specs.Prelude.{Bool, true, false}
 use Rattle.xa_bag.specs.declared.quantifier.Quantifier.{Quantifier}
 use Rattle.xa_bag.specs.declared.quantifier.Quantifier.TheVariants as quantifier
 
--- the answer that settles it, whatever the others are
+-- the answer that settles a quantifier, whatever the others are
 abbrev pub settling : Quantifier → Bool
 settling quantifier.Any = true
 settling quantifier.All = false

@@ -9,7 +9,7 @@ use Rattle.xa_bag.specs.declared.fault.BagFault.TheVariants.{NotOne}
 use Rattle.xa_bag.specs.declared.value_or_bag.ValueOrBag.{ValueOrBag}
 use Rattle.xa_bag.specs.ValueOrBag.{values_of}
 
--- the one value
+-- one-and-only: the one value of the list
 abbrev pub one_and_only : {F : Type 0} → List Value → Result Value (BagFault F)
 one_and_only (v ∷ []) = Ok v
 one_and_only _ = Err NotOne
@@ -26,11 +26,11 @@ at_least_one vs ws = list_any (is_among ws) vs
 abbrev pub subset : List Value → List Value → Bool
 subset vs ws = list_all (is_among ws) vs
 
--- each has all values of the other
+-- each of two bags has all values of the other
 abbrev pub set_equals : List Value → List Value → Bool
 set_equals vs ws = subset vs ws && subset ws vs
 
--- each value at its first appearance alone
+-- each value of a list, at its first appearance alone
 abbrev pub distinct : List Value → List Value
 distinct [] = []
 distinct (v ∷ vs) = v ∷ filter (λ w. not (same v w)) (distinct vs)
@@ -43,6 +43,6 @@ intersection vs ws = distinct (filter (is_among ws) vs)
 abbrev pub all_values : List ValueOrBag → List Value
 all_values arguments = flat_map values_of arguments
 
--- those without doubles
+-- the values of all arguments, without doubles
 abbrev pub union : List ValueOrBag → List Value
 union arguments = distinct (all_values arguments)

@@ -14,15 +14,15 @@ abbrev pub values_of : ValueOrBag → List Value
 values_of (given.Value v) = v ∷ []
 values_of (given.Bag b) = b.values
 
--- its kind
+-- the kind of an argument
 abbrev pub kind_of_argument : ValueOrBag → Kind
 kind_of_argument (given.Value v) = kind.Value (type_of v)
 kind_of_argument (given.Bag b) = kind.Bag b.data_type
 
--- the type of each of its values
+-- the type of each of an argument's values
 abbrev pub type_of_each : ValueOrBag → DataType
 type_of_each argument = type_of_kind (kind_of_argument argument)
 
--- the kind of each of its values
+-- the kind of each of an argument's values
 abbrev pub kind_of_each : ValueOrBag → Kind
 kind_of_each argument = of_each (kind_of_argument argument)

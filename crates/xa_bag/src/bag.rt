@@ -52,8 +52,8 @@ impl Bag {
         }
     }
 
-    /// The same bag. From eight values on its copies share them from now on: a copy takes no time,
-    /// however many there are.
+    /// The bag, whose copies from now on share its values, if there are eight or more: a copy takes no
+    /// time, however many there are.
     pub fn lent(self) -> Result<Bag, AllocError>
         ensures { IfOk result (λ bag. bag ≡ self) }
     {

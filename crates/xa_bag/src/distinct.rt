@@ -48,7 +48,7 @@ impl<'a> Distinct<'a> {
         Distinct { bag, keys }
     }
 
-    /// The same bag, with the value at the end unless it is in the bag already.
+    /// The bag, with the value at the end unless it is in the bag already.
     fn with(self, value: &'a Value) -> Result<Distinct<'a>, AllocError>
         requires { type_of value.now ≡ self.data_type }
         ensures { IfOk result (λ d. d ≡ bag_of self.entry.data_type
@@ -73,7 +73,7 @@ impl<'a> Distinct<'a> {
         })
     }
 
-    /// The same bag, with the value at the end if it is among the members and not yet there.
+    /// The bag, with the value at the end if it is among the members and not yet there.
     pub(crate) fn with_shared(
         self,
         members: &Members<'a>,
@@ -91,7 +91,7 @@ impl<'a> Distinct<'a> {
         self.with(value)
     }
 
-    /// The same bag, with those of the values at the end that are not yet there, each once, at its first
+    /// The bag, with those of the values at the end that are not yet there, each once, at its first
     /// appearance.
     #[tactic(auto, using(crate::proofs::SetLemmas::joined_more, crate::proofs::SetLemmas::joined_none))]
     pub(crate) fn with_all(self, values: &'a [Value]) -> Result<Distinct<'a>, AllocError>
