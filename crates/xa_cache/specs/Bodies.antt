@@ -25,10 +25,10 @@ found key bodies = lookup (same_key key) bodies
 abbrev pub first : Key → List (Key × List ℕ) → List ℕ → List (Key × List ℕ)
 first key bodies body = (key, body) ∷ remove_entry (same_key key) bodies
 
--- after that key was looked up: its body stands first, and if there is none all is as it was
+-- the bodies after a key was looked up: its body stands first, and if there is none all is as it was
 abbrev pub looked : Key → List (Key × List ℕ) → List (Key × List ℕ)
 looked key bodies = option_map_or (first key bodies) (found key bodies) bodies
 
--- after that body was kept under that key: it stands first, and 512 are left
+-- the bodies after one was kept under a key: it stands first, and 512 are left
 abbrev pub kept : Key → List ℕ → List (Key × List ℕ) → List (Key × List ℕ)
 kept key body bodies = take 512 (first key bodies body)

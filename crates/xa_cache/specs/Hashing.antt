@@ -11,7 +11,7 @@ use Rattle.xa_cache.specs.declared.seeded.Seeded.{Seeded}
 abbrev pub folded : ℕ → ℕ
 folded n = n % 2 ^ 61 + n / 2 ^ 61
 
--- the value after a part of that number
+-- the value at a point, after a part of that number
 abbrev pub with_part : ℕ → ℕ → ℕ → ℕ
 with_part point value number = folded (folded (value * point + number))
 
@@ -23,7 +23,7 @@ next_byte number byte = (number * 256 % 2 ^ 64 + byte) % 2 ^ 64
 abbrev pub number_of_part : List ℕ → ℕ
 number_of_part bytes = fold next_byte 1 bytes
 
--- the value after these parts
+-- the value at a point, after these parts
 abbrev pub with_parts : ℕ → ℕ → List (List ℕ) → ℕ
 with_parts point value parts = fold (λ v bytes. with_part point v (number_of_part bytes)) value parts
 
@@ -31,12 +31,12 @@ with_parts point value parts = fold (λ v bytes. with_part point v (number_of_pa
 abbrev pub powers : Polynomial → List ℕ
 powers hasher = hasher.fourth ∷ hasher.cube ∷ hasher.square ∷ hasher.point ∷ 1 ∷ []
 
--- the value after that one and four parts
+-- the value after a value and four parts behind it
 abbrev pub with_four : Polynomial → ℕ → List (List ℕ) → ℕ
 with_four hasher value parts =
     folded (folded (sum (map (λ p. folded (p.1 * p.0)) (zip (powers hasher) (value ∷ map number_of_part parts)))))
 
--- the value after these fours of parts
+-- the hasher's value after these fours of parts
 abbrev pub with_fours : Polynomial → List (List (List ℕ)) → ℕ
 with_fours hasher fours = fold (with_four hasher) hasher.value fours
 
