@@ -7,21 +7,21 @@ use Rattle.xa_profile.specs.Request.{request_of}
 use Rattle.xa_decide.specs.Decision.{Viewed, answer}
 use Rattle.xa_decide.specs.Timeless.{is_timeless_answer}
 
--- a request does, unless one decision for all individual requests is wanted (CombinedDecision), or there are too many
--- of them
+-- a request asks policies, unless one decision for all individual requests is wanted (CombinedDecision), or there are
+-- too many of them
 abbrev pub request_asks : Request → Bool
 request_asks request = if request.combined_decision then false else is_ok (individuals request)
 
--- what is no request doesn't
+-- what was read as a request asks policies, if it is one that does
 abbrev pub read_asks : Result Request RequestError → Bool
 read_asks (Ok request) = request_asks request
 read_asks (Err e) = false
 
--- the body
+-- a body asks policies
 unfoldable pub asks_policies : List ℕ → Bool
 asks_policies body = read_asks (request_of body)
 
--- law: a body that doesn't is answered alike whatever decides, and at every moment
+-- law: a body that asks no policies is answered alike whatever decides, and at every moment
 abbrev pub OthersAreAnsweredAlike : Type 0
 OthersAreAnsweredAlike =
     (body : List ℕ) → asks_policies body ≡ false → (one other : Viewed) (first second : ℤ)

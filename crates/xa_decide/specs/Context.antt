@@ -42,17 +42,17 @@ is_named id t issuer a = bytes_eq a.id id && (same_type a.values.data_type t && 
 abbrev pub is_named_by : Designator → Attribute → Bool
 is_named_by d a = is_named d.attribute_id d.data_type d.issuer a
 
--- the values of those attributes of a Category object
+-- the values of a Category object's attributes that the designator names
 abbrev pub object_values : Designator → CategoryObject → List Value
 object_values d o = flat_map (λ a. a.values.values) (filter (is_named_by d) o.attributes)
 
--- and of all objects of the designator's category, in request order
+-- the values that a request has for a designator: of all objects of its category, in request order
 unfoldable pub request_values : List CategoryObject → Designator → List Value
 request_values objects d = flat_map (object_values d) (filter (λ o. bytes_eq o.category d.category) objects)
 
 -- ---- the clock
 
--- the time, the date or both, by UTC
+-- a moment as a time, a date or both, by UTC
 abbrev pub moment_as : ℤ → DataType → Option Value
 moment_as moment type.Time = Some (value.Time (time_of moment))
 moment_as moment type.Date = Some (value.Date (date_of moment))
@@ -113,11 +113,11 @@ is_row entity d row =
     && (bytes_eq row.attribute_id d.attribute_id
     && (same_type (type_of row.value) d.data_type && is_issuer d.issuer row.issuer)))
 
--- the values of those rows, in their order
+-- the values of the source's rows for a designator, in their order
 unfoldable pub source_values : List SourceRow → List ℕ → Designator → List Value
 source_values rows entity d = map (λ row. row.value) (filter (is_row entity d) rows)
 
--- ---- all of them
+-- ---- request, clock and source together
 
 -- the first values; if there is none of them, the others
 abbrev pub or_else : List Value → List Value → List Value
@@ -129,13 +129,13 @@ abbrev pub if_any : Option Value → List Value
 if_any None = []
 if_any (Some v) = v ∷ []
 
--- the clock's attributes are the environment's, and have no issuer
+-- the value that the clock gives to a designator: its attributes are the environment's, and have no issuer
 abbrev pub clock_value_in : ℤ → Designator → Option Value
 clock_value_in moment d =
     if is_none d.issuer && bytes_eq d.category (uri_of Environment) then clock_value moment d.attribute_id d.data_type
     else None
 
--- those that are not in the request: the one that the clock gives, else those that the source has
+-- the values for a designator from outside the request: the one that the clock gives, else those that the source has
 unfoldable pub outside_values : AskContext → Designator → List Value
 outside_values c d =
     or_else (if_any (clock_value_in c.moment d)) (source_values c.source (entity c.objects d.category) d)

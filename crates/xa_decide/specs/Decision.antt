@@ -71,7 +71,7 @@ result_of view asked objects moment (Places places) =
     record { evaluated = as_asked asked (decision view (objects_at objects places) moment); places = places }
 result_of view asked objects moment BadReference = result_without_objects SyntaxError
 
--- the results of all; one result if there are too many
+-- the results of all individual requests; one result if there are too many
 abbrev pub results_of : Viewed → Bool → List CategoryObject → ℤ → Result (List Individual) TooMany → List ResultObject
 results_of view asked objects moment (Ok individuals) = map (result_of view asked objects moment) individuals
 results_of view asked objects moment (Err e) = result_without_objects ProcessingError ∷ []
@@ -90,7 +90,7 @@ pub record Answered : Type 0 where
   pub objects : List CategoryObject
   pub results : List ResultObject
 
--- no JSON: no response; JSON but no request: one result
+-- what is answered to what was read as a request: nothing if it is no JSON, and one result if it is JSON but no request
 abbrev pub answer_to : Viewed → ℤ → Result Request RequestError → Option Answered
 answer_to view moment (Ok request) = Some (record { objects = request.objects; results = decided view request moment })
 answer_to view moment (Err NotJson) = None

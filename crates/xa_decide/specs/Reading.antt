@@ -6,11 +6,11 @@ use Rattle.xa_link.specs.declared.active.Active.{Active}
 use Rattle.xa_link.specs.declared.link_error.LinkError.{LinkError}
 use Rattle.xa_link.specs.Reading.{reading}
 
--- how many bytes
+-- how many bytes are read for the tree of a root; none if no root is set
 abbrev pub reading_for : List Active → Option Reference → ℕ
 reading_for active None = 0
 reading_for active (Some root) = reading active root
 
--- there is no tree, or it isn't too large: of one that is, a part is read
+-- there is no tree, or it isn't too large: of one that is too large, a part is read
 abbrev pub IsNotTooLarge : Option (Result Linked LinkError) → Type 0
 IsNotTooLarge tree = IfSome tree IsOk

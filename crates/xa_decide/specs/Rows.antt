@@ -28,7 +28,7 @@ row d = do
   issuer ← optional text (at member.Issuer d)
   Ok (record { category = category; entity = entity; attribute_id = attribute_id; value = value; issuer = issuer })
 
--- all rows
+-- all rows, as they are read
 unfoldable pub rows : Data → Result (List SourceRow) NotationError
 rows d = do
   _ ← fits table.Source d
@@ -57,7 +57,7 @@ row_data r =
     (with_member member.DataType (type_data (type_of r.value)) (with_member member.Entity (string r.entity)
     (with_text_if_any member.Issuer r.issuer (with_member member.Value (value_data r.value) no_members))))))
 
--- all rows
+-- all rows, as they are written
 unfoldable pub rows_data : List SourceRow → Data
 rows_data rs = object (with_member member.Row (listing (map row_data rs)) no_members)
 

@@ -22,21 +22,23 @@ is_timeless_tree None = true
 is_timeless_tree (Some (Err e)) = true
 is_timeless_tree (Some (Ok tree)) = is_timeless (designators_of_linked tree)
 
--- the individual requests go by the tree, whatever they are; one result stands for too many of them
+-- individual requests are timeless if the tree is, whatever they are; one result stands for too many of them
 abbrev pub are_timeless : Viewed → Result (List Individual) TooMany → Bool
 are_timeless view (Ok individuals) = is_timeless_tree view.tree
 are_timeless view (Err e) = true
 
--- a request; if one decision for all is wanted (CombinedDecision), one result stands for it
+-- a request is timeless if its individual requests are; if one decision for all is wanted (CombinedDecision), one
+-- result stands for it
 unfoldable pub is_timeless_request : Viewed → Request → Bool
 is_timeless_request view request = if request.combined_decision then true else are_timeless view (individuals request)
 
--- what was read as a request. JSON that is no request always has the same result. What is no JSON never has an answer
+-- what was read as a request is timeless if the request is. JSON that is no request always has the same result. What is
+-- no JSON never has an answer
 abbrev pub is_timeless_read : Viewed → Result Request RequestError → Bool
 is_timeless_read view (Ok request) = is_timeless_request view request
 is_timeless_read view (Err e) = true
 
--- what is answered to a body
+-- what is answered to a body is timeless if what was read of it is
 unfoldable pub is_timeless_answer : Viewed → List ℕ → Bool
 is_timeless_answer view body = is_timeless_read view (request_of body)
 
@@ -47,13 +49,13 @@ ContextsDifferInTheClock =
     → SameButForTheClock (values_of (record { objects = objects; source = source; moment = first }))
     (values_of (record { objects = objects; source = source; moment = second }))
 
--- law: what is decided of such a request is the same at every two moments
+-- law: what is decided of a timeless request is the same at every two moments
 abbrev pub TimelessRequestsStay : Type 0
 TimelessRequestsStay =
     (view : Viewed) (request : Request) → is_timeless_request view request ≡ true → (first second : ℤ)
     → decided view request first ≡ decided view request second
 
--- law: such an answer is the same at every two moments
+-- law: a timeless answer is the same at every two moments
 abbrev pub TimelessAnswersStay : Type 0
 TimelessAnswersStay =
     (view : Viewed) (body : List ℕ) → is_timeless_answer view body ≡ true → (first second : ℤ)

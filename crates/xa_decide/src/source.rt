@@ -116,7 +116,7 @@ impl Source {
     }
 }
 
-/// Whether it is a row of the entity's attribute that the designator names, by an issuer that will do.
+/// Whether the row is one of the entity's attribute that the designator names, by an issuer that will do.
 pub(crate) fn is_row(entity: &str, designator: &Designator, row: &SourceRow) -> bool
     ensures value { result ≡ is_row entity.now designator.now row.now }
     ensures of_type { result ≡ true → type_of row.now.value ≡ designator.now.data_type }

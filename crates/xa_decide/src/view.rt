@@ -18,7 +18,7 @@ use xa_policy::{Linked, Reference};
 use xa_shelf::TextReader;
 use xa_value::{Items, memory_apart};
 
-/// So many units or bytes that no message reaches them.
+/// More units or bytes than any message reaches.
 const NO_LIMIT: u64 = u64::MAX;
 
 /// What a domain's decisions depend on: the tree that its root stands for among its active documents, if
@@ -100,7 +100,7 @@ impl View {
         })
     }
 
-    /// The same view, under which a message may ask for this many units of work, as `Budget` counts them.
+    /// The view, under which a message may ask for this many units of work, as `Budget` counts them.
     pub fn with_work_limit(mut self, units: u64) -> View
         ensures { result ≡ self }
     {
@@ -108,7 +108,7 @@ impl View {
         self
     }
 
-    /// The same view, under which the body of a response may have this many bytes.
+    /// The view, under which the body of a response may have this many bytes.
     pub fn with_reply_limit(mut self, bytes: u64) -> View
         ensures { result ≡ self }
     {

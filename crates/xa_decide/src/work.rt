@@ -36,7 +36,7 @@ struct Scans {
 }
 
 impl Scans {
-    /// So many values, none of which has been looked at.
+    /// That many values, none of which has been looked at.
     fn of(values: u64) -> Scans {
         Scans {
             values: Budget::new(values),

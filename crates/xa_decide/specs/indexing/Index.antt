@@ -23,7 +23,7 @@ sought number category entity id issuer =
 abbrev pub compare_texts : List ℕ → List ℕ → Ordering
 compare_texts = slice_cmp nat_cmp
 
--- by the number, and then by the texts
+-- the order of keys: by the number, and then by the texts
 abbrev pub compare_keys : Sought → Sought → Ordering
 compare_keys =
     then_cmp
@@ -41,7 +41,7 @@ equal_keys j k =
 abbrev pub key_at : {X : Type 0} → (X → Sought) → List X → ℕ → Option Sought
 key_at key_of items place = option_map key_of (slice_get items place)
 
--- how it compares with another
+-- how the key of the item at a place compares with a key
 abbrev pub order_at : {X : Type 0} → (X → Sought) → List X → Sought → ℕ → Ordering
 order_at key_of items key place = option_cmp compare_keys (key_at key_of items place) (Some key)
 
@@ -51,7 +51,7 @@ IsInOrder key_of items order =
     IsSortedByKey (key_at key_of items) (option_cmp compare_keys) order
     × IsStableByKey (key_at key_of items) (option_cmp compare_keys) (range_with_len 0 (length items)) order
 
--- so they are if there are more than eight items; fewer are looked at one after another
+-- `IsInOrder`, if there are more than eight items; fewer are looked at one after another
 abbrev pub IsOrder : {X : Type 0} → (X → Sought) → List X → List ℕ → Type 0
 IsOrder key_of items order = nat_le (length items) 8 ≡ false → IsInOrder key_of items order
 

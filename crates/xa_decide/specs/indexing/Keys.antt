@@ -10,28 +10,28 @@ use Rattle.xa_profile.specs.declared.category_object.CategoryObject.{CategoryObj
 use Rattle.xa_decide.specs.declared.source_row.SourceRow.{SourceRow}
 use Rattle.xa_decide.specs.indexing.Index.{Sought, sought}
 
--- a row's category, entity, id and type
+-- the key of a row's category, entity, id and type
 abbrev pub row_key : List ℕ → List ℕ → List ℕ → DataType → Sought
 row_key category entity id t = sought (place_of t) category entity id []
 
--- and its issuer, if it has one; one without an issuer has another number than any that has one
+-- `row_key` with the row's issuer, if it has one; the key without an issuer has another number than any that has one
 abbrev pub issued_row_key : List ℕ → List ℕ → List ℕ → DataType → Option (List ℕ) → Sought
 issued_row_key category entity id t None = row_key category entity id t
 issued_row_key category entity id t (Some issuer) = sought (11 + place_of t) category entity id issuer
 
--- an attribute's id and type: those of a row of no category and no entity
+-- the key of an attribute's id and type: that of a row of no category and no entity
 abbrev pub name_key : List ℕ → DataType → Sought
 name_key id t = row_key [] [] id t
 
--- and its issuer, if it has one
+-- `name_key` with the attribute's issuer, if it has one
 abbrev pub issuer_key : List ℕ → DataType → Option (List ℕ) → Sought
 issuer_key id t issuer = issued_row_key [] [] id t issuer
 
--- what nobody asks for: its number is past those of all types
+-- the key that nobody asks for: its number is past those of all types
 abbrev pub unsought : Sought
 unsought = sought 22 [] [] [] []
 
--- an attribute without values isn't to be found
+-- the key of an attribute that has values; one without values isn't to be found
 abbrev pub if_valued : List Value → Sought → Sought
 if_valued [] key = unsought
 if_valued (v ∷ vs) key = key
@@ -42,7 +42,7 @@ name_key_of a = if_valued a.values.values (name_key a.id a.values.data_type)
 abbrev pub issuer_key_of : Attribute → Sought
 issuer_key_of a = if_valued a.values.values (issuer_key a.id a.values.data_type a.issuer)
 
--- a category
+-- the key of a category
 abbrev pub category_key : List ℕ → Sought
 category_key category = sought 0 category [] [] []
 

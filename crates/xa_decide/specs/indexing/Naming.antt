@@ -6,7 +6,7 @@ use Rattle.xa_decide.specs.declared.naming.Naming.{Naming}
 use Rattle.xa_decide.specs.declared.naming.Naming.TheVariants.{Nobody, One, Several}
 use Rattle.xa_decide.specs.Context.{category_of, naming_id_of, object_values, strings_of, text_of}
 
--- what values say
+-- what values say: nothing, one text, or several things
 pub data Said : Type 0 where
   none : Said
   one : List ℕ → Said
@@ -17,7 +17,7 @@ said [] = none
 said (v ∷ []) = one (text_of v)
 said (v ∷ w ∷ vs) = several
 
--- of some values and others behind them
+-- what some values say with others behind them
 abbrev pub both : Said → Said → Said
 both none b = b
 both (one text) none = one text
@@ -25,13 +25,13 @@ both (one text) (one other) = several
 both (one text) several = several
 both several b = several
 
--- the one text, if there is one
+-- the one text that values say, if there is one
 abbrev pub text_said : Said → List ℕ
 text_said none = []
 text_said (one text) = text
 text_said several = []
 
--- what the code keeps of it
+-- what values say, as the code keeps it
 abbrev pub said_by : Naming → Said
 said_by Nobody = none
 said_by (One text) = one text.now

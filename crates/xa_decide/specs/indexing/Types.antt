@@ -8,6 +8,6 @@ use Rattle.xa_profile.specs.declared.category_object.CategoryObject.{CategoryObj
 abbrev pub IsOfType : Attribute → Type 0
 IsOfType a = OfType a.values.data_type a.values.values
 
--- so are those of each attribute of a Category object
+-- the values of each attribute of a Category object are of its type
 abbrev pub IsOfTypes : CategoryObject → Type 0
 IsOfTypes o = All IsOfType o.attributes
