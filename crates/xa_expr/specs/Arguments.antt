@@ -8,16 +8,17 @@ use Rattle.xa_expr.specs.declared.typed.Typed.{Typed}
 use Rattle.xa_expr.specs.Evaluation.{Outcome, value_in}
 use Rattle.xa_expr.specs.Typed.{IsTyped}
 
--- each has its kind under variables of these kinds
+-- each expression has its kind under variables of these kinds
 abbrev pub AreTypedUnder : List Kind → List Typed → Type 0
 AreTypedUnder variables [] = Unit {0}
 AreTypedUnder variables (t ∷ ts) = IsTyped variables t × AreTypedUnder variables ts
 
--- none is of a bag's kind
+-- the kind is a value's, and no bag's
 abbrev pub IsValueKind : Kind → Type 0
 IsValueKind (kind.Value t) = Unit {0}
 IsValueKind (kind.Bag t) = ⊥
 
+-- each kind is a value's, and no bag's
 abbrev pub AreValueKinds : List Kind → Type 0
 AreValueKinds [] = Unit {0}
 AreValueKinds (k ∷ ks) = IsValueKind k × AreValueKinds ks

@@ -12,7 +12,8 @@ use Rattle.xa_expr.specs.declared.variables.Definition.{Definition}
 use Rattle.xa_expr.specs.Evaluation.{Attributes}
 use Rattle.xa_expr.specs.declared.match_.Match.{Match}
 
--- those of each expression, by those of the expressions in it; a variable has none, since its definition has them
+-- the designators of each expression, by those of the expressions in it; a variable has none, since its definition has
+-- them
 abbrev pub designators_step : Typed-F (List Designator) → List Designator
 designators_step (Typed-F.Literal v) = []
 designators_step (Typed-F.Attribute d) = d ∷ []
@@ -23,20 +24,23 @@ designators_step (Typed-F.HigherOrder h f parts) = flat_map (λ ds. ds) parts
 abbrev pub designators : Typed → List Designator
 designators = fold-Typed (List Designator) designators_step
 
--- those of all definitions of variables, used or not
+-- the designators of all definitions of variables, used or not
 abbrev pub designators_of_definitions : List Definition → List Designator
 designators_of_definitions definitions = flat_map (λ d. designators d.expression) definitions
 
--- those of a match, an AllOf, an AnyOf and a target: one in each match
+-- the one designator of a match
 abbrev pub designators_of_match : Match → List Designator
 designators_of_match q = q.designator ∷ []
 
+-- the designators of an AllOf: one in each match
 abbrev pub designators_of_all_of : AllOf → List Designator
 designators_of_all_of part = flat_map designators_of_match part.matches
 
+-- the designators of an AnyOf: one in each match
 abbrev pub designators_of_any_of : AnyOf → List Designator
 designators_of_any_of part = flat_map designators_of_all_of part.all_of
 
+-- the designators of a target: one in each match
 abbrev pub designators_of_target : Target → List Designator
 designators_of_target target = flat_map designators_of_any_of target.any_of
 

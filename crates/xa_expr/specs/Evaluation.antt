@@ -24,7 +24,7 @@ use Rattle.xa_expr.specs.declared.typed.Typed.TheOpen.{Typed-F}
 use Rattle.xa_expr.specs.declared.variables.Definition.{Definition}
 use Rattle.xa_expr.specs.Fault.{of_function, of_bag_function}
 
--- where the values of attributes come from: those of each designator's bag
+-- a source of attributes: the values of each designator's bag
 abbrev pub Attributes : Type 0
 Attributes = Designator → List Value
 
@@ -63,11 +63,12 @@ abbrev pub value_in : ValueOrBag → Value
 value_in (given.Value v) = v
 value_in (given.Bag b) = misfit_value
 
--- the boolean and the number that an argument is, if a type check let no other through
+-- the boolean that an argument is, if a type check let no other through
 abbrev pub truth : ValueOrBag → Bool
 truth (given.Value (value.Boolean b)) = b
 truth _ = misfit_truth
 
+-- the number that an argument is, if a type check let no other through
 abbrev pub number : ValueOrBag → ℤ
 number (given.Value (value.Integer n)) = n
 number _ = misfit_number
@@ -96,7 +97,7 @@ applied (function.Logic logic.NOf) rs = as_boolean (n_of_places rs)
 applied (function.Bag f t) rs = collected rs >>= (λ given. of_bag_function (bag_applied f t given))
 applied f rs = applied_to_values f rs
 
--- a higher-order function and its inner function on what the arguments after that come to (A.3.12)
+-- a higher-order function and its inner function on what the arguments after this come to (A.3.12)
 abbrev pub higher_applied : HigherOrder → FuncId → List Outcome → Outcome
 higher_applied h f rs =
     collected rs

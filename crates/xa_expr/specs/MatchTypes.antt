@@ -15,6 +15,6 @@ use Rattle.xa_expr.specs.Typed.{accepted}
 abbrev pub argument_kinds : Value → DataType → List Kind
 argument_kinds literal t = kind_of literal ∷ kind.Value t ∷ []
 
--- a function of values that takes such arguments and gives a boolean
+-- a function of values that takes arguments of these kinds and gives a boolean
 abbrev pub may_ask : FuncId → List Kind → Bool
 may_ask f ks = is_scalar f && (accepted (signature_of f) ks && same_type (result_type_of (signature_of f)) type.Boolean)

@@ -36,7 +36,7 @@ abbrev pub ComesTo : Kind → Outcome → Type 0
 ComesTo k (Ok given) = IsOf k given
 ComesTo k (Err fault) = Unit {0}
 
--- so of each, there being as many
+-- each outcome is of the kind at its place, or a fault, there being as many of both
 abbrev pub EachComesTo : List Kind → List Outcome → Type 0
 EachComesTo [] [] = Unit {0}
 EachComesTo [] (r ∷ rs) = ⊥
@@ -60,7 +60,7 @@ abbrev pub AnswersEach : FuncId → List (List Value) → Type 0
 AnswersEach f [] = Unit {0}
 AnswersEach f (vs ∷ others) = Answers f vs × AnswersEach f others
 
--- so for each choice of a value of every argument, if none is a fault (A.3.12)
+-- an inner function answers each choice of a value of every argument, if none is a fault (A.3.12)
 abbrev pub AnswersChoices : FuncId → Result (List ValueOrBag) Fault → Type 0
 AnswersChoices f (Ok given) = AnswersEach f (choices given)
 AnswersChoices f (Err fault) = Unit {0}
@@ -80,12 +80,13 @@ Fits variables (Typed-F.Apply f rs) = AreTaken (AcceptsKinds (signature_of f)) r
 Fits variables (Typed-F.HigherOrder h f rs) =
     AreTaken (λ ks. IsTrue (is_scalar f && higher_accepted h f ks)) rs × AnswersChoices f (collected rs)
 
--- so is every expression in it, and the whole
+-- an expression, and every expression in it, is given what it takes (`Fits`)
 abbrev pub FitsThroughout : Attributes → List Outcome → Typed → Type 0
 FitsThroughout source variables =
     every-Typed (λ part. Fits variables (map-Typed Typed Outcome (outcome source variables) part))
 
--- and every expression in the definitions of variables, each under those before it, which come to these
+-- every expression in the definitions of variables is given what it takes, each under those before it, which come to
+-- these
 abbrev pub DefinitionsFit : Attributes → List Outcome → List Definition → Type 0
 DefinitionsFit source before [] = Unit {0}
 DefinitionsFit source before (d ∷ ds) =

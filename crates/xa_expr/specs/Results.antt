@@ -9,12 +9,12 @@ use Rattle.xa_expr.specs.declared.variables.Definition.{Definition}
 use Rattle.xa_expr.specs.Evaluation.{Attributes, Outcome, outcomes, outcomes_after}
 use Rattle.xa_expr.specs.Variables.{kinds}
 
--- what it gives, if anything, is of the kind
+-- what an expression gives, if anything, is of the kind
 abbrev pub IsOfKind : Kind → Outcome → Type 0
 IsOfKind k (Ok given) = kind_of_argument given ≡ k
 IsOfKind k (Err fault) = Unit {0}
 
--- each is of the kind at its place
+-- what each expression gives, if anything, is of the kind at its place
 abbrev pub AreOfKinds : List Kind → List Outcome → Type 0
 AreOfKinds ks [] = Unit {0}
 AreOfKinds [] (r ∷ rs) = ⊥

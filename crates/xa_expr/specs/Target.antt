@@ -30,13 +30,13 @@ abbrev pub is_indeterminate : Matching → Bool
 is_indeterminate (matching.Indeterminate fault) = true
 is_indeterminate _ = false
 
--- all of them match (7.7, AllOf and Target): the first line that fits, Indeterminate being that of the first that is
+-- all values are Match (7.7, AllOf and Target): the first line that fits, Indeterminate being that of the first that is
 abbrev pub all_match : List Matching → Matching
 all_match values =
     if list_any is_no_match values then matching.NoMatch
     else unwrap_or (find is_indeterminate values) matching.Match
 
--- one of them matches (7.6; 7.7, AnyOf): the first line that fits, Indeterminate being that of the first that is
+-- some value is Match (7.6; 7.7, AnyOf): the first line that fits, Indeterminate being that of the first that is
 abbrev pub some_match : List Matching → Matching
 some_match values =
     if list_any is_match values then matching.Match

@@ -22,16 +22,18 @@ pub record Asks (m : Match) (v : Value) : Type 0 where
   pub taken : TakesKinds m.function (map kind_of (m.literal ∷ v ∷ []))
   pub gives : (w : Value) → applied m.function (m.literal ∷ v ∷ []) ≡ Ok w → (b : Bool) × (w ≡ value.Boolean b)
 
--- so of each value of the bag
+-- each value of a match's bag fits, as `Asks` says
 abbrev pub MatchFits : Attributes → Match → Type 0
 MatchFits source m = AllByRecursion (Asks m) (source m.designator)
 
--- and of each match of an AllOf, an AnyOf and a target
+-- each value fits that a match of an AllOf asks about
 abbrev pub AllOfFits : Attributes → AllOf → Type 0
 AllOfFits source part = AllByRecursion (MatchFits source) part.matches
 
+-- each value fits that a match of an AnyOf asks about
 abbrev pub AnyOfFits : Attributes → AnyOf → Type 0
 AnyOfFits source part = AllByRecursion (AllOfFits source) part.all_of
 
+-- each value fits that a match of a target asks about
 abbrev pub TargetFits : Attributes → Target → Type 0
 TargetFits source target = AllByRecursion (AnyOfFits source) target.any_of

@@ -15,18 +15,18 @@ is_clock_id type.Date id = bytes_eq id (codes "urn:oasis:names:tc:xacml:1.0:envi
 is_clock_id type.DateTime id = bytes_eq id (codes "urn:oasis:names:tc:xacml:1.0:environment:current-dateTime")
 is_clock_id _ id = false
 
--- or as a value of some type
+-- the id is that of an attribute that the clock gives as a value of some type
 unfoldable pub is_some_clock_id : List ℕ → Bool
 is_some_clock_id id = is_clock_id type.Time id || (is_clock_id type.Date id || is_clock_id type.DateTime id)
 
--- the designator names such an attribute, whatever its issuer and its type
+-- the designator names an attribute that the clock gives, whatever its issuer and its type
 unfoldable pub names_the_clock : Designator → Bool
 names_the_clock d = bytes_eq d.category (uri_of Environment) && is_some_clock_id d.attribute_id
 
--- none of the designators does
+-- no designator names an attribute that the clock gives
 abbrev pub is_timeless : List Designator → Bool
 is_timeless designators = list_all (λ d. not (names_the_clock d)) designators
 
--- two sources of attributes differ in those of the clock alone, as at two moments
+-- two sources of attributes differ in the clock's attributes alone, as at two moments
 abbrev pub SameButForTheClock : Attributes → Attributes → Type 0
 SameButForTheClock a b = (d : Designator) → names_the_clock d ≡ false → a d ≡ b d

@@ -57,16 +57,17 @@ fits (AtLeast least k) ks = nat_le least (length ks) && list_all (same_kind k) k
 fits (OneAndMore k l) [] = false
 fits (OneAndMore k l) (m ∷ ms) = same_kind m k && list_all (same_kind l) ms
 
--- a function of the signature takes this many arguments, and arguments of these kinds; none takes a function here
+-- a function of the signature takes this many arguments; none takes a function here
 abbrev pub counted : Signature → ℕ → Bool
 counted (signature.FirstOrder parameters k) n = takes parameters n
 counted (signature.HigherOrder f) n = false
 
+-- a function of the signature takes arguments of these kinds; none takes a function here
 abbrev pub accepted : Signature → List Kind → Bool
 accepted (signature.FirstOrder parameters k) ks = fits parameters ks
 accepted (signature.HigherOrder f) ks = false
 
--- how many bags there are
+-- how many of the kinds are bags'
 abbrev pub bag_count : List Kind → ℕ
 bag_count [] = 0
 bag_count (kind.Bag t ∷ ks) = suc (bag_count ks)
@@ -79,12 +80,13 @@ higher_counted higher.AllOfAny f n = n == 2
 higher_counted higher.AllOfAll f n = n == 2
 higher_counted _ f n = counted (signature_of f) n
 
--- two bags
+-- the kinds are those of two bags
 abbrev pub are_two_bags : List Kind → Bool
 are_two_bags (kind.Bag t ∷ kind.Bag u ∷ []) = true
 are_two_bags _ = false
 
--- which of its arguments are bags: of any-of, all-of and map one, of any-of-any any, of all-of-any and all-of-all both
+-- the arguments that are to be bags are: of any-of, all-of and map one, of any-of-any any, of all-of-any and all-of-all
+-- both
 abbrev pub has_bags : HigherOrder → List Kind → Bool
 has_bags higher.AnyOf ks = bag_count ks == 1
 has_bags higher.AllOf ks = bag_count ks == 1
@@ -93,7 +95,7 @@ has_bags higher.AnyOfAny ks = true
 has_bags higher.AllOfAny ks = are_two_bags ks
 has_bags higher.AllOfAll ks = are_two_bags ks
 
--- its inner function gives a boolean; map takes any
+-- the inner function gives a boolean; that of map gives any value
 abbrev pub gives_boolean : HigherOrder → FuncId → Bool
 gives_boolean higher.Map f = true
 gives_boolean _ f = same_type (result_type_of (signature_of f)) type.Boolean

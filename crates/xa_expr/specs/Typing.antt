@@ -58,7 +58,7 @@ higher_applied h f ts =
     else if higher_accepted h f (map kind_of_typed ts) then Ok (typed.HigherOrder h f ts)
     else Err WrongType
 
--- as an argument, a function is known if it is one of values
+-- a function as an argument, which is known if it is one of values
 abbrev pub known_inner : Option FuncId → Result FuncId CheckError
 known_inner (Some f) = if is_scalar f then Ok f else Err UnknownFunction
 known_inner None = Err UnknownFunction
