@@ -35,11 +35,12 @@ texts (value.String text ∷ vs) = text ∷ texts vs
 texts (value.AnyUri text ∷ vs) = text ∷ texts vs
 texts (_ ∷ vs) = texts vs
 
--- a function of one value, and of two
+-- a function of one value
 abbrev pub of_one : {X : Type 0} → (Value → Result X FuncFault) → List Value → Result X FuncFault
 of_one f (v ∷ []) = f v
 of_one f _ = misfit
 
+-- a function of two values
 abbrev pub of_two : {X : Type 0} → (Value → Value → Result X FuncFault) → List Value → Result X FuncFault
 of_two f (v ∷ w ∷ []) = f v w
 of_two f _ = misfit

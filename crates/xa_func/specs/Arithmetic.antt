@@ -14,11 +14,11 @@ use Rattle.xa_func.specs.Arguments.{misfit}
 unfoldable pub within : ℤ → Result ℤ FuncFault
 within z = if is_integer z then Ok z else Err Overflow
 
--- truncated toward zero
+-- the quotient, truncated toward zero
 unfoldable pub quotient : ℤ → ℤ → Result ℤ FuncFault
 quotient a b = if int_eq b (pos 0) then Err ZeroDivisor else within (int_div a b)
 
--- with the dividend's sign
+-- the remainder, with the dividend's sign
 unfoldable pub remainder : ℤ → ℤ → Result ℤ FuncFault
 remainder a b = if int_eq b (pos 0) then Err ZeroDivisor else Ok (int_rem a b)
 

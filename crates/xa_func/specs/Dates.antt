@@ -24,18 +24,19 @@ directed Subtract duration = neg_ℤ duration
 abbrev pub month_number : Day → ℤ
 month_number d = pos (d.year * 12 + (d.month - 1))
 
--- the year and the month of this many months
+-- the year of this many months since January of the year 0
 abbrev pub year_at : ℤ → ℤ
 year_at months = int_div_euclid months (pos 12)
 
+-- the month of this many months since January of the year 0, from 1 to 12
 abbrev pub month_at : ℤ → ℕ
 month_at months = unsigned_abs (int_rem_euclid months (pos 12)) + 1
 
--- years 1 to 9999
+-- the years 1 to 9999
 abbrev pub is_year : ℤ → Bool
 is_year year = int_le (pos 1) year && int_le year (pos 9999)
 
--- the same day of the month with that number, or its last day if it is shorter
+-- a day of the month with that `month_number`, or the month's last day if it is shorter
 unfoldable pub day_in_month : ℕ → ℤ → Result Day FuncFault
 day_in_month day months =
     if is_year (year_at months) then Ok (record {
@@ -49,7 +50,7 @@ day_in_month day months =
 abbrev pub months_later : Day → ℤ → Result Day FuncFault
 months_later d months = day_in_month d.day (month_number d +ℤ months)
 
--- from 0001-01-01 to 9999-12-31
+-- the numbers of the days from 0001-01-01 to 9999-12-31
 abbrev pub is_day_number : ℤ → Bool
 is_day_number n = int_le (day_number 1 1 1) n && int_le n (day_number 9999 12 31)
 
@@ -57,10 +58,11 @@ is_day_number n = int_le (day_number 1 1 1) n && int_le n (day_number 9999 12 31
 unfoldable pub day_at : ℤ → Result Day FuncFault
 day_at n = if is_day_number n then Ok (day_of_number n) else Err CalendarRange
 
--- the day, and a day with a time, in the zone as it was written
+-- a day, in the zone as it was written
 abbrev pub date_on : Option ℤ → Day → CivilDate
 date_on zone d = record { year = d.year; month = d.month; day = d.day; zone = zone }
 
+-- a day with a time of day, in the zone as it was written
 abbrev pub date_time_on : ℕ → Option ℤ → Day → CivilDateTime
 date_time_on nanos zone d = record { year = d.year; month = d.month; day = d.day; nanos = nanos; zone = zone }
 

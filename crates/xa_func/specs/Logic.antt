@@ -18,11 +18,11 @@ decides stops (Err e) = true
 abbrev pub by_places : {X F : Type 0} → (X → Bool) → X → List (Result X F) → Result X F
 by_places stops otherwise rs = unwrap_or (find (decides stops) rs) (Ok otherwise)
 
--- or: the first place that is True or a fault, and else False
+-- `or`: the first place that is True or a fault, and else False
 abbrev pub or_of : {F : Type 0} → List (Result Bool F) → Result Bool F
 or_of rs = by_places (λ b. b) false rs
 
--- and: the first place that is False or a fault, and else True
+-- `and`: the first place that is False or a fault, and else True
 abbrev pub and_of : {F : Type 0} → List (Result Bool F) → Result Bool F
 and_of rs = by_places not true rs
 

@@ -19,10 +19,11 @@ use Rattle.xa_func.specs.declared.func_id.BagFunction.TheVariants as bag
 use Rattle.xa_func.specs.declared.func_id.HigherOrder.TheVariants as higher
 use Rattle.xa_func.specs.Table.{names}
 
--- the types that have an order, and those that are printed as a string
+-- the types that have an order
 abbrev pub ordered_types : List OrderedType
 ordered_types = ordered.Integer ∷ ordered.String ∷ ordered.Time ∷ ordered.Date ∷ ordered.DateTime ∷ []
 
+-- the types that are printed as a string
 abbrev pub printed_types : List PrintedType
 printed_types =
     printed.Boolean ∷ printed.Integer ∷ printed.Date ∷ printed.Time ∷ printed.DateTime ∷ printed.AnyUri

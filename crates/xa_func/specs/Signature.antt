@@ -33,10 +33,11 @@ of_values parameters t = FirstOrder parameters (kind.Value t)
 abbrev pub question : Parameters → Signature
 question parameters = of_values parameters type.Boolean
 
--- one value of the type, and two
+-- one value of the type
 abbrev pub one_value : DataType → Parameters
 one_value t = One (kind.Value t)
 
+-- two values of the type
 abbrev pub two_values : DataType → Parameters
 two_values t = Two (kind.Value t) (kind.Value t)
 
@@ -163,7 +164,7 @@ abbrev pub AcceptsKinds : Signature → List Kind → Type 0
 AcceptsKinds (FirstOrder parameters k) ks = Fits parameters ks
 AcceptsKinds (HigherOrder f) ks = ⊥
 
--- it is a function of values, and its signature takes arguments of these kinds
+-- the function is one of values, and its signature takes arguments of these kinds
 abbrev pub TakesKinds : FuncId → List Kind → Type 0
 TakesKinds f ks = IsTrue (is_scalar f) × AcceptsKinds (signature_of f) ks
 

@@ -133,12 +133,13 @@ bag_verb bag.AtLeastOneMemberOf = codes "-at-least-one-member-of"
 bag_verb bag.Subset = codes "-subset"
 bag_verb bag.SetEquals = codes "-set-equals"
 
--- families whose members came with different versions, or are of different subjects
+-- the functions that give a text, which came with different versions
 abbrev pub text_row : TextFunction → Name
 text_row text_function.NormalizeSpace = row first_version (codes "string") (codes "-normalize-space")
 text_row text_function.Concatenate = row second_version (codes "string") (codes "-concatenate")
 text_row text_function.Substring = row third_version (codes "string") (codes "-substring")
 
+-- the functions that move a date, which are of different subjects
 abbrev pub move_row : Moved → Direction → Name
 move_row moved.DateTimeByDayTime direction.Add = row third_version (codes "dateTime") (codes "-add-dayTimeDuration")
 move_row moved.DateTimeByDayTime direction.Subtract =
@@ -150,6 +151,7 @@ move_row moved.DateByYearMonth direction.Add = row third_version (codes "date") 
 move_row moved.DateByYearMonth direction.Subtract =
     row third_version (codes "date") (codes "-subtract-yearMonthDuration")
 
+-- the higher-order functions, which came with different versions
 abbrev pub higher_row : HigherOrder → Name
 higher_row higher.AnyOf = row third_version [] (codes "any-of")
 higher_row higher.AllOf = row third_version [] (codes "all-of")
@@ -158,7 +160,7 @@ higher_row higher.Map = row third_version [] (codes "map")
 higher_row higher.AllOfAny = row first_version [] (codes "all-of-any")
 higher_row higher.AllOfAll = row first_version [] (codes "all-of-all")
 
--- the table
+-- the table: the row of each function
 abbrev pub row_of : FuncId → Name
 row_of (function.Equal t) = row (if is_duration t then third_version else first_version) (name_of t) (codes "-equal")
 row_of (function.Compare c t) = row first_version (name_of (ordered_type t)) (comparison_verb c)

@@ -88,7 +88,7 @@ impl Signature {
         self.accepts_as::<T, Whole>(arguments)
     }
 
-    /// Whether it takes what the arguments count as.
+    /// Whether a function of the signature takes what the arguments count as.
     fn accepts_as<T: HasKind, W: Counting>(self, arguments: &[T]) -> bool
         ensures { IsTrue result ↔ AcceptsKinds self (map (λ a. W.counts_as (T.kind_of a)) arguments.now) }
     {
@@ -100,14 +100,14 @@ impl Signature {
 }
 
 impl FuncId {
-    /// Whether it is a function of values that takes the arguments.
+    /// Whether the function is one of values, and takes the arguments.
     pub fn takes<T: HasKind>(self, arguments: &[T]) -> bool
         ensures { IsTrue result ↔ TakesKinds self (map T.kind_of arguments.now) }
     {
         self.is_scalar() && self.signature().accepts(arguments)
     }
 
-    /// Whether it is a function of values that takes one of the values of each argument.
+    /// Whether the function is one of values, and takes one of the values of each argument.
     pub fn takes_each<T: HasKind>(self, arguments: &[T]) -> bool
         ensures { IsTrue result ↔ TakesKinds self (map (λ a. of_each (T.kind_of a)) arguments.now) }
     {

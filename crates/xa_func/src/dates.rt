@@ -48,7 +48,7 @@ fn month_number(day: civil::Date) -> u32
     u32::from(day.year.unsigned_abs()) * 12 + u32::from(day.month - 1)
 }
 
-/// The same day of the month with that number, or its last day if it is shorter.
+/// A day of the month with that `month_number`, or the month's last day if it is shorter.
 #[tactic(auto, unfolding(crate::specs::Dates::day_in_month))]
 fn day_in_month(day: u8, months: u32) -> Result<civil::Date, FuncFault>
     requires { 1 ≤ day }

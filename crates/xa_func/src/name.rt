@@ -15,10 +15,10 @@ use xa_value::DataType;
 /// What version 1.0 of the standard puts before the names of its functions.
 const VERSION_1: &str = "urn:oasis:names:tc:xacml:1.0:function:";
 
-/// The same of version 2.0.
+/// What version 2.0 of the standard puts before the names of its functions.
 const VERSION_2: &str = "urn:oasis:names:tc:xacml:2.0:function:";
 
-/// The same of version 3.0.
+/// What version 3.0 of the standard puts before the names of its functions.
 const VERSION_3: &str = "urn:oasis:names:tc:xacml:3.0:function:";
 
 /// A name: the version of the standard, what the function is of, and what it does.
@@ -69,7 +69,7 @@ impl Name {
 }
 
 impl Comparison {
-    /// What it asks, as its name says.
+    /// What the comparison asks, as its name says.
     fn verb(self) -> &'static str
         ensures { result.now ≡ comparison_verb self }
     {
@@ -83,7 +83,7 @@ impl Comparison {
 }
 
 impl Arithmetic {
-    /// What it does, as its name says.
+    /// What the function of integers does, as its name says.
     fn verb(self) -> &'static str
         ensures { result.now ≡ arithmetic_verb self }
     {
@@ -98,7 +98,7 @@ impl Arithmetic {
 }
 
 impl Logic {
-    /// What it does, as its name says.
+    /// What the function of booleans does, as its name says.
     fn verb(self) -> &'static str
         ensures { result.now ≡ logic_verb self }
     {
@@ -112,7 +112,7 @@ impl Logic {
 }
 
 impl TextPart {
-    /// What it asks, as its name says.
+    /// What the function asks about a part of a text, as its name says.
     fn verb(self) -> &'static str
         ensures { result.now ≡ part_verb self }
     {
@@ -143,7 +143,7 @@ impl PrintedType {
 }
 
 impl BagFunction {
-    /// What it does, as its name says.
+    /// What the function of bags does, as its name says.
     fn verb(self) -> &'static str
         ensures { result.now ≡ bag_verb self }
     {
@@ -199,7 +199,7 @@ impl FuncId {
         }
     }
 
-    /// Whether it has a name in the third version beside that in the first.
+    /// Whether the function has a name in the third version beside that in the first.
     fn has_later_name(self) -> bool
         ensures { result ≡ has_later_name self }
     {
