@@ -15,7 +15,7 @@ members_of value = map trim_ows (parts_of 44 value)
 abbrev pub is_close : List ℕ → Bool
 is_close token = str_eq_ignore_ascii_case token (codes "close")
 
--- one of the list's members is
+-- one of the list's members is the token `close`
 abbrev pub names_close : List ℕ → Bool
 names_close value = list_any is_close (members_of value)
 

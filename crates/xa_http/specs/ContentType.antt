@@ -11,15 +11,15 @@ use Rattle.xa_http.specs.Parts.{before}
 abbrev pub media_type : List ℕ → List ℕ
 media_type value = trim_ows (before 59 value)
 
--- media types compare case-insensitively
+-- the value is of that media type; media types compare case-insensitively
 abbrev pub is_media : List ℕ → List ℕ → Bool
 is_media name value = str_eq_ignore_ascii_case (media_type value) name
 
--- JSON, or XACML in JSON
+-- the value is of JSON, or of XACML in JSON
 unfoldable pub is_json : List ℕ → Bool
 is_json value = is_media (codes "application/json") value || is_media (codes "application/xacml+json") value
 
--- no Content-Type, or one, and it is JSON
+-- there is no Content-Type, or one, and it is JSON
 abbrev pub all_json : List (List ℕ) → Bool
 all_json [] = true
 all_json (value ∷ []) = is_json value

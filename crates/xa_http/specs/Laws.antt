@@ -7,23 +7,23 @@ use Rattle.xa_http.specs.declared.session.Next.TheVariants as next
 use Rattle.xa_http.specs.Stream.{Stream, fed}
 use Rattle.xa_http.specs.Messages.{BeginsWithMessage, Cuts, IsFaulty, IsFirst, IsNext}
 
--- bytes that follow leave the message at the front as it was
+-- law: bytes that follow leave the message at the front as it was
 abbrev pub KeepsMessages : Type 0
 KeepsMessages =
     (held more : List ℕ) (message : Message) (rest : List ℕ)
     → BeginsWithMessage held message rest → BeginsWithMessage (held ++ more) message (rest ++ more)
 
--- and a fault there
+-- law: bytes that follow leave the fault at the front as it was
 abbrev pub KeepsFaults : Type 0
 KeepsFaults = (held more : List ℕ) (fault : SessionFault) → IsFaulty held fault → IsFaulty (held ++ more) fault
 
--- and so no bytes that follow make a message of it
+-- law: no bytes that follow what is faulty make a message of it
 abbrev pub FaultsAreFinal : Type 0
 FaultsAreFinal =
     (held more : List ℕ) (fault : SessionFault) (message : Message) (rest : List ℕ)
     → IsFaulty held fault → ¬ (BeginsWithMessage (held ++ more) message rest)
 
--- if a stream has a first message, it is the only answer, and the stream goes on after it
+-- law: if a stream has a first message, it is the only answer, and the stream goes on after it
 abbrev pub AnswersMessages : Type 0
 AnswersMessages =
     (old : Stream) (message : Message) (rest : Stream) (answer : Next) (new : Stream)
@@ -33,19 +33,19 @@ AnswersMessages =
 abbrev pub IsCutOff : Stream → Type 0
 IsCutOff stream = (message : Message) (rest : Stream) → ¬ (IsFirst stream message rest)
 
--- a piece that is fed leaves the messages that were taken, and comes to what is held
+-- law: a piece that is fed leaves the messages that were taken, and comes to what is held
 abbrev pub FeedsOn : Type 0
 FeedsOn =
     (first : Stream) (taken : List Message) (now : Stream) (piece : List ℕ) → Cuts first taken now
     → Cuts (fed first piece) taken (fed now piece)
 
--- a message that is taken joins them
+-- law: a message that is taken joins those that were taken before
 abbrev pub TakesOn : Type 0
 TakesOn =
     (first : Stream) (taken : List Message) (now : Stream) (message : Message) (rest : Stream)
     → Cuts first taken now → IsFirst now message rest → Cuts first (taken ++ message ∷ []) rest
 
--- so the whole messages of a stream are these and no others, in whatever pieces it came
+-- law: the whole messages of a stream are one list and no other, and what is left behind them is one stream
 abbrev pub HasOneCut : Type 0
 HasOneCut =
     (stream : Stream) (messages others : List Message) (rest last : Stream)
@@ -88,7 +88,7 @@ StopsAt rest new =
     (rest ≡ new)
     ⊎ ((fault : SessionFault) × (rest.ended ≡ false) × IsFaulty rest.held fault × (new ≡ record rest { ended = true }))
 
--- so however a stream is cut into pieces, and whenever a session is asked, what it answers are the first messages of
+-- law: however a stream is cut into pieces, and whenever a session is asked, what it answers are the first messages of
 -- the whole stream
 abbrev pub AnswersFirstMessages : Type 0
 AnswersFirstMessages =

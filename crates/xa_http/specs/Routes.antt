@@ -34,7 +34,7 @@ path_of target = if is_utf8 target then path_of_plain (before 63 target) else No
 abbrev pub later_parts : List ℕ → List (List ℕ)
 later_parts path = drop 1 (parts_of 47 path)
 
--- one of them is empty
+-- one of a path's parts is empty
 unfoldable pub has_empty_part : List ℕ → Bool
 has_empty_part path = list_any (λ part. nat_eq (length part) 0) (later_parts path)
 
@@ -61,7 +61,7 @@ address_at path = option_map (λ place. record { place = place; path = path }) (
 unfoldable pub address_of : List ℕ → Option Address
 address_of target = option_and_then address_at (path_of target)
 
--- the part of its path that names a domain, if there is one, decoded
+-- the part of an address's path that names a domain, if there is one, decoded
 abbrev pub named_part : Address → Option (List ℕ)
 named_part address = option_map (decoded_part address.path) (domain_part address.place)
 
@@ -77,7 +77,7 @@ route_to path asks.Decide = to.Decide (decoded_part path 2)
 route_to path (asks.Domain command) = to.Domain (decoded_part path 2) command
 route_to path (asks.Document command) = to.Document (decoded_part path 2) (document_parts path) command
 
--- the part that names a domain
+-- the part of a route that names a domain, if there is one
 abbrev pub named_by : Route → Option (List ℕ)
 named_by to.Domains = None
 named_by (to.Operator domain command) = Some domain

@@ -16,7 +16,7 @@ pub(crate) enum Method {
 }
 
 impl Method {
-    /// Its name.
+    /// The method's name.
     pub(crate) fn name(self) -> &'static str
         ensures { result.now ≡ name_of self }
     {

@@ -32,7 +32,7 @@ abbrev pub KeepsHead : List ℕ → Option Head → Type 0
 KeepsHead held None = Unit {0}
 KeepsHead held (Some head) = HasHead held head
 
--- that stands at the front of the bytes held
+-- what a stream begins with stands at the front of the bytes held
 abbrev pub IsFront : List ℕ → Beginning → Type 0
 IsFront held (beginning.Head head) = HasHead held head
 IsFront held beginning.More = IsUnfinished held

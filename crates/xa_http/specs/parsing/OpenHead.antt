@@ -44,6 +44,6 @@ EndsIn part.ValueReturn bytes = EndsInLine (IsOpenValue (13 ∷ [])) bytes
 abbrev pub IsVersionEnd : List ℕ → Type 0
 IsVersionEnd bytes = (minor : ℕ) × (end : LineEnd) × (minor ≤ 1) × (bytes ≡ 32 ∷ (print_version minor ++ print_end end))
 
--- so many of the bytes held are the beginning of a head, and end in that part of it
+-- that many of the bytes held are the beginning of a head, and end in that part of it
 abbrev pub IsOpenHead : List ℕ → OpenHead → Type 0
 IsOpenHead held head = (head.len ≤ length held) × EndsIn head.part (take head.len held)
