@@ -28,24 +28,24 @@ name kind id = record { rank = place_of_kind kind; id = id }
 abbrev pub name_of : Active → Name
 name_of document = name document.kind document.id
 
--- by kind and id
+-- the order of names: by kind and id
 abbrev pub compare_names : Name → Name → Ordering
 compare_names = then_cmp (on (λ n. n.rank) nat_cmp) (on (λ n. n.id) (slice_cmp nat_cmp))
 
--- by kind, id and version
+-- the order of documents: by kind, id and version
 abbrev pub compare_documents : Active → Active → Ordering
 compare_documents = then_cmp (on name_of compare_names) (on (λ d. d.version) compare_versions)
 
--- the greater document comes first, and of like ones the first
+-- the order of places: the greater document comes first, and of like ones the first
 abbrev pub compare_places : List Active → ℕ → ℕ → Ordering
 compare_places active = then_cmp (flip_args (on (slice_get active) (option_cmp compare_documents))) nat_cmp
 
--- all places in that order
+-- the places of all documents, in the order of `compare_places`
 pub record IsOrder (active : List Active) (order : List ℕ) : Type 0 where
   pub all : (place : ℕ) → place < length active → list_any (nat_eq place) order ≡ true
   pub sorted : IsSorted (compare_places active) order
 
--- an order, or none yet
+-- an order of the places, or none yet
 abbrev pub IsOrderIfAny : List Active → List ℕ → Type 0
 IsOrderIfAny active [] = Unit {0}
 IsOrderIfAny active (first ∷ rest) = IsOrder active (first ∷ rest)
@@ -59,11 +59,12 @@ by_pattern (Number m ∷ parts) (n ∷ ns) = ordering_then (nat_cmp n m) (by_pat
 by_pattern (AnyNumber ∷ parts) ns = Equal
 by_pattern (AnyNumbers ∷ parts) ns = Equal
 
--- whether it is later, or earlier, than all versions that match the pattern, if there is one
+-- whether a version is later than all versions that match the pattern, if there is one
 abbrev pub is_after_pattern : Option (List PatternPart) → List ℕ → Bool
 is_after_pattern None v = false
 is_after_pattern (Some pattern) v = is_gt (by_pattern pattern v)
 
+-- whether a version is earlier than all versions that match the pattern, if there is one
 abbrev pub is_before_pattern : Option (List PatternPart) → List ℕ → Bool
 is_before_pattern None v = false
 is_before_pattern (Some pattern) v = is_lt (by_pattern pattern v)
@@ -86,7 +87,7 @@ standing_of reference document =
     ordering_then (compare_names (name reference.kind reference.id) (name_of document))
     (by_version reference document.version)
 
--- a place without a document stands behind all of them
+-- where the document at a place stands to those that may fit: behind all of them, if there is none
 abbrev pub standing : Reference → Option Active → Ordering
 standing reference None = Greater
 standing reference (Some document) = standing_of reference document
@@ -96,10 +97,11 @@ abbrev pub IsFalling : List Active → Reference → List ℕ → Type 0
 IsFalling active reference places =
     IsNonDecreasingBy (λ place. ordering_index (standing reference (slice_get active place))) places
 
--- the document at the place fits
+-- the document fits, if there is one
 abbrev pub fits_found : Reference → Option Active → Bool
 fits_found reference None = false
 fits_found reference (Some document) = fits reference document
 
+-- the document at the place fits
 abbrev pub fits_at : List Active → Reference → ℕ → Bool
 fits_at active reference place = fits_found reference (slice_get active place)

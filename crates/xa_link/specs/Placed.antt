@@ -31,7 +31,7 @@ abbrev pub placed_at : List Active → ℕ → Option Placed
 placed_at active place =
     option_map (λ (parsed : Parsed). placed (resolve active) parsed.document) (document_at active place)
 
--- its tree, by what the places lead to
+-- the tree of a document, by what the places in it lead to
 abbrev pub linked_step : (Option ℕ → Linked) → Placed-F Linked → Linked
 linked_step below (Placed-F.Policy policy) = Policy policy
 linked_step below (Placed-F.PolicySet set children) = PolicySet set children
@@ -55,16 +55,16 @@ or_not_looked None = NotLooked
 abbrev pub held : List Finding → ℕ → Finding
 held documents place = or_not_looked (slice_get documents place)
 
--- what was found is what stands there
+-- what was found of each place is what stands there
 abbrev pub AreRight : List Active → List Finding → Type 0
 AreRight active documents =
     (place : ℕ) (found : Option Placed) → held documents place ≡ Looked found → placed_at active place ≡ found
 
--- the same is held
+-- what is known of each place has stayed
 abbrev pub SamePlaced : List Finding → List Finding → Type 0
 SamePlaced documents after = (place : ℕ) → held after place ≡ held documents place
 
--- the same, and at this place what was found
+-- what is known of each place has stayed, but of this one it is what was found
 abbrev pub HasPlaced : List Finding → ℕ → Option Placed → List Finding → Type 0
 HasPlaced documents place found after =
     (other : ℕ) → held after other ≡ (if other == place then Looked found else held documents other)

@@ -22,7 +22,7 @@ is_read [] place = false
 is_read (first ∷ rest) zero = first
 is_read (first ∷ rest) (suc place) = is_read rest place
 
--- those that were looked at
+-- whether the place was looked at
 abbrev pub is_looked : Finding → Bool
 is_looked NotLooked = false
 is_looked (Looked found) = true
@@ -53,7 +53,7 @@ pub record Refuses (wanted : ℕ → Bool) (old : Progress) (before after : Allo
   pub short : before.is_spent ≡ false → after.is_spent ≡ true
       → allowed old before < bytes_at (λ place. is_read old.read place || wanted place) old.active
 
--- the one if there is an answer, the other if there is none
+-- `Reads` if there is an answer, `Refuses` if there is none
 abbrev pub Counted : {X E : Type 0} → Result X E → (ℕ → Bool) → Progress → Progress → Allowance → Allowance → Type 0
 Counted (Ok x) wanted old new before after = Reads wanted old new before after
 Counted (Err e) wanted old new before after = Refuses wanted old before after
@@ -72,17 +72,17 @@ abbrev pub led_at : ℕ → List Active → List ℕ → ℕ → ℕ → Bool
 led_at more active path next place =
     is_at_or_below (λ n inner. leads_within more active (n ∷ path) inner place) active (Some next) place
 
--- whether a reference leads to it that stands for the document at a place
+-- whether a reference that stands for the document at the next place leads to the document at a place
 abbrev pub led_to_within : ℕ → List Active → List ℕ → Option ℕ → ℕ → Bool
 led_to_within zero active path next place = false
 led_to_within (suc more) active path next place =
     is_at_or_below (λ n inner. leads_within more active (n ∷ path) inner place) active (unless_circular path next) place
 
--- whether some reference in a document does
+-- whether some reference in a document leads to the document at a place
 abbrev pub led_from : ℕ → List Active → List ℕ → Placed → ℕ → Bool
 led_from more active path document place = some_place (λ next. led_to_within more active path next place) document
 
--- or in one of several
+-- whether some reference in one of several documents leads to the document at a place
 abbrev pub led_from_all : ℕ → List Active → List ℕ → List Placed → ℕ → Bool
 led_from_all more active path documents place =
     list_any (λ document. led_from more active path document place) documents

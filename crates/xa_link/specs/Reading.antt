@@ -19,7 +19,7 @@ some_step test (Document-F.Reference reference) = test reference
 abbrev pub some_reference : (Reference → Bool) → Document → Bool
 some_reference test = fold-Document Bool (some_step test)
 
--- a text that isn't a document has none
+-- whether some reference in a text passes a test; one that isn't a document has none
 abbrev pub some_reference_in : (Reference → Bool) → Option Parsed → Bool
 some_reference_in test None = false
 some_reference_in test (Some parsed) = some_reference test parsed.document
@@ -39,7 +39,7 @@ leads_within (suc more) active path reference place =
     is_at_or_below (λ next inner. leads_within more active (next ∷ path) inner place) active
     (next_place active path reference) place
 
--- whether it does so from the root: at most 17 documents stand on a path, the first one too
+-- whether the root leads to the document at a place: at most 17 documents stand on a path, the first one too
 abbrev pub leads_to : List Active → Reference → ℕ → Bool
 leads_to active root = leads_within 17 active [] root
 

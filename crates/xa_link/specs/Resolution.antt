@@ -23,12 +23,12 @@ abbrev pub fits_pattern : Option (List PatternPart) → List ℕ → Bool
 fits_pattern None v = true
 fits_pattern (Some pattern) v = matches pattern v
 
--- it isn't before the earliest version, if there is one
+-- the version isn't before the earliest, if there is one
 abbrev pub not_before : Option (List ℕ) → List ℕ → Bool
 not_before None v = true
 not_before (Some earliest) v = not (is_before v earliest)
 
--- it isn't after the latest, if there is one
+-- the version isn't after the latest, if there is one
 abbrev pub not_after : Option (List ℕ) → List ℕ → Bool
 not_after None v = true
 not_after (Some latest) v = not (is_before latest v)

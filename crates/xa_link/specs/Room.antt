@@ -27,20 +27,20 @@ abbrev pub less_one : ℕ → Result ℕ LinkError
 less_one zero = Err TooLarge
 less_one (suc room) = Ok room
 
--- a policy
+-- a policy, and the room that it leaves
 unfoldable pub policy_fitted : ℕ → PolicyParts → Result (Fitted Linked) LinkError
 policy_fitted room policy = do
   left ← less_one room
   Ok (record { part = Policy policy; room = left })
 
--- a policy set by its children
+-- a policy set with its children, and the room that it leaves
 unfoldable pub set_fitted : ℕ → SetParts → List Linked → Result (Fitted Linked) LinkError
 set_fitted room set children = do
   left ← less_one room
   fitting ← all_fitted left children
   Ok (record { part = PolicySet set fitting.part; room = fitting.room })
 
--- others behind those that are there
+-- trees behind those that are there, and the room that they leave
 abbrev pub fitted_behind : List Linked → Result (Fitted (List Linked)) LinkError
     → Result (Fitted (List Linked)) LinkError
 fitted_behind before (Ok others) = Ok (record { part = before ++ others.part; room = others.room })
