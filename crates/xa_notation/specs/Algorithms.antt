@@ -18,7 +18,7 @@ rule_uri_of PermitUnlessDeny = Some (codes "urn:oasis:names:tc:xacml:3.0:rule-co
 rule_uri_of FirstApplicable = Some (codes "urn:oasis:names:tc:xacml:1.0:rule-combining-algorithm:first-applicable")
 rule_uri_of OnlyOneApplicable = None
 
--- its name in a policy set
+-- the algorithm's name in a policy set
 unfoldable pub policy_uri_of : Alg → List ℕ
 policy_uri_of DenyOverrides = codes "urn:oasis:names:tc:xacml:3.0:policy-combining-algorithm:deny-overrides"
 policy_uri_of PermitOverrides = codes "urn:oasis:names:tc:xacml:3.0:policy-combining-algorithm:permit-overrides"
@@ -31,7 +31,7 @@ policy_uri_of PermitUnlessDeny = codes "urn:oasis:names:tc:xacml:3.0:policy-comb
 policy_uri_of FirstApplicable = codes "urn:oasis:names:tc:xacml:1.0:policy-combining-algorithm:first-applicable"
 policy_uri_of OnlyOneApplicable = codes "urn:oasis:names:tc:xacml:1.0:policy-combining-algorithm:only-one-applicable"
 
--- all of them
+-- all combining algorithms
 abbrev pub all_algorithms : List Alg
 all_algorithms =
     DenyOverrides ∷ PermitOverrides ∷ OrderedDenyOverrides ∷ OrderedPermitOverrides ∷ DenyUnlessPermit
@@ -42,9 +42,10 @@ abbrev pub is_name : List ℕ → Option (List ℕ) → Bool
 is_name text None = false
 is_name text (Some uri) = bytes_eq text uri
 
--- the algorithm that a text names in a policy, and in a policy set
+-- the algorithm that a text names in a policy
 unfoldable pub rule_algorithm_named : List ℕ → Option Alg
 rule_algorithm_named text = find (λ a. is_name text (rule_uri_of a)) all_algorithms
 
+-- the algorithm that a text names in a policy set
 unfoldable pub policy_algorithm_named : List ℕ → Option Alg
 policy_algorithm_named text = find (λ a. bytes_eq text (policy_uri_of a)) all_algorithms

@@ -49,10 +49,11 @@ old_token d = do
   _ ← fits table.OldToken d
   needed_member member.Token d >>= token
 
--- the two, as a body writes them
+-- a token that a domain gets, with its role, as a body writes it
 unfoldable pub new_token_of : List ℕ → Result NewToken NotationError
 new_token_of body = json body >>= new_token
 
+-- a token that a domain loses, as a body writes it
 unfoldable pub old_token_of : List ℕ → Result (List ℕ) NotationError
 old_token_of body = json body >>= old_token
 

@@ -22,7 +22,7 @@ use Rattle.xa_notation.specs.Tables.{name_of, member_of, members_of, alternative
 unfoldable pub json : List ℕ → Result Data NotationError
 json text = if is_utf8 text then ok_or (read text) NotJson else Err NotJson
 
--- the member, if it is an object and has it
+-- the member of a value, if this is an object and has it
 abbrev pub at : Member → Data → Option Data
 at name d = get (name_of name) d
 
@@ -39,7 +39,7 @@ abbrev pub has_only : List Entry → Members → Bool
 has_only entries no_members = true
 has_only entries (member name d ms) = is_named entries name && has_only entries ms
 
--- it is an object without other members
+-- the value is an object without members beside the table's
 abbrev pub knows : List Entry → Data → Result (Unit {0}) NotationError
 knows entries d = ok_or (as_object d) BadValue >>= (λ ms. if has_only entries ms then Ok tt else Err UnknownMember)
 
@@ -48,7 +48,7 @@ abbrev pub has_entry : Entry → Data → Result (Unit {0}) NotationError
 has_entry (Required name) d = needed_member name d >>= (λ _. Ok tt)
 has_entry (Optional name) d = Ok tt
 
--- those that have to be there are, in table order
+-- the members that have to be there are, in table order
 abbrev pub has_needed : List Entry → Data → Result (Unit {0}) NotationError
 has_needed [] d = Ok tt
 has_needed (entry ∷ entries) d = has_entry entry d >>= (λ _. has_needed entries d)

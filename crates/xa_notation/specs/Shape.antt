@@ -285,10 +285,11 @@ unfoldable pub written_set_within : ℕ → Data → Result WrittenSetWithChildr
 written_set_within zero d = Err (too_deep d)
 written_set_within (suc depth) d = written_set_of (written_child (written_set_within depth)) d
 
--- a policy, and a policy set, as a whole document, with its key
+-- a policy as a whole document, with its key
 abbrev pub document_of_policy : WrittenPolicy → WrittenDocument
 document_of_policy p = record { key = p.key; tree = tree.Policy p }
 
+-- a policy set as a whole document, with its key
 abbrev pub document_of_set : WrittenSetWithChildren → WrittenDocument
 document_of_set s = record { key = s.set.key; tree = tree_of_set s }
 

@@ -119,7 +119,7 @@ alternatives_of choice.Expression =
     member.AttributeValue ∷ member.AttributeDesignator ∷ member.Apply ∷ member.Function ∷ member.VariableReference ∷ []
 alternatives_of choice.Root = member.PolicyIdReference ∷ member.PolicySetIdReference ∷ []
 
--- the first of them: that it stands there first is a clause of `Choice::first`
+-- the first of a choice's alternatives: that it stands there first is a clause of `Choice::first`
 unfoldable pub first_of : Choice → Member
 first_of choice.Document = member.Policy
 first_of choice.Child = member.Policy

@@ -34,13 +34,15 @@ use Rattle.xa_notation.specs.declared.written.WrittenVariable.{WrittenVariable}
 abbrev pub typed_match : WrittenMatch → Result Match CheckError
 typed_match m = matched m.function m.literal m.designator
 
--- a target (5.6 to 5.8): its matches, in order
+-- an AllOf (5.8): its matches, in order
 abbrev pub typed_all_of : WrittenAllOf → Result AllOf CheckError
 typed_all_of a = collected (map typed_match a.matches) >>= (λ matches. Ok (record { matches = matches }))
 
+-- an AnyOf (5.7): each AllOf of it, in order
 abbrev pub typed_any_of : WrittenAnyOf → Result AnyOf CheckError
 typed_any_of a = collected (map typed_all_of a.all_of) >>= (λ all_of. Ok (record { all_of = all_of }))
 
+-- a target (5.6): each AnyOf of it, in order
 abbrev pub typed_target : WrittenTarget → Result Target CheckError
 typed_target t = collected (map typed_any_of t.any_of) >>= (λ any_of. Ok (record { any_of = any_of }))
 

@@ -41,10 +41,11 @@ fitting_id t = if nat_le 1 (length t) && nat_le (length t) 512 then Ok t else Er
 abbrev pub id : Data → Result (List ℕ) NotationError
 id d = text d >>= fitting_id
 
--- a version, and a pattern of versions (5.12, 5.13)
+-- a version (5.12)
 abbrev pub version : Data → Result (List ℕ) NotationError
 version d = text d >>= (λ t. or_bad (read_version t))
 
+-- a pattern of versions (5.13)
 abbrev pub pattern : Data → Result (List PatternPart) NotationError
 pattern d = text d >>= (λ t. or_bad (read_pattern t))
 
@@ -56,10 +57,11 @@ effect_named t =
 abbrev pub effect : Data → Result Effect NotationError
 effect d = text d >>= effect_named
 
--- the algorithm of a policy, and of a policy set
+-- the algorithm of a policy
 abbrev pub rule_algorithm : Data → Result Alg NotationError
 rule_algorithm d = text d >>= (λ t. ok_or (rule_algorithm_named t) UnknownAlgorithm)
 
+-- the algorithm of a policy set
 abbrev pub policy_algorithm : Data → Result Alg NotationError
 policy_algorithm d = text d >>= (λ t. ok_or (policy_algorithm_named t) UnknownAlgorithm)
 

@@ -52,28 +52,28 @@ impl Parsed {
         typed_document(alloc, document_as_written(alloc, text)?)
     }
 
-    /// Whether it is a policy or a policy set.
+    /// Whether the document is a policy or a policy set.
     pub fn kind(&self) -> DocumentKind
         ensures { result ≡ self.now.kind }
     {
         self.kind
     }
 
-    /// Its id.
+    /// The document's id.
     pub fn id(&self) -> &Text
         ensures { result.now ≡ self.now.id }
     {
         &self.id
     }
 
-    /// Its version.
+    /// The document's version.
     pub fn version(&self) -> &Version
         ensures { result.now ≡ self.now.version }
     {
         &self.version
     }
 
-    /// Its key.
+    /// The document's key.
     pub fn key(&self) -> Result<DocumentKey, AllocError>
         ensures { IfOk result (λ key.
             key ≡ record { kind = self.now.kind; id = self.now.id; version = self.now.version }) }

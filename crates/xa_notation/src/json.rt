@@ -22,7 +22,7 @@ use xa_value::{Items, OrMemory, Text};
 
 /// What is read from one value.
 pub trait Reader {
-    /// What it is.
+    /// What a value is read as.
     type Output;
 
     /// What the value stands for.

@@ -23,7 +23,7 @@ impl Entry {
         }
     }
 
-    /// Whether it is the entry of the member of this name.
+    /// Whether this is the entry of the member of this name.
     pub(crate) fn is_of(self, name: &str) -> bool
         ensures { result ≡ bytes_eq name.now (name_of (member_of self)) }
     {
@@ -79,7 +79,7 @@ pub enum Object {
 }
 
 impl Object {
-    /// Its members, in table order.
+    /// The object's members, in table order.
     #[tactic(auto, unfolding(crate::specs::Tables::members_of))]
     pub(crate) fn members(self) -> &'static [Entry]
         ensures { result.now ≡ members_of self }

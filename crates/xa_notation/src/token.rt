@@ -25,7 +25,7 @@ fn all_visible(text: &[u8]) -> bool
     text.iter().all(|byte| byte.is_ascii_graphic())
 }
 
-/// Whether it is a token: 8 to 64 visible ASCII characters.
+/// Whether the text is a token: 8 to 64 visible ASCII characters.
 #[tactic(auto, unfolding(crate::specs::Tokens::is_token))]
 pub fn is_token(text: &[u8]) -> bool
     ensures { result ≡ is_token text.now }
