@@ -30,7 +30,7 @@ with_rules p rules =
 abbrev pub rule_added : PolicyParts → Rule Expr → Result PolicyParts CheckError
 rule_added p rule = checked_rule p.variables rule >>= (λ r. Ok (with_rules p (r ∷ [])))
 
--- the policy with these obligations and this advice in place of its own, if they pass
+-- the policy with these obligations and this advice in place of its own
 abbrev pub with_duties : PolicyParts → DutyExpressions Typed → PolicyParts
 with_duties p duties =
     record {
@@ -42,12 +42,14 @@ with_duties p duties =
       duties = duties;
     }
 
+-- the policy with these obligations and this advice in place of its own, if they pass
 abbrev pub duties_replaced : PolicyParts → DutyExpressions Expr → Result PolicyParts CheckError
 duties_replaced p duties = checked_duties p.variables duties >>= (λ ds. Ok (with_duties p ds))
 
--- the same of a policy set, which has no variables
+-- the policy set with these obligations and this advice in place of its own
 abbrev pub set_with_duties : SetParts → DutyExpressions Typed → SetParts
 set_with_duties s duties = record { key = s.key; algorithm = s.algorithm; target = s.target; duties = duties }
 
+-- the policy set with these obligations and this advice in place of its own, if they pass; it has no variables
 abbrev pub duties_of_set_replaced : SetParts → DutyExpressions Expr → Result SetParts CheckError
 duties_of_set_replaced s duties = checked_duties [] duties >>= (λ ds. Ok (set_with_duties s ds))

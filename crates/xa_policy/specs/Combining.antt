@@ -73,15 +73,16 @@ first_applicable decisions =
     let first = unwrap_or (find (λ d. not (is NotApplicable d)) decisions) NotApplicable in
     if is_indeterminate first then IndeterminateDenyPermit else first
 
--- whether a child's target is Match, and whether it is Indeterminate
+-- whether a child's target is Match
 abbrev pub applies : Child → Bool
 applies child = is_match child.target
 
+-- whether a child's target is Indeterminate
 abbrev pub may_apply : Child → Bool
 may_apply child = target.is_indeterminate child.target
 
--- of the decisions of the applicable children: the only one (C.9), and {DP} if there are more (C.1). That the only
--- one stays {P} or {D} if it is that, which C.1 by itself would make {DP}, is this project's choice.
+-- the only decision of the applicable children (C.9), and {DP} if there are more (C.1). That the only one stays {P} or
+-- {D} if it is that, which C.1 by itself would make {DP}, is this project's choice.
 abbrev pub the_only_one : List Decision → Decision
 the_only_one [] = NotApplicable
 the_only_one (decision ∷ []) = decision

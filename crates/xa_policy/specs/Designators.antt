@@ -16,38 +16,39 @@ use Rattle.xa_policy.specs.declared.rule.Rule.{Rule}
 use Rattle.xa_policy.specs.Evaluation.{evaluation}
 use Rattle.xa_policy.specs.Policy.{PolicyParts, SetParts}
 
--- those of an obligation's or a piece of advice's assignments
+-- the designators of an assignment
 abbrev pub designators_of_assignment : AttributeAssignmentExpression Typed → List Designator
 designators_of_assignment a = designators a.expression
 
+-- the designators of an obligation's or a piece of advice's assignments
 abbrev pub designators_of_duty : DutyExpression Typed → List Designator
 designators_of_duty d = flat_map designators_of_assignment d.assignments
 
--- those of obligations, and then of advice
+-- the designators of obligations, and then of advice
 abbrev pub designators_of_duties : DutyExpressions Typed → List Designator
 designators_of_duties own = flat_map designators_of_duty own.obligations ++ flat_map designators_of_duty own.advice
 
--- those of a condition; none has none
+-- the designators of a condition; a rule without one has none there
 abbrev pub designators_of_condition : Option Typed → List Designator
 designators_of_condition None = []
 designators_of_condition (Some e) = designators e
 
--- those of a rule
+-- the designators of a rule
 abbrev pub designators_of_rule : Rule Typed → List Designator
 designators_of_rule rule =
     designators_of_target rule.target ++ (designators_of_condition rule.condition ++ designators_of_duties rule.duties)
 
--- those of a policy
+-- the designators of a policy
 abbrev pub designators_of_policy : PolicyParts → List Designator
 designators_of_policy policy =
     designators_of_target policy.target ++ (designators_of_definitions policy.variables
     ++ (flat_map designators_of_rule policy.rules ++ designators_of_duties policy.duties))
 
--- those of a policy set, without its children's
+-- the designators of a policy set, without its children's
 abbrev pub designators_of_set : SetParts → List Designator
 designators_of_set set = designators_of_target set.target ++ designators_of_duties set.duties
 
--- each element of a tree, by those of its children
+-- the designators of each element of a tree, by those of its children
 abbrev pub designators_step : Linked-F (List Designator) → List Designator
 designators_step Linked-F.Unresolved = []
 designators_step (Linked-F.Policy policy) = designators_of_policy policy

@@ -31,7 +31,7 @@ kind_named name =
     if bytes_eq name (name_of_kind Policy) then Some Policy
     else if bytes_eq name (name_of_kind PolicySet) then Some PolicySet else None
 
--- by the kind, then by the bytes of the id, and then by the numbers of the version
+-- the order of documents' keys: by the kind, then by the bytes of the id, and then by the numbers of the version
 abbrev pub compare_keys : DocumentKey → DocumentKey → Ordering
 compare_keys =
     then_cmp (then_cmp (on (λ k. place_of_kind k.kind) nat_cmp) (on (λ k. k.id) (slice_cmp nat_cmp)))

@@ -26,7 +26,7 @@ pub record DutyLists : Type 0 where
 abbrev pub no_duties : DutyLists
 no_duties = record { obligations = []; advice = [] }
 
--- those of one, and then those of another
+-- the obligations and advice of one, and then those of another
 abbrev pub and_then : DutyLists → DutyLists → DutyLists
 and_then first second =
     record { obligations = first.obligations ++ second.obligations; advice = first.advice ++ second.advice }
@@ -51,7 +51,7 @@ with_value a v = record { attribute_id = a.attribute_id; category = a.category; 
 abbrev pub assigned : (Typed → Outcome) → AttributeAssignmentExpression Typed → Result (List AttributeAssignment) Fault
 assigned value_of a = value_of a.expression >>= (λ given. Ok (map (with_value a) (values_of given)))
 
--- all of them, or the first fault
+-- the assignments of all expressions, or the first fault
 abbrev pub all_assigned : (Typed → Outcome) → List (AttributeAssignmentExpression Typed)
     → Result (List AttributeAssignment) Fault
 all_assigned value_of expressions =
@@ -61,7 +61,7 @@ all_assigned value_of expressions =
 abbrev pub duty : (Typed → Outcome) → DutyExpression Typed → Result Duty Fault
 duty value_of d = all_assigned value_of d.assignments >>= (λ all. Ok (record { id = d.id; assignments = all }))
 
--- those that belong to the effect
+-- the obligations, or the pieces of advice, that belong to the effect, or the first fault
 abbrev pub duties_with : (Typed → Outcome) → Effect → List (DutyExpression Typed) → Result (List Duty) Fault
 duties_with value_of effect ds = collected (map (duty value_of) (filter (λ d. same_effect effect d.effect) ds))
 

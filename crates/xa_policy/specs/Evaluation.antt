@@ -34,13 +34,13 @@ use Rattle.xa_policy.specs.Status.{EvaluatedChild, fault_of, status_of, only_one
 abbrev pub child_of : EvaluatedChild → Child
 child_of child = record { decision = child.value.decision; target = child.target }
 
--- up to and including the first that is so
+-- a list up to and including its first item that is so
 abbrev pub up_to : {X : Type 0} → (X → Bool) → List X → List X
 up_to is_so [] = []
 up_to is_so (x ∷ xs) = x ∷ (if is_so x then [] else up_to is_so xs)
 
--- under an algorithm that goes by decisions: no child after one that decides this is evaluated. Which children count
--- as evaluated is this project's choice, for the unordered forms too
+-- whether no child is evaluated after one that decides this, under an algorithm that goes by decisions. Which children
+-- count as evaluated is this project's choice, for the unordered forms too
 abbrev pub ends : Alg → Decision → Bool
 ends DenyOverrides d = is Deny d
 ends OrderedDenyOverrides d = is Deny d
@@ -51,25 +51,26 @@ ends DenyUnlessPermit d = is Permit d
 ends FirstApplicable d = not (is NotApplicable d)
 ends OnlyOneApplicable d = false
 
--- the one, if there is one alone
+-- the item of a list, if there is one alone
 abbrev pub only : {X : Type 0} → List X → List X
 only (x ∷ []) = x ∷ []
 only _ = []
 
--- those that are evaluated, each seen as a child: under only-one-applicable the chosen one alone, and else all up to
--- the one that ends it
+-- the items that are evaluated, each seen as a child: under only-one-applicable the chosen one alone, and else all up
+-- to the one that ends it
 abbrev pub evaluated_among : {X : Type 0} → (X → EvaluatedChild) → Alg → List X → List X
 evaluated_among child OnlyOneApplicable xs =
     if list_any (λ x. is_indeterminate (child x).target) xs then []
     else only (filter (λ x. is_match (child x).target) xs)
 evaluated_among child algorithm xs = up_to (λ x. ends algorithm (child x).value.decision) xs
 
--- the obligations and the advice of all of them, in their order
+-- the obligations and the advice of all children, in their order
 abbrev pub duties_of_all : List EvaluatedChild → DutyLists
 duties_of_all [] = no_duties
 duties_of_all (child ∷ children) = and_then child.value.duties (duties_of_all children)
 
--- those that come with a decision: of a Permit or a Deny those of the evaluated children that decide the same
+-- the obligations and the advice that come with a decision: with a Permit or a Deny those of the evaluated children
+-- that decide the same
 abbrev pub children_duties : Alg → Decision → List EvaluatedChild → DutyLists
 children_duties algorithm d children =
     if is_some (effect_of d)
@@ -124,7 +125,8 @@ set_value values_of set children =
     with_own (value_of values_of []) set.duties
     (by_target (target_value values_of set.target) (combination set.algorithm children))
 
--- each element of a tree, by its children; a reference that leads to nothing, or back, is this project's {DP} (7.15)
+-- what each element of a tree comes to, by its children; a reference that leads to nothing, or back, is this project's
+-- {DP} (7.15)
 abbrev pub linked_step : Attributes → Linked-F EvaluatedChild → EvaluatedChild
 linked_step values_of Linked-F.Unresolved =
     record { value = undecided ProcessingError; target = Indeterminate ProcessingError }
@@ -147,7 +149,8 @@ pub record Element : Type 0 where
   pub child : EvaluatedChild
   pub ids : List DocumentKey
 
--- one that decides Permit or Deny names itself and then these, and any other names none, whatever stands inside it
+-- what a policy or a policy set names: if it decides Permit or Deny itself and then these, and else nothing, whatever
+-- stands inside it
 abbrev pub named_by : Decision → DocumentKey → List DocumentKey → List DocumentKey
 named_by d key inside = if is_some (effect_of d) then key ∷ inside else []
 
@@ -170,10 +173,11 @@ element_step values_of (Linked-F.PolicySet set elements) =
 abbrev pub element : Attributes → Linked → Element
 element values_of = fold-Linked Element (element_step values_of)
 
--- what is decided, with the policies and policy sets that are named, and without any
+-- what is decided, with the policies and policy sets that are named
 abbrev pub with_ids : List DocumentKey → Verdict → Evaluated
 with_ids ids v = record { decision = v.decision; status = v.status; duties = v.duties; ids = ids }
 
+-- what is decided, without policies and policy sets that are named
 abbrev pub without_ids : Verdict → Evaluated
 without_ids v = with_ids [] v
 
@@ -181,7 +185,7 @@ without_ids v = with_ids [] v
 abbrev pub evaluation : Attributes → Linked → Evaluated
 evaluation values_of linked = with_ids (element values_of linked).ids (verdict values_of linked)
 
--- what is answered of it: the policies and policy sets if they are asked for (5.42)
+-- what is answered of an evaluation: the policies and policy sets if they are asked for (5.42)
 abbrev pub as_asked : Bool → Evaluated → Evaluated
 as_asked true e = e
 as_asked false e = record { decision = e.decision; status = e.status; duties = e.duties; ids = [] }

@@ -10,10 +10,11 @@ use Rattle.xa_policy.specs.declared.version_error.VersionError.{VersionError}
 use Rattle.xa_policy.specs.declared.version_error.VersionError.TheVariants.{BadText, TooLong}
 use Rattle.xa_policy.specs.Version.{parts, is_short}
 
--- `*`, and `+`
+-- the part is `*`
 abbrev pub is_star : List ℕ → Bool
 is_star part = bytes_eq part (codes "*")
 
+-- the part is `+`
 abbrev pub is_plus : List ℕ → Bool
 is_plus part = bytes_eq part (codes "+")
 
@@ -27,7 +28,8 @@ is_pattern (part ∷ next ∷ more) = (is_number part || is_star part) && is_pat
 abbrev pub part_of : List ℕ → PatternPart
 part_of part = if is_star part then AnyNumber else if is_plus part then AnyNumbers else Number (digits_value 10 part)
 
--- with the limits of a version, `*` and `+` counting as numbers; the shape is judged before the limits
+-- a pattern that a text writes, with the limits of a version, `*` and `+` counting as numbers; the shape is judged
+-- before the limits
 abbrev pub read_pattern : List ℕ → Result (List PatternPart) VersionError
 read_pattern text =
     if not (is_pattern (parts text)) then Err BadText
@@ -50,14 +52,14 @@ is_single (Number n) = nat_lt n 1_000_000_000
 is_single AnyNumber = true
 is_single AnyNumbers = false
 
--- such parts, the last of which may be `+`
+-- parts that stand for one number each, the last of which may be `+`
 abbrev pub are_parts : List PatternPart → Bool
 are_parts [] = false
 are_parts (AnyNumbers ∷ []) = true
 are_parts (last ∷ []) = is_single last
 are_parts (part ∷ next ∷ more) = is_single part && are_parts (next ∷ more)
 
--- every pattern has one to eight such parts
+-- every pattern has one to eight parts, of the shape of `are_parts`
 pub record IsPattern (ps : List PatternPart) : Type 0 where
   pub few : length ps ≤ 8
   pub shape : IsTrue (are_parts ps)

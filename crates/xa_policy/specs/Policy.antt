@@ -36,20 +36,22 @@ abbrev pub IsCondition : List Kind → Option Typed → Type 0
 IsCondition variables None = Unit {0}
 IsCondition variables (Some e) = IsTyped variables e × (kind_of_typed e ≡ kind.Value type.Boolean)
 
--- so do the expressions of assignments, and of obligations and advice
+-- the expressions of assignments have their kinds under variables of these kinds
 abbrev pub AreAssignments : List Kind → List (AttributeAssignmentExpression Typed) → Type 0
 AreAssignments variables [] = Unit {0}
 AreAssignments variables (a ∷ rest) = IsTyped variables a.expression × AreAssignments variables rest
 
+-- the expressions of obligations, or of pieces of advice, have their kinds under variables of these kinds
 abbrev pub AreDuties : List Kind → List (DutyExpression Typed) → Type 0
 AreDuties variables [] = Unit {0}
 AreDuties variables (d ∷ ds) = AreAssignments variables d.assignments × AreDuties variables ds
 
+-- the expressions of obligations and advice have their kinds under variables of these kinds
 pub record AreTypedDuties (variables : List Kind) (duties : DutyExpressions Typed) : Type 0 where
   pub obligations : AreDuties variables duties.obligations
   pub advice : AreDuties variables duties.advice
 
--- and those of rules
+-- the expressions of a rule have their kinds under variables of these kinds
 pub record IsTypedRule (variables : List Kind) (rule : Rule Typed) : Type 0 where
   pub condition : IsCondition variables rule.condition
   pub duties : AreTypedDuties variables rule.duties

@@ -23,7 +23,7 @@ use Rattle.xa_policy.specs.Effect.{decision_with, decision_left_open}
 abbrev pub without_duties : Decision → Status → Verdict
 without_duties d s = record { decision = d; status = s; duties = no_duties }
 
--- nothing applies
+-- what is decided if nothing applies
 abbrev pub not_applicable : Verdict
 not_applicable = without_duties decision.NotApplicable status.Ok
 
@@ -46,7 +46,7 @@ by_condition effect (Ok true) = without_duties (decision_with effect) status.Ok
 by_condition effect (Ok false) = not_applicable
 by_condition effect (Err fault) = left_open effect fault
 
--- and by its target
+-- what a rule of this effect decides, by its target and its condition
 abbrev pub outcome : Effect → Matching → Result Bool Fault → Verdict
 outcome effect Match condition = by_condition effect condition
 outcome effect NoMatch condition = not_applicable
@@ -58,7 +58,7 @@ abbrev pub with_found : Effect → Verdict → Result DutyLists Fault → Verdic
 with_found effect e (Ok found) = record { decision = e.decision; status = e.status; duties = and_then e.duties found }
 with_found effect e (Err fault) = left_open effect fault
 
--- what is decided with the own obligations and advice that belong to it
+-- what is decided, with the own obligations and advice that belong to the effect, if there is one
 abbrev pub with_own_of : (Typed → Outcome) → DutyExpressions Typed → Verdict → Option Effect → Verdict
 with_own_of value_of own e None = e
 with_own_of value_of own e (Some effect) = with_found effect e (own_duties value_of effect own)

@@ -18,7 +18,8 @@ parts text = slice_split (λ c. c == 46) text
 abbrev pub is_short : List (List ℕ) → Bool
 is_short ps = nat_le (length ps) 8 && list_all (λ part. nat_le (length part) 9) ps
 
--- numbers with dots between. The shape is judged before the limits, and digits are counted as they are written.
+-- a version: numbers with dots between. The shape is judged before the limits, and digits are counted as they are
+-- written.
 abbrev pub read_version : List ℕ → Result (List ℕ) VersionError
 read_version text =
     if not (list_all is_number (parts text)) then Err BadText

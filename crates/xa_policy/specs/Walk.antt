@@ -47,7 +47,7 @@ joined_decision PermitOverrides so_far d = permit_overrides (so_far ∷ d ∷ []
 joined_decision OrderedPermitOverrides so_far d = permit_overrides (so_far ∷ d ∷ [])
 joined_decision _ so_far d = so_far
 
--- the children so far with one that doesn't end it
+-- the children so far with one that doesn't end the evaluation
 abbrev pub joined : Combination → Verdict → Combination
 joined so_far child = record {
   algorithm = so_far.algorithm;
@@ -68,7 +68,7 @@ walked_decision algorithm so_far (d ∷ ds) =
     if ends algorithm d then ending_decision algorithm d
     else walked_decision algorithm (joined_decision algorithm so_far d) ds
 
--- the children with the one that ends it
+-- the children so far with the one that ends the evaluation
 abbrev pub ended : Combination → Verdict → Combination
 ended so_far child = record {
   algorithm = so_far.algorithm;
@@ -101,15 +101,15 @@ pub record Named : Type 0 where
   pub asked : Bool
   pub ids : List DocumentKey
 
--- with these behind them, if they are asked for
+-- the policies and policy sets that are named so far with these behind them, if they are asked for
 abbrev pub with_named : Named → List DocumentKey → Named
 with_named so_far keys = record { asked = so_far.asked; ids = so_far.ids ++ (if so_far.asked then keys else []) }
 
--- the first `count` of them
+-- the first `count` of the policies and policy sets that are named so far
 abbrev pub first_named : ℕ → Named → Named
 first_named count so_far = record { asked = so_far.asked; ids = take count so_far.ids }
 
--- all of them if Permit or Deny is decided, and else the first `count`
+-- all policies and policy sets that are named so far if Permit or Deny is decided, and else the first `count`
 abbrev pub kept_by : Decision → ℕ → Named → Named
 kept_by d count so_far = if is_some (effect_of d) then so_far else first_named count so_far
 

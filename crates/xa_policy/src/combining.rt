@@ -100,14 +100,14 @@ pub struct Child {
 }
 
 impl Child {
-    /// Whether its target is Match.
+    /// Whether the child's target is Match.
     fn applies(self) -> bool
         ensures { result ≡ applies self }
     {
         matches!(self.target, Matching::Match)
     }
 
-    /// Whether its target is Indeterminate.
+    /// Whether the child's target is Indeterminate.
     fn may_apply(self) -> bool
         ensures { result ≡ may_apply self }
     {

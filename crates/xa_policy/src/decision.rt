@@ -43,7 +43,7 @@ impl Effect {
         }
     }
 
-    /// Whether it is this effect. For the prover: the clause is by `same_effect`, as the definitions are.
+    /// Whether two effects are one. For the prover: the clause is by `same_effect`, as the definitions are.
     pub(crate) fn is(self, effect: Effect) -> bool
         ensures { result ≡ same_effect effect self }
     {
@@ -62,7 +62,7 @@ impl Effect {
 }
 
 impl Decision {
-    /// Whether it is the decision with this effect.
+    /// Whether the decision is that with this effect.
     pub(crate) fn has_effect(self, effect: Effect) -> bool
         ensures { result ≡ is (decision_with effect) self }
     {
@@ -80,14 +80,14 @@ impl Decision {
         }
     }
 
-    /// Whether it is not NotApplicable.
+    /// Whether the decision is not NotApplicable.
     pub(crate) fn is_applicable(self) -> bool
         ensures { result ≡ not (is NotApplicable self) }
     {
         !matches!(self, Decision::NotApplicable)
     }
 
-    /// Whether it is one of the three kinds of Indeterminate.
+    /// Whether the decision is one of the three kinds of Indeterminate.
     pub(crate) fn is_indeterminate(self) -> bool
         ensures { result ≡ is_indeterminate self }
     {

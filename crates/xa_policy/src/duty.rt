@@ -135,7 +135,7 @@ impl Duties {
         STEP.saturating_mul(count)
     }
 
-    /// Puts those of another behind these.
+    /// Puts the obligations and the advice of another behind these.
     pub(crate) fn append(&mut self, other: Duties) -> Result<(), AllocError>
         ensures { OnOk result (self.new ≡ and_then self.old other) }
     {

@@ -31,7 +31,7 @@ impl Model for Identifiers {
 }
 
 impl Identifiers {
-    /// None yet. Nothing is allocated.
+    /// No identifiers yet. Nothing is allocated.
     pub(crate) fn new(alloc: Global, names_policies: bool) -> Identifiers
         ensures { result ≡ record { asked = names_policies; ids = [] } }
     {
@@ -82,7 +82,7 @@ impl Identifiers {
         }
     }
 
-    /// Those that were found.
+    /// The identifiers that were found.
     pub(crate) fn into_items(self) -> Items<Shared<DocumentKey>>
         ensures { result ≡ self.ids }
     {

@@ -16,7 +16,7 @@ pub enum DocumentKind {
 }
 
 impl DocumentKind {
-    /// Its place in the order of kinds: policies stand before policy sets.
+    /// The kind's place in the order of kinds: policies stand before policy sets.
     pub fn place(self) -> u8
         ensures { result ≡ place_of_kind self }
     {
@@ -26,7 +26,7 @@ impl DocumentKind {
         }
     }
 
-    /// Its name, in listings and in paths: `policy` or `policyset`.
+    /// The kind's name, in listings and in paths: `policy` or `policyset`.
     #[tactic(auto, unfolding(crate::specs::DocumentKey::name_of_kind))]
     pub fn name(self) -> &'static str
         ensures { result.now ≡ name_of_kind self }
