@@ -30,7 +30,7 @@ plain_of (string s) = Some (plain.Text s)
 plain_of (array ds) = None
 plain_of (object ms) = None
 
--- the data type of its JSON type, which it has if none is named
+-- the data type of a value's JSON type, which the value has if none is named
 unfoldable pub kind : Data → Result DataType RequestError
 kind d = ok_or (option_map type_of_plain (plain_of d)) NotProfile
 
@@ -46,11 +46,12 @@ type_of_values (Some named) kinds = named
 type_of_values None [] = type.String
 type_of_values None (first ∷ others) = first
 
--- a value of the type
+-- a value that was read, or the fault NotProfile
 abbrev pub or_not_of_type : Result Value ReadError → Result Value RequestError
 or_not_of_type (Ok v) = Ok v
 or_not_of_type (Err e) = Err NotProfile
 
+-- a value of the type
 unfoldable pub value : DataType → Data → Result Value RequestError
 value t d = ok_or (plain_of d) NotProfile >>= λ p. or_not_of_type (from_plain t p)
 

@@ -35,10 +35,11 @@ places_named objects ids = filter_map (place_named objects) ids
 abbrev pub has_unknown : List CategoryObject → List (List ℕ) → Bool
 has_unknown objects ids = list_any (λ id. is_none (place_named objects id)) ids
 
--- the categories of the objects at places
+-- the category of the object at a place
 abbrev pub category_at : List CategoryObject → ℕ → Option (List ℕ)
 category_at objects place = option_map (λ object. object.category) (slice_get objects place)
 
+-- the categories of the objects at places
 abbrev pub categories_at : List CategoryObject → List ℕ → List (List ℕ)
 categories_at objects places = filter_map (category_at objects) places
 
@@ -88,7 +89,7 @@ all_individuals objects [] =
     map (λ combination. Places (in_request_order objects combination)) (all_combinations objects)
 all_individuals objects (first ∷ others) = map (individual_named objects) (first ∷ others)
 
--- as many as a request may have
+-- the items, if there are no more than a request may have
 abbrev pub at_most_64 : {X : Type 0} → List X → Result (List X) TooMany
 at_most_64 xs = if nat_lt 64 (length xs) then Err (record {}) else Ok xs
 

@@ -13,7 +13,7 @@ use Rattle.xa_profile.specs.declared.request_error.RequestError.{RequestError}
 use Rattle.xa_profile.specs.declared.request_error.RequestError.TheVariants.{NotJson, NotProfile}
 use Rattle.xa_profile.specs.Member.{name_of}
 
--- nothing, if it holds; else the fault NotProfile
+-- nothing if the condition holds, and else the fault NotProfile
 abbrev pub holds_or_not_profile : Bool → Result (Unit {0}) RequestError
 holds_or_not_profile b = if b then Ok tt else Err NotProfile
 
@@ -21,7 +21,7 @@ holds_or_not_profile b = if b then Ok tt else Err NotProfile
 unfoldable pub json : List ℕ → Result Data RequestError
 json text = if is_utf8 text then ok_or (read text) NotJson else Err NotJson
 
--- the member of that name, if it is an object and has it
+-- the member of that name, if the value is an object and has it
 abbrev pub at : Member → Data → Option Data
 at name d = get (name_of name) d
 
@@ -62,7 +62,7 @@ abbrev pub items_if_any : Option Data → Items
 items_if_any None = no_items
 items_if_any (Some d) = items_or_itself d
 
--- each of them, read in order
+-- each of the items, read in order
 abbrev pub each : {X : Type 0} → (Data → Result X RequestError) → Items → Result (List X) RequestError
 each reads no_items = Ok []
 each reads (item d ds) = do

@@ -65,13 +65,13 @@ reference d = do
   ids ← ok_or (at member.ReferenceId d) NotProfile
   each text (items_or_itself ids)
 
--- all of them
+-- all requests of MultiRequests, each as the ids of its objects
 unfoldable pub references_in : Data → Result (List (List (List ℕ))) RequestError
 references_in d = do
   references ← ok_or (at member.RequestReference d) NotProfile
   each reference (items_or_itself references)
 
--- none, if MultiRequests is left out
+-- all requests of MultiRequests; none if that is left out
 abbrev pub all_references : Option Data → Result (List (List (List ℕ))) RequestError
 all_references None = Ok []
 all_references (Some d) = references_in d

@@ -94,24 +94,25 @@ included_attributes attributes = filter (λ a. a.include_in_result) attributes
 abbrev pub has_included : CategoryObject → Bool
 has_included o = list_any (λ a. a.include_in_result) o.attributes
 
--- a Category object, with these attributes alone
+-- a Category object, with those attributes alone that are to stand in the result
 unfoldable pub category_data : CategoryObject → Data
 category_data o =
     object
     (with member.Attribute (listing (map attribute_data (included_attributes o.attributes)))
     (with member.CategoryId (string o.category) no_members))
 
--- the objects at places, those that have such an attribute
+-- the object, if it has an attribute that is to stand in the result
 abbrev pub if_included : Option CategoryObject → Option CategoryObject
 if_included None = None
 if_included (Some o) = if has_included o then Some o else None
 
+-- the objects at places that have an attribute that is to stand in the result
 abbrev pub included_objects : List CategoryObject → List ℕ → List CategoryObject
 included_objects objects places = filter_map (λ place. if_included (slice_get objects place)) places
 
 -- ---- obligations and advice
 
--- an attribute that one carries
+-- an attribute that an obligation or a piece of advice carries
 unfoldable pub assignment_data : AttributeAssignment → Data
 assignment_data a =
     object
@@ -129,12 +130,12 @@ duty_data d =
 
 -- ---- policies and policy sets that are named
 
--- one of them, by its id and its version
+-- a policy or a policy set that is named, by its id and its version
 unfoldable pub identifier_data : DocumentKey → Data
 identifier_data k =
     object (with member.Id (string k.id) (with member.Version (string (version_text k.version)) no_members))
 
--- those of a kind
+-- the policies, or the policy sets, that are named
 abbrev pub of_kind : DocumentKind → List DocumentKey → List Data
 of_kind kind keys = map identifier_data (filter (λ k. same_kind kind k.kind) keys)
 
@@ -145,7 +146,7 @@ identifiers_data keys =
     (with_items_if_any member.PolicyIdReference (of_kind Policy keys)
     (with_items_if_any member.PolicySetIdReference (of_kind PolicySet keys) no_members))
 
--- both, left out if nothing is named
+-- the policies and policy sets that are named, left out if there are none
 abbrev pub with_identifiers_if_any : List DocumentKey → Members → Members
 with_identifiers_if_any [] others = others
 with_identifiers_if_any (k ∷ ks) others = with member.PolicyIdentifierList (identifiers_data (k ∷ ks)) others

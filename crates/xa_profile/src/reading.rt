@@ -20,7 +20,7 @@ use xa_value::{Category, Items, OrMemory, Text};
 
 /// A reader of one value.
 pub(crate) trait Reader {
-    /// What it reads.
+    /// What a value is read as.
     type Output;
 
     /// What a value stands for, or its first fault.

@@ -17,7 +17,7 @@ pub trait ToJson {
     /// The JSON that it is.
     ghost written: { Self → Data };
 
-    /// Writes it as the next value. Without memory the writer may hold a part of it.
+    /// Writes the JSON as the next value. Without memory the writer may hold a part of it.
     fn write(&self, alloc: Global, out: &mut Writer) -> Result<(), AllocError>
         ensures { Appends result out.old out.new (tokens (written self.now)) };
 }

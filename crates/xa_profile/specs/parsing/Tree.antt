@@ -8,7 +8,7 @@ use Rattle.serde_json.specs.Data.{Num, Data, null, boolean, number, string, arra
 use Rattle.serde_json.specs.Data.{object, Items, no_items, item, Members, no_members, put}
 use Rattle.serde_json.specs.Read.{number_of}
 
--- none of the numbers is too large
+-- no number of the tree is too large
 abbrev mutual
   pub is_readable : json.Json → Bool
   is_readable json.null = true
@@ -49,9 +49,10 @@ abbrev mutual
   data_of_members json.no_members found = found
   data_of_members (json.member k j ms) found = data_of_members ms (put k (data_of j) found)
 
--- what a tree of the code stands for, and several of them
+-- what a tree of the code stands for
 abbrev pub view : {A : Type 0} → Value A → Data
 view v = data_of (value_view v)
 
+-- what several trees of the code stand for
 abbrev pub items_view : {A : Type 0} → List (Value A) → Items
 items_view vs = data_of_items (tree.items_view vs)

@@ -16,29 +16,29 @@ use Rattle.xa_profile.specs.Response.{identifiers_data, listing}
 abbrev pub tokens : Data → List Token
 tokens d = json_tokens (outline d)
 
--- those of an array behind its opening bracket
+-- the tokens of an array behind its opening bracket
 abbrev pub items_behind : List Data → List Token
 items_behind ds = items_tokens (items_outline (items_of ds))
 
--- those of a member
+-- the tokens of a member
 abbrev pub member_tokens : Member → Data → List Token
 member_tokens name d = key (name_of name) ∷ tokens d
 
--- those of a text that may be left out
+-- the tokens of a text that may be left out
 abbrev pub text_if_any_tokens : Member → Option (List ℕ) → List Token
 text_if_any_tokens name None = []
 text_if_any_tokens name (Some text) = key (name_of name) ∷ string text ∷ []
 
--- those of an array that is left out if it is empty
+-- the tokens of an array that is left out if it is empty
 abbrev pub items_if_any_tokens : Member → List Data → List Token
 items_if_any_tokens name [] = []
 items_if_any_tokens name (d ∷ ds) = member_tokens name (listing (d ∷ ds))
 
--- those of the policies and policy sets that are named
+-- the tokens of the policies and policy sets that are named
 abbrev pub identifiers_if_any_tokens : List DocumentKey → List Token
 identifiers_if_any_tokens [] = []
 identifiers_if_any_tokens (k ∷ ks) = member_tokens member.PolicyIdentifierList (identifiers_data (k ∷ ks))
 
--- if it was written, these tokens stand behind those that there were
+-- these tokens were written behind those that there were, unless writing failed
 abbrev pub Appends : {E : Type 0} → Result (Unit {0}) E → Written → Written → List Token → Type 0
 Appends r old new ts = OnOk r ((new.before ≡ old.before) × (new.tokens ≡ old.tokens ++ ts))
