@@ -25,7 +25,7 @@ abbrev pub created : Change
 created None = Ok (Some new_domain)
 created (Some state) = Err Exists
 
--- it is removed with all that is in it
+-- a domain is removed with all that is in it
 abbrev pub removed : Change
 removed None = Err Absent
 removed (Some state) = Ok None
@@ -61,7 +61,7 @@ abbrev pub with_document : DocumentKey → List ℕ → Bool → DomainState →
 with_document key text active state =
     with_documents (insert state.documents key (record { text = text; active = active })) state
 
--- over a document of the same key: the same text again changes nothing
+-- a document is uploaded, over one of the same key if there is one: the same text again changes nothing
 abbrev pub uploaded_over : DocumentKey → List ℕ → DomainState → Option StoredDocument → Result DomainState Refusal
 uploaded_over key text state (Some document) =
     if bytes_eq document.text text then Ok state else Err SameVersionOtherText
@@ -77,7 +77,7 @@ abbrev pub upload_of : DocumentKey → Option DomainState → Upload
 upload_of key None = New
 upload_of key (Some state) = if contains_key state.documents key then Same else New
 
--- the document of that key
+-- the document, which there has to be
 abbrev pub or_absent : Option StoredDocument → Result StoredDocument Refusal
 or_absent None = Err Absent
 or_absent (Some document) = Ok document

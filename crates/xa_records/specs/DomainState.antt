@@ -21,8 +21,8 @@ pub record StoredDocument : Type 0 where
   pub text : List ℕ
   pub active : Bool
 
--- the roles of its tokens by their digests, its documents by their keys, its root, if one is set, and the rows of its
--- attribute source
+-- the state of a domain: the roles of its tokens by their digests, its documents by their keys, its root, if one is
+-- set, and the rows of its attribute source
 pub record DomainState : Type 0 where
   pub tokens : FinMap compare_bytes Role
   pub documents : FinMap compare_keys StoredDocument

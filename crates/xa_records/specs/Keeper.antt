@@ -15,12 +15,12 @@ abbrev pub failure_of_value : OrMemory ReadError → Failure
 failure_of_value or_memory.Memory = Memory
 failure_of_value (or_memory.Error fault) = Store
 
--- it has read what is there, or failed; and nothing has changed
+-- a call has read what is there, or failed; and nothing has changed
 abbrev pub Reads : {X : Type 0} → Kept → Kept → Result X Failure → X → Type 0
 Reads old new (Ok x) there = (x ≡ there) × (new ≡ old)
 Reads old new (Err failure) there = new ≡ old
 
--- it has made the change, or it refuses as the change does, or it failed; and then nothing has changed
+-- a call has made the change; or it refuses as the change does, or failed, and then nothing has changed
 abbrev pub Changes : {X : Type 0} → Kept → Kept → Result X ChangeError → List ℕ → Change → Type 0
 Changes old new (Ok x) name change = IsMade change name old new
 Changes old new (Err (Refused e)) name change = (change (state_of name old) ≡ Err e) × (new ≡ old)
@@ -37,7 +37,7 @@ IfAnswered (Ok x) claim = claim
 IfAnswered (Err (Refused e)) claim = claim
 IfAnswered (Err (Failed failure)) claim = Unit {0}
 
--- one more, or as many as can be counted
+-- a count is raised by one, or stays if no more can be counted
 abbrev pub IsOneMore : ℕ → ℕ → Type 0
 IsOneMore old new = (new ≡ old + 1) ⊎ ((old + 1 ≡ 2 ^ 64) × (new ≡ old))
 

@@ -46,13 +46,13 @@ pub record IsNumbered (kept : Kept) : Type 0 where
 
 -- ---- one domain goes over into a state
 
--- the same documents, active or not, the same root and the same rows of the source: everything but the tokens
+-- two states differ at most in their tokens: documents, active or not, root and rows of the source are the same
 pub record DecidesAlike (a b : DomainState) : Type 0 where
   pub documents : a.documents ≡ b.documents
   pub root : a.root ≡ b.root
   pub source : a.source ≡ b.source
 
--- one more, which is at most 2^63 - 1, the greatest number that a column of a table holds
+-- a number is raised by one, to at most 2^63 - 1, the greatest number that a column of a table holds
 abbrev pub IsRaised : ℕ → ℕ → Type 0
 IsRaised old new = (new ≡ old + 1) × (new < 2 ^ 63)
 
@@ -75,7 +75,7 @@ IsNextNumber next None (Some state) new = IsRaised next new
 IsNextNumber next None None new = new ≡ next
 IsNextNumber next (Some domain) state new = new ≡ next
 
--- that domain, and no other, has gone over into that state
+-- the domain of that name, and no other, has gone over into that state
 pub record IsChanged (old new : Kept) (name : List ℕ) (state : Option DomainState) : Type 0 where
   pub domain : Becomes old.next (get old.domains name) state (get new.domains name)
   pub others : (other : List ℕ) → other ≢ name → get new.domains other ≡ get old.domains other
@@ -88,12 +88,12 @@ IsMade change name old new =
 
 -- ---- no number is left
 
--- one more would be past 2^63 - 1
+-- a number is at its greatest: one more would be past 2^63 - 1
 abbrev pub IsGreatest : ℕ → Type 0
 IsGreatest number = 2 ^ 63 ≤ number + 1
 
--- in order to go over into that state the domain would have to raise what is at its greatest: the next number if it
--- is made, its epoch if it decides otherwise
+-- a domain would have to raise what is at its greatest, in order to go over into that state: the next number if it is
+-- made, its epoch if it decides otherwise
 abbrev pub HasNoneLeft : ℕ → Option Domain → Option DomainState → Type 0
 HasNoneLeft next old None = ⊥
 HasNoneLeft next None (Some state) = IsGreatest next

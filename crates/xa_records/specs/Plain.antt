@@ -17,7 +17,7 @@ use Rattle.xa_records.specs.Changes.{or_absent}
 use Rattle.xa_records.specs.DomainState.{DomainState, StoredDocument}
 use Rattle.xa_records.specs.Kept.{DecidesAlike, Domain, IsGreatest, IsNextEpoch, IsRaised}
 
--- one more, up to the greatest number
+-- a number is raised by one, or is at its greatest
 abbrev pub RaisesTo : ℕ → Result ℕ Failure → Type 0
 RaisesTo number (Ok next) = IsRaised number next
 RaisesTo number (Err Store) = IsGreatest number
@@ -29,7 +29,7 @@ abbrev pub active_at : DocumentKey → Bool → FinMap compare_keys StoredDocume
 active_at key active documents None = documents
 active_at key active documents (Some document) = insert documents key (record { text = document.text; active = active })
 
--- the documents with that one active or not
+-- the documents with the one of that key active or not
 abbrev pub with_activity : DocumentKey → Bool → FinMap compare_keys StoredDocument → FinMap compare_keys StoredDocument
 with_activity key active documents = active_at key active documents (get documents key)
 

@@ -27,7 +27,8 @@ fn all_continue(bytes: &[u8]) -> bool
     bytes.iter().all(|byte| continues_name(*byte))
 }
 
-/// Whether it is a domain name: one to 32 small letters, digits and dashes, of which the first is no dash.
+/// Whether the bytes are a domain name: one to 32 small letters, digits and dashes, of which the first is
+/// no dash.
 #[tactic(auto, unfolding(crate::specs::DomainName::is_domain_name))]
 pub fn is_domain_name(name: &[u8]) -> bool
     ensures { result ≡ is_domain_name name.now }

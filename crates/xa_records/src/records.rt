@@ -36,7 +36,7 @@ pub trait Records {
     fn faults(&self) -> u64
         ensures { result ≡ (custody self.now).faults };
 
-    /// Whether it can go on. A keeper that is shut answers `Store` to each call, now and for ever: its
+    /// Whether the keeper can go on. One that is shut answers `Store` to each call, now and for ever: its
     /// storage has to be opened again. It is found shut only after a call that answered `Store`.
     fn is_open(&self) -> bool
         ensures told { result ≡ (custody self.now).is_open }

@@ -53,14 +53,14 @@ impl Document {
         self.text.as_slice()
     }
 
-    /// Whether it is active.
+    /// Whether the document is active.
     pub(crate) fn is_active(&self) -> bool
         ensures { result ≡ self.now.active }
     {
         self.active
     }
 
-    /// Makes it active or inactive.
+    /// Makes the document active or inactive.
     fn set_active(&mut self, active: bool)
         ensures { self.new ≡ record { text = self.old.text; active = active } }
     {

@@ -81,7 +81,7 @@ impl PlainDomain {
         }
     }
 
-    /// Its number, its epoch and its tokens.
+    /// The domain's number, its epoch and its tokens.
     pub(crate) fn gate(&self, alloc: Global) -> Result<Gate, AllocError>
         ensures { IfOk result (λ gate. gate ≡ gate_of_domain self.now) }
     {
@@ -117,7 +117,7 @@ impl PlainDomain {
         }
     }
 
-    /// Its documents, in the order of their keys.
+    /// The domain's documents, in the order of their keys.
     pub(crate) fn list(&self, alloc: Global) -> Result<Items<Listed>, AllocError>
         ensures { IfOk result (λ list. list ≡ listing_of_state self.now.state) }
     {
