@@ -6,7 +6,7 @@ pub record Allowance : Type 0 where
   pub left : ℕ
   pub is_spent : Bool
 
--- once a text of so many bytes was asked for, whether it was held or is read anew
+-- what is allowed once a text of that many bytes was asked for, whether it was held or is read anew
 abbrev pub asked : ℕ → Allowance → Allowance
 asked bytes old =
     if nat_le bytes old.left then record { left = old.left - bytes; is_spent = old.is_spent }

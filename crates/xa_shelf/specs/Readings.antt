@@ -15,7 +15,7 @@ pub record Shelved : Type 0 where
 abbrev pub IsDocument : {A : Type 0} → String A × Parsed → Type 0
 IsDocument entry = document_of (string_bytes entry.0) ≡ Ok entry.1
 
--- it does so under each text
+-- what stands under each text is that text's document
 abbrev pub AreDocuments : {A : Type 0} → List (String A × Parsed) → Type 0
 AreDocuments = AllByRecursion IsDocument
 
@@ -23,20 +23,20 @@ AreDocuments = AllByRecursion IsDocument
 abbrev pub texts_of : {A : Type 0} → List (String A × Parsed) → List (List ℕ)
 texts_of entries = map (λ entry. string_bytes entry.0) entries
 
--- the text is one of them
+-- the text is one of the texts
 abbrev pub is_among : List ℕ → List (List ℕ) → Bool
 is_among text texts = list_any (bytes_eq text) texts
 
--- the others: all but the first such text
+-- all texts but the first that is this one
 abbrev pub without : List ℕ → List (List ℕ) → List (List ℕ)
 without text [] = []
 without text (other ∷ others) = if bytes_eq text other then others else other ∷ without text others
 
--- once it was asked for, it stands first, if it is one of them
+-- the texts once one was asked for: it stands first, if it is one of them
 abbrev pub asked_for : List ℕ → List (List ℕ) → List (List ℕ)
 asked_for text texts = if is_among text texts then text ∷ without text texts else texts
 
--- one reading more, as far as they can be counted
+-- the number of readings with one more, as far as they can be counted
 abbrev pub one_more : ℕ → ℕ
 one_more readings = min (readings + 1) (2 ^ 64 - 1)
 
