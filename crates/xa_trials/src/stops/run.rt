@@ -35,7 +35,8 @@ fn first_refused<R: Records>(server: &mut Server<R>, messages: &[(Moment, Messag
     0
 }
 
-/// The same of a server over the keeper, and the keeper, which is given back.
+/// The number of the first message that a server over the keeper refuses, from 1, or 0 if none is; and the
+/// keeper, which is given back.
 fn first_refused_over<S: Alter + Drop>(
     alloc: Global,
     records: SqlRecords<S>,
