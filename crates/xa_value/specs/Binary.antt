@@ -5,7 +5,7 @@ use Rattle.base64.specs.GeneralPurpose.{encode_of as encode_by}
 use Rattle.base64.specs.Engines.{standard}
 use Rattle.xa_value.specs.Lexical.{is_blank}
 
--- with capital digits
+-- the text of hexBinary, with capital digits
 unfoldable pub hex_text : List ℕ → List ℕ
 hex_text bytes = encode_upper bytes
 

@@ -5,11 +5,11 @@ use Rattle.std.specs.Prelude.{if◌then◌else◌, List, [], ◌∷◌, map, cod
 
 -- ---- hexBinary
 
--- `0` to `9`, `A` to `F`, or `a` to `f`
+-- a hexadecimal digit: `0` to `9`, `A` to `F`, or `a` to `f`
 abbrev pub is_hex_digit : ℕ → Bool
 is_hex_digit c = (nat_le 48 c && nat_le c 57) || (nat_le 65 c && nat_le c 70) || (nat_le 97 c && nat_le c 102)
 
--- the number of such a digit, 0 to 15
+-- the number of a hexadecimal digit, 0 to 15
 abbrev pub hex_digit : ℕ → ℕ
 hex_digit c = if nat_le c 57 then c - 48 else if nat_le c 70 then c - 55 else c - 87
 

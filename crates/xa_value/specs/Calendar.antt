@@ -25,7 +25,7 @@ unfoldable pub is_day : ℕ → ℕ → ℕ → Bool
 is_day year month day = nat_le 1 year && nat_le year 9999 && nat_le 1 month && nat_le month 12
     && nat_le 1 day && nat_le day (days_in_month (pos year) month)
 
--- four, two and two digits
+-- the text of a day: four, two and two digits
 unfoldable pub day_text : ℕ → ℕ → ℕ → List ℕ
 day_text year month day = last_digits 4 year ++ codes "-" ++ last_digits 2 month ++ codes "-" ++ last_digits 2 day
 

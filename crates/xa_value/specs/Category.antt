@@ -27,7 +27,7 @@ uri_of Resource = codes "urn:oasis:names:tc:xacml:3.0:attribute-category:resourc
 uri_of Action = codes "urn:oasis:names:tc:xacml:3.0:attribute-category:action"
 uri_of Environment = codes "urn:oasis:names:tc:xacml:3.0:attribute-category:environment"
 
--- it is a category of subjects
+-- the category is one of subjects
 abbrev pub is_subject : Category → Bool
 is_subject AccessSubject = true
 is_subject RecipientSubject = true
@@ -38,7 +38,7 @@ is_subject Resource = false
 is_subject Action = false
 is_subject Environment = false
 
--- all of them
+-- all categories
 abbrev pub all_categories : List Category
 all_categories =
     AccessSubject ∷ RecipientSubject ∷ IntermediarySubject ∷ Codebase ∷ RequestingMachine ∷ Resource

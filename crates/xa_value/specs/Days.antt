@@ -13,10 +13,11 @@ unfoldable pub greatest : (ℕ → Bool) → ℕ → ℕ
 greatest test zero = zero
 greatest test (suc n) = if test (suc n) then suc n else greatest test n
 
--- the last year, and the last month of a year, that begins on the day of that number or before it
+-- the last year that begins on the day of that number or before it
 unfoldable pub year_of_day : ℤ → ℕ
 year_of_day n = greatest (λ y. int_le (day_number y 1 1) n) 9999
 
+-- the last month of a year that begins on the day of that number or before it
 unfoldable pub month_of_day : ℕ → ℤ → ℕ
 month_of_day year n = greatest (λ m. int_le (day_number year m 1) n) 12
 

@@ -20,7 +20,7 @@ abbrev pub IsOptionalNumeral : Option (List ℕ) → Type 0
 IsOptionalNumeral None = ⊤
 IsOptionalNumeral (Some digits) = IsNumeral digits
 
--- its number, or 0 if there is none
+-- the number of a numeral, or 0 if there is none
 abbrev pub count : Option (List ℕ) → ℕ
 count None = 0
 count (Some digits) = number digits
@@ -34,12 +34,12 @@ abbrev pub print_fraction : Option (List ℕ) → List ℕ
 print_fraction None = []
 print_fraction (Some digits) = codes "." ++ digits
 
--- that fraction in nanoseconds
+-- a fraction of a second in nanoseconds
 abbrev pub fraction_nanos : Option (List ℕ) → ℕ
 fraction_nanos None = 0
 fraction_nanos (Some digits) = nanoseconds digits
 
--- it has at most nine digits
+-- a fraction has at most nine digits
 abbrev pub is_short : Option (List ℕ) → Bool
 is_short None = true
 is_short (Some digits) = nat_le (length digits) 9

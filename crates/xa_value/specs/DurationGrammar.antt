@@ -22,20 +22,20 @@ abbrev pub print_year_month : YearMonth → List ℕ
 print_year_month d =
     print_minus d.negative ++ codes "P" ++ print_part (codes "Y") d.years ++ print_part (codes "M") d.months
 
--- each part is a numeral or absent, and at least one is there
+-- the years and the months are each a numeral or absent, and at least one of them is there
 pub record IsYearMonth (d : YearMonth) : Type 0 where
   pub years : IsOptionalNumeral d.years
   pub months : IsOptionalNumeral d.months
   pub some : IsTrue (is_some d.years || is_some d.months)
 
--- its months, 12 to a year
+-- the months of a yearMonthDuration, 12 to a year
 abbrev pub months_meant : YearMonth → ℕ
 months_meant d = count d.years * 12 + count d.months
 
 abbrev pub year_month_value : YearMonth → ℤ
 year_month_value d = with_sign d.negative (months_meant d)
 
--- at most 10,000 years either way
+-- a yearMonthDuration of at most 10,000 years either way
 abbrev pub is_year_month_in_range : YearMonth → Bool
 is_year_month_in_range d = nat_le (months_meant d) most_months
 
@@ -68,7 +68,7 @@ print_clock_part (Some c) =
 abbrev pub print_day_time : DayTime → List ℕ
 print_day_time d = print_minus d.negative ++ codes "P" ++ print_part (codes "D") d.days ++ print_clock_part d.clock
 
--- digits before the point, and after it if there is one
+-- the digits of seconds before the point, and after it if there is one
 abbrev pub IsSeconds : Option Seconds → Type 0
 IsSeconds None = ⊤
 IsSeconds (Some s) = IsNumeral s.whole × IsOptionalNumeral s.fraction
@@ -100,7 +100,7 @@ abbrev pub clock_part_nanos : Option ClockPart → ℕ
 clock_part_nanos None = 0
 clock_part_nanos (Some c) = (count c.hours * 60 + count c.minutes) * 60_000_000_000 + seconds_nanos c.seconds
 
--- its nanoseconds, 24 hours to a day
+-- the nanoseconds of a dayTimeDuration, 24 hours to a day
 abbrev pub nanos_meant : DayTime → ℕ
 nanos_meant d = count d.days * 86_400_000_000_000 + clock_part_nanos d.clock
 
@@ -116,6 +116,6 @@ abbrev pub is_clock_short : Option ClockPart → Bool
 is_clock_short None = true
 is_clock_short (Some c) = is_seconds_short c.seconds
 
--- at most nine digits of a fraction, and at most 10,000 years of 365.25 days either way
+-- a dayTimeDuration with at most nine digits of a fraction, and of at most 10,000 years of 365.25 days either way
 abbrev pub is_day_time_in_range : DayTime → Bool
 is_day_time_in_range d = is_clock_short d.clock && nat_le (nanos_meant d) most_nanos

@@ -22,19 +22,19 @@ memory_apart (Ok x) = Ok (Ok x)
 memory_apart (Err Memory) = Err alloc_error
 memory_apart (Err (Error e)) = Ok (Err e)
 
--- of what a call answers: P of its value, N if there was no memory, and Q of its error
+-- what holds of a call's answer: P of its value, N if there was no memory, and Q of its error
 abbrev pub MatchGiven : {X E : Type 0} → Result X (OrMemory E) → (X → Type 0) → Type 0 → (E → Type 0) → Type 0
 MatchGiven (Ok x) P N Q = P x
 MatchGiven (Err Memory) P N Q = N
 MatchGiven (Err (Error e)) P N Q = Q e
 
--- it is an error, and P holds of it
+-- the answer is an error, and P holds of that
 abbrev pub IsErrorAnd : {X E : Type 0} → Result X (OrMemory E) → (E → Type 0) → Type 0
 IsErrorAnd (Ok x) P = ⊥
 IsErrorAnd (Err Memory) P = ⊥
 IsErrorAnd (Err (Error e)) P = P e
 
--- P of its error, in the form for a `requires`
+-- P holds of the answer's error, if it is one, in the form for a `requires`
 abbrev pub ForError : {X E : Type 0} → Result X (OrMemory E) → (E → Type 0) → Type 0
 ForError {X} {E} given P = (e : E) → given ≡ Err (Error e) → P e
 

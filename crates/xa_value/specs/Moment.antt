@@ -6,7 +6,7 @@ use Rattle.xa_value.specs.Calendar.{CivilDate, CivilDateTime}
 use Rattle.xa_value.specs.Days.{day_of_number}
 use Rattle.xa_value.specs.Time.{ClockTime}
 
--- from 0001-01-01T00:00:00Z to 9999-12-31T23:59:59Z
+-- a moment: from 0001-01-01T00:00:00Z to 9999-12-31T23:59:59Z
 abbrev pub IsMoment : ℤ → Type 0
 IsMoment seconds = (negsuc 62_135_596_799 ≤ℤ seconds) × (seconds ≤ℤ pos 253_402_300_799)
 
@@ -14,25 +14,25 @@ IsMoment seconds = (negsuc 62_135_596_799 ≤ℤ seconds) × (seconds ≤ℤ pos
 abbrev pub utc : Option ℤ
 utc = Some (pos 0)
 
--- the number of its day by UTC; that of 1970-01-01 is 0
+-- the number of a moment's day by UTC; that of 1970-01-01 is 0
 abbrev pub day_number_of : ℤ → ℤ
 day_number_of seconds = int_div_euclid seconds (pos 86_400)
 
--- the nanoseconds since the midnight that began that day
+-- the nanoseconds since the midnight that began a moment's day
 abbrev pub nanos_of : ℤ → ℕ
 nanos_of seconds = unsigned_abs (int_rem_euclid seconds (pos 86_400)) * 1_000_000_000
 
--- its date, by UTC
+-- the date of a moment, by UTC
 abbrev pub date_of : ℤ → CivilDate
 date_of seconds =
     let day = day_of_number (day_number_of seconds) in
     record { year = day.year; month = day.month; day = day.day; zone = utc }
 
--- its time of day, by UTC
+-- the time of day of a moment, by UTC
 abbrev pub time_of : ℤ → ClockTime
 time_of seconds = record { nanos = nanos_of seconds; zone = utc }
 
--- its date with its time, by UTC
+-- the date of a moment with its time, by UTC
 abbrev pub date_time_of : ℤ → CivilDateTime
 date_time_of seconds =
     let day = day_of_number (day_number_of seconds) in

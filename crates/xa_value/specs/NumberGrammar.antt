@@ -32,6 +32,6 @@ IsInteger i = IsNumeral i.digits
 abbrev pub integer_value : Integer → ℤ
 integer_value i = with_sign (is_minus i.sign) (number i.digits)
 
--- from -2^63 to 2^63 - 1
+-- an integer from -2^63 to 2^63 - 1
 abbrev pub is_integer_in_range : Integer → Bool
 is_integer_in_range i = nat_le (number i.digits) (if is_minus i.sign then 2 ^ 63 else 2 ^ 63 - 1)

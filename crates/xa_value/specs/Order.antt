@@ -62,18 +62,18 @@ pub record NumberAndBytes : Type 0 where
 abbrev pub number_and_bytes : ℤ → List ℕ → NumberAndBytes
 number_and_bytes z bs = record { number = z; bytes = bs }
 
--- by the number, and then by the bytes
+-- the order of keys: by the number, and then by the bytes
 abbrev pub compare_keys : NumberAndBytes → NumberAndBytes → Ordering
 compare_keys = then_cmp (on (λ k. k.number) int_cmp) (on (λ k. k.bytes) (slice_cmp nat_cmp))
 
--- the same number, and the same bytes
+-- two keys have the same number and the same bytes
 abbrev pub equal_keys : NumberAndBytes → NumberAndBytes → Bool
 equal_keys j k = int_eq j.number k.number && bytes_eq j.bytes k.bytes
 
 abbrev pub key_of : Value → NumberAndBytes
 key_of v = number_and_bytes (number_of v) (bytes_of v)
 
--- the same type, number and bytes
+-- two values have the same type, number and bytes
 unfoldable pub same : Value → Value → Bool
 same a b = (same_type (type_of a) (type_of b)) && equal_keys (key_of a) (key_of b)
 
@@ -91,6 +91,6 @@ pub record IsOrder : Type 0 where
   pub reversed : (a b : Value) → order a b ≡ option_map ordering_reverse (order b a)
   pub transitive : (a b c : Value) → order a b ≡ Some Less → order b c ≡ Some Less → order a c ≡ Some Less
 
--- of two values of one type, the keys compare as equal exactly if the values are the same
+-- law: the keys of two values of one type compare as equal exactly if the values are the same
 abbrev pub KeysTellApart : Type 0
 KeysTellApart = (a b : Value) → type_of a ≡ type_of b → same a b ≡ is_eq (compare_keys (key_of a) (key_of b))

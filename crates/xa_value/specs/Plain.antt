@@ -28,7 +28,7 @@ from_boolean _ b = Err NotThisType
 abbrev pub is_integer : ℤ → Bool
 is_integer z = int_le (neg_ℤ (pos 9_223_372_036_854_775_808)) z && int_le z (pos 9_223_372_036_854_775_807)
 
--- and a whole number fits integer alone
+-- a whole number fits integer alone
 abbrev pub from_integer : DataType → ℤ → Result Value ReadError
 from_integer type.Integer z = if is_integer z then Ok (value.Integer z) else Err OutOfRange
 from_integer _ z = Err NotThisType

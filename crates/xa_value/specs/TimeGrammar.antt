@@ -23,13 +23,13 @@ IsZone absent = ⊤
 IsZone utc = ⊤
 IsZone (offset negative hours minutes) = IsDigits 2 hours × IsDigits 2 minutes
 
--- its minutes from UTC, if there is a zone
+-- the minutes of a zone from UTC, if there is one
 abbrev pub zone_value : Zone → Option ℤ
 zone_value absent = None
 zone_value utc = Some (pos 0)
 zone_value (offset negative hours minutes) = Some (with_sign negative (number hours * 60 + number minutes))
 
--- minutes to 59, and at most 14 hours in all
+-- a zone of minutes to 59, and of at most 14 hours in all
 abbrev pub is_zone_in_range : Zone → Bool
 is_zone_in_range absent = true
 is_zone_in_range utc = true
@@ -52,12 +52,12 @@ pub record IsClock (c : Clock) : Type 0 where
   pub seconds : IsDigits 2 c.seconds
   pub fraction : IsOptionalNumeral c.fraction
 
--- its nanoseconds since midnight
+-- the nanoseconds of a clock since midnight
 abbrev pub clock_nanos : Clock → ℕ
 clock_nanos c =
     ((number c.hours * 60 + number c.minutes) * 60 + number c.seconds) * 1_000_000_000 + fraction_nanos c.fraction
 
--- hours to 23, minutes and seconds to 59, and at most nine digits of a fraction
+-- a clock of hours to 23, minutes and seconds to 59, and at most nine digits of a fraction
 abbrev pub is_clock_in_range : Clock → Bool
 is_clock_in_range c =
     nat_le (number c.hours) 23 && nat_le (number c.minutes) 59 && nat_le (number c.seconds) 59 && is_short c.fraction

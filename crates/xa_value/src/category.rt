@@ -92,7 +92,7 @@ impl Category {
         }
     }
 
-    /// Whether it is a category of subjects.
+    /// Whether the category is one of subjects.
     pub fn is_subject(self) -> bool
         ensures { result ≡ is_subject self }
     {

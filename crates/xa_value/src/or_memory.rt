@@ -52,7 +52,7 @@ pub fn memory_apart<T, E>(given: Result<T, OrMemory<E>>) -> Result<Result<T, E>,
     }
 }
 
-/// The same answer, with its error changed into another. Want of memory stays.
+/// The answer, with its error changed into another. Want of memory stays.
 pub fn map_error<T, E, D, F: FnOnce(E) -> D>(
     given: Result<T, OrMemory<E>>,
     change: F,

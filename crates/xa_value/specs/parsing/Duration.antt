@@ -14,7 +14,7 @@ unfoldable pub part_length : ℕ → List ℕ → ℕ
 part_length unit text =
     if nat_lt 0 (digit_count text) && begins_with unit (drop (digit_count text) text) then digit_count text else 0
 
--- the number of that part, or 0 if it is absent
+-- the number of the part with that unit, or 0 if it is absent
 abbrev pub part : ℕ → List ℕ → ℕ
 part unit text = number (take (part_length unit text) text)
 
@@ -22,7 +22,7 @@ part unit text = number (take (part_length unit text) text)
 abbrev pub after : ℕ → List ℕ → List ℕ
 after count text = if count == 0 then text else drop (count + 1) text
 
--- what follows that part
+-- what follows the part with that unit, if it is there
 abbrev pub after_part : ℕ → List ℕ → List ℕ
 after_part unit text = after (part_length unit text) text
 
@@ -37,7 +37,7 @@ seconds_length text =
 abbrev pub seconds_part : List ℕ → List ℕ
 seconds_part text = take (seconds_length text) text
 
--- their fraction, with its point
+-- the fraction of seconds, with its point
 abbrev pub seconds_fraction : List ℕ → List ℕ
 seconds_fraction seconds = drop (digit_count seconds) seconds
 
@@ -91,7 +91,7 @@ nanos_of days clock =
     total_nanos days (part 72 clock) (part 77 (after_part 72 clock)) (number (take (digit_count seconds) seconds))
     (nanoseconds (fraction_digits (seconds_fraction seconds)))
 
--- at most nine digits of a fraction
+-- a clock part has at most nine digits of a fraction
 unfoldable pub has_short_fraction : List ℕ → Bool
 has_short_fraction clock = nat_le (fraction_length (seconds_fraction (seconds_of clock))) 10
 

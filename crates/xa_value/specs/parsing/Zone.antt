@@ -10,7 +10,7 @@ use Rattle.xa_value.specs.parsing.Lexical.{has_shape, two_digits, begins_with}
 abbrev pub is_offset_text : List ℕ → Bool
 is_offset_text text = (length text == 6) && (has_shape (codes "+99:99") text || has_shape (codes "-99:99") text)
 
--- the offset of a text of that shape: minutes below 60, and at most 14 hours in all
+-- the offset of a plus or minus, and hours and minutes: minutes below 60, and at most 14 hours in all
 unfoldable pub read_offset : List ℕ → Result (Option ℤ) ReadError
 read_offset text =
     let minutes = two_digits text 1 * 60 + two_digits text 4 in
