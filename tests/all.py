@@ -190,7 +190,7 @@ def all_steps(pdpd, xa_trials):
     for, and then those that take long."""
     yield [("pdpd", pdpd.find)]
     yield [("xa_trials", xa_trials.find)]
-    static = [(name, outcome_of, [f"tests/{name}.py"]) for name in ("edits", "columns", "pages")]
+    static = [(name, outcome_of, [f"tests/{name}.py"]) for name in ("edits", "columns", "comments", "pages")]
     yield [*static, ("worked examples, by the model", model_alone)]
     yield [("tests/rows/write.py", outcome_of, ["tests/rows/write.py", "--stored"])]
     yield [("tests/program.py", outside, pdpd, "program")]
