@@ -107,7 +107,7 @@ works_by state view body moment key result old new is works = subst (λ worked. 
 
 -- an absent domain has no reply, and nothing is evaluated for it
 pub absent_reply : (state : Option DomainState) (body : List ℕ) (moment : ℤ) (code : ErrorCode) → view_told state ≡ Err code → reply_told body moment state ≡ Err code
-absent_reply None body moment code is = let e : error.Refused Absent ≡ code = cc in ap Err e
+absent_reply None body moment code is = let e : error.Keeper Absent ≡ code = cc in ap Err e
 absent_reply (Some state) body moment code is = absurd cc
 
 pub absent_worked : (state : Option DomainState) (body : List ℕ) (moment : ℤ) (code : ErrorCode) → view_told state ≡ Err code → evaluated_in state body moment ≡ None

@@ -16,7 +16,7 @@ use Rattle.xa_records.specs.declared.refusal.Refusal.{Refusal}
 use Rattle.xa_records.specs.declared.refusal.Refusal.TheVariants as refusal
 use Rattle.xa_server.specs.declared.error_code.ErrorCode.{ErrorCode}
 use Rattle.xa_server.specs.declared.error_code.ErrorCode.TheVariants.{NoRoute, BadMethod, BadMediaType, Unauthorized}
-use Rattle.xa_server.specs.declared.error_code.ErrorCode.TheVariants.{Forbidden, BadDomain, Body, Refused, Session}
+use Rattle.xa_server.specs.declared.error_code.ErrorCode.TheVariants.{Forbidden, BadDomain, Body, Keeper, Session}
 
 -- the name of a code, and its status
 pub record Row : Type 0 where
@@ -59,7 +59,7 @@ row_of Unauthorized = row (codes "Unauthorized") 401
 row_of Forbidden = row (codes "Forbidden") 403
 row_of BadDomain = row (codes "BadDomain") 400
 row_of (Body fault) = row_of_body fault
-row_of (Refused refusal) = row_of_refusal refusal
+row_of (Keeper refusal) = row_of_refusal refusal
 row_of (Session fault) = row_of_session fault
 
 -- a 401 names the scheme (RFC 9110, section 11.6.1), and a 405 the methods that the path has (section 10.2.1)

@@ -37,7 +37,7 @@ use Rattle.xa_records.specs.Listing.{listing_body, names_body}
 use Rattle.xa_records.specs.Readings.{listing_of_state, text_in}
 use Rattle.xa_server.specs.declared.error_code.ErrorCode.{ErrorCode}
 use Rattle.xa_server.specs.declared.error_code.ErrorCode.TheVariants.{NoRoute, Unauthorized, Forbidden, BadDomain, Body}
-use Rattle.xa_server.specs.declared.error_code.ErrorCode.TheVariants.{Refused}
+use Rattle.xa_server.specs.declared.error_code.ErrorCode.TheVariants.{Keeper}
 use Rattle.xa_server.specs.Authorization.{token_in}
 use Rattle.xa_server.specs.DocumentKey.{key_of_parts}
 use Rattle.xa_server.specs.ErrorCode.{code_of_route_fault, error_reply}
@@ -94,18 +94,18 @@ or_body_fault (Ok x) = Ok x
 or_body_fault (Err fault) = Err (Body fault)
 
 -- what a change makes, or why it is refused
-abbrev pub or_refused : {X : Type 0} → Result X Refusal → Result X ErrorCode
-or_refused (Ok x) = Ok x
-or_refused (Err refusal) = Err (Refused refusal)
+abbrev pub or_refusal : {X : Type 0} → Result X Refusal → Result X ErrorCode
+or_refusal (Ok x) = Ok x
+or_refusal (Err refusal) = Err (Keeper refusal)
 
 -- a change is made, and that is the reply
 abbrev pub changed : List ℕ → Change → Option DomainState → Answer
-changed reply change state = or_refused (change state) >>= (λ after. Ok (reply, after))
+changed reply change state = or_refusal (change state) >>= (λ after. Ok (reply, after))
 
 -- the reply is read off the domain, which stays as it is
 abbrev pub told : (DomainState → Result (List ℕ) ErrorCode) → Option DomainState → Answer
 told reply state = do
-  domain ← ok_or state (Refused Absent)
+  domain ← ok_or state (Keeper Absent)
   bytes ← reply domain
   Ok (bytes, state)
 
@@ -153,7 +153,7 @@ by_domain_command domain.ShowSource body state = told (λ kept. Ok (json_reply (
 
 -- its text
 abbrev pub text_reply : DocumentKey → DomainState → Result (List ℕ) ErrorCode
-text_reply key kept = ok_or (text_in key kept) (Refused Absent) >>= (λ text. Ok (json_reply text))
+text_reply key kept = ok_or (text_in key kept) (Keeper Absent) >>= (λ text. Ok (json_reply text))
 
 abbrev pub by_document_command : DocumentCommand → DocumentKey → Option DomainState → Answer
 by_document_command document.Show key state = told (text_reply key) state
@@ -177,7 +177,7 @@ by_route operator state message moment (to.Domain name command) = do
   by_domain_command command message.body state
 by_route operator state message moment (to.Document name parts command) = do
   _ ← admitted false state message
-  key ← ok_or (key_of_parts parts) (Refused Absent)
+  key ← ok_or (key_of_parts parts) (Keeper Absent)
   by_document_command command key state
 
 -- the answer to a message whose path names the domain

@@ -18,7 +18,7 @@ ghost use Rattle.xa_decide.specs.Asked.{asks_policies};
 ghost use Rattle.xa_records.specs.declared.refusal.Refusal.TheVariants.{Absent};
 ghost use Rattle.xa_records.specs.Kept.{state_of};
 ghost use Rattle.xa_records.specs.Readings.{kept_view_of};
-ghost use Rattle.xa_server.specs.declared.error_code.ErrorCode.TheVariants.{Refused};
+ghost use Rattle.xa_server.specs.declared.error_code.ErrorCode.TheVariants.{Keeper};
 ghost use Rattle.xa_server.specs.handling.Asking.{FreshReply, HasItsKey, IfLetIn, IsAsked, IsFresh};
 ghost use Rattle.xa_server.specs.handling.Asking.{IsResponseReply, MakesReady, evaluated_asked, key_asked};
 ghost use Rattle.xa_server.specs.handling.Asking.{key_within, reply_asked, response_asked};
@@ -79,7 +79,7 @@ fn kept_view<R: Records>(
     name: &Text,
 ) -> Result<KeptView, Unsuccessful>
     ensures tells { Tells (R.custody records.old) (R.custody records.new) result
-        (ok_or (kept_view_of name.now (R.custody records.old).kept) (Refused Absent)) }
+        (ok_or (kept_view_of name.now (R.custody records.old).kept) (Keeper Absent)) }
     ensures keyed { (R.custody records.new).sound → IfOk result (λ kept. AreKeyed kept.texts) }
     ensures keeper { OnlyReads (R.custody records.old) (R.custody records.new) result }
 {

@@ -14,7 +14,7 @@ use xa_records::Refusal;
 use xa_value::Items;
 
 /// 404: what is asked for isn't there.
-pub(crate) const ABSENT: ErrorCode = ErrorCode::Refused(Refusal::Absent);
+pub(crate) const ABSENT: ErrorCode = ErrorCode::Keeper(Refusal::Absent);
 
 /// Why a message is turned away: the code that the body of the reply names (statuses: RFC 9110, section 15;
 /// 431: RFC 6585, section 5).
@@ -41,9 +41,9 @@ pub enum ErrorCode {
     /// 400: the body isn't what it has to be.
     #[error(transparent)]
     Body(NotationError),
-    /// 404 or 409: what is asked for isn't there, or can't be done as things are.
+    /// 404 or 409, by the keeper: what is asked for isn't there, or can't be done as things are.
     #[error(transparent)]
-    Refused(Refusal),
+    Keeper(Refusal),
     /// 400, 413, 431 or 501: the stream doesn't go on with a message that is taken.
     #[error(transparent)]
     Session(SessionFault),
@@ -62,8 +62,8 @@ impl ErrorCode {
             ErrorCode::Forbidden => StatusCode::FORBIDDEN,
             ErrorCode::BadDomain => StatusCode::BAD_REQUEST,
             ErrorCode::Body(_) => StatusCode::BAD_REQUEST,
-            ErrorCode::Refused(Refusal::Absent) => StatusCode::NOT_FOUND,
-            ErrorCode::Refused(_) => StatusCode::CONFLICT,
+            ErrorCode::Keeper(Refusal::Absent) => StatusCode::NOT_FOUND,
+            ErrorCode::Keeper(_) => StatusCode::CONFLICT,
             ErrorCode::Session(fault) => fault.status(),
         }
     }
@@ -93,7 +93,7 @@ impl ErrorCode {
             ErrorCode::Forbidden => b"{\"Error\":\"Forbidden\"}",
             ErrorCode::BadDomain => b"{\"Error\":\"BadDomain\"}",
             ErrorCode::Body(fault) => body_of_notation(fault),
-            ErrorCode::Refused(refusal) => body_of_refusal(refusal),
+            ErrorCode::Keeper(refusal) => body_of_refusal(refusal),
             ErrorCode::Session(fault) => body_of_session(fault),
         }
     }
@@ -143,10 +143,10 @@ fn body_of_notation(fault: NotationError) -> &'static [u8]
     }
 }
 
-/// The body of the reply to a refused change or reading.
+/// The body of the reply to a refusal of the keeper.
 #[tactic(auto, unfolding(crate::specs::ErrorCode::error_body))]
 fn body_of_refusal(refusal: Refusal) -> &'static [u8]
-    ensures { result.now ≡ error_body (code.Refused refusal) }
+    ensures { result.now ≡ error_body (code.Keeper refusal) }
 {
     match refusal {
         Refusal::Exists => b"{\"Error\":\"Exists\"}",

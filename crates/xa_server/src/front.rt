@@ -70,7 +70,7 @@ impl<R: Records> Front<R> {
     }
 
     /// Opens the connection of the least number of which none is open. It holds nothing, and takes no memory.
-    /// Refused with `TooManyConnections`, if all 64 are open.
+    /// Fails with `TooManyConnections`, if all 64 are open.
     pub fn open(&mut self) -> Result<Conn, FrontError>
         ensures opened { IsOpened self.old.lines result self.new.lines }
         ensures server { self.new.server ≡ self.old.server }
@@ -91,7 +91,7 @@ impl<R: Records> Front<R> {
     /// Answers the first whole message of the connection's bytes, or the fault by which its stream ends;
     /// nothing if there is neither. No other connection's bytes change. Without memory before the
     /// message is cut off, or for the reply to the fault, nothing has changed. The reply to a fault is
-    /// the same at every moment. Refused with `NoSuchConnection`, if it isn't open; else with `Memory`
+    /// the same at every moment. Fails with `NoSuchConnection`, if it isn't open; else with `Memory`
     /// alone.
     pub fn answer(&mut self, conn: Conn, moment: Moment) -> Result<Option<Answer>, FrontError>
         ensures answered { (R.custody self.new.server.records).sound
@@ -118,7 +118,7 @@ impl<R: Records> Front<R> {
         }
     }
 
-    /// Closes the connection. The bytes that it holds are gone. Refused with `NoSuchConnection`, if it
+    /// Closes the connection. The bytes that it holds are gone. Fails with `NoSuchConnection`, if it
     /// isn't open.
     pub fn close(&mut self, conn: Conn) -> Result<(), FrontError>
         ensures closed { IsClosed conn self.old.lines result self.new.lines }
@@ -164,7 +164,7 @@ impl<R: Records> Front<R> {
         self.server.is_open()
     }
 
-    /// What stands at the front of the connection's stream. Nothing is changed. Refused with
+    /// What stands at the front of the connection's stream. Nothing is changed. Fails with
     /// `NoSuchConnection`, if it isn't open; else with `Memory` alone.
     pub(crate) fn look(&mut self, conn: Conn) -> Result<Look, FrontError>
         ensures look { IsLooked conn self.old.lines result }

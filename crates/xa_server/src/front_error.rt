@@ -1,11 +1,11 @@
-//! Why a call on a connection is refused.
+//! Why a call on a connection fails.
 ghost use Rattle.std.specs.Prelude.{◌≡◌};
 ghost use Rattle.xa_server.specs.declared.front_error.FrontError.TheVariants.{Memory};
 
 use std::alloc::AllocError;
 use thiserror::Error;
 
-/// Why a call on a connection is refused. Nothing has changed.
+/// Why a call on a connection fails. Nothing has changed.
 #[derive(Clone, Copy, Debug, PartialEq, Eq, Error)]
 pub enum FrontError {
     /// There was no memory for it.

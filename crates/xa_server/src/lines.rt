@@ -15,7 +15,7 @@ const CONNECTIONS: usize = 64;
 
 /// How many bytes a connection holds at most: more than the longest message, of 16,384 bytes of a head and
 /// 524,288 of a body, and a piece of 65,536. So one that waits for the rest of a message has room for each
-/// piece that is read, and `drive` takes a refused piece for want of memory.
+/// piece that is read, and for `drive` a piece that fails is want of memory.
 const MAX_CONNECTION_BYTES: usize = 1_048_576;
 
 /// A connection of a front, by its number. Once it is closed, no call takes it, until its number is
@@ -57,7 +57,7 @@ impl Lines {
     }
 
     /// Opens the connection of the least number that is free. It holds nothing, and no memory is taken
-    /// for it. Refused with `TooManyConnections`, if none is free.
+    /// for it. Fails with `TooManyConnections`, if none is free.
     pub(crate) fn open(&mut self, alloc: Global) -> Result<Conn, FrontError>
         ensures { IsOpened self.old result self.new }
     {
@@ -67,7 +67,7 @@ impl Lines {
         Ok(conn)
     }
 
-    /// Puts the piece behind the bytes that the connection holds, whole or not at all. Refused with
+    /// Puts the piece behind the bytes that the connection holds, whole or not at all. Fails with
     /// `NoSuchConnection`, if it isn't open, with `Full` or with `Memory`.
     pub(crate) fn piece(&mut self, conn: Conn, piece: &[u8]) -> Result<(), FrontError>
         ensures { IsHeld conn piece.now self.old result self.new }
@@ -78,7 +78,7 @@ impl Lines {
         }
     }
 
-    /// What stands at the front of the connection's stream. Nothing is changed. Refused with
+    /// What stands at the front of the connection's stream. Nothing is changed. Fails with
     /// `NoSuchConnection`, if it isn't open; else with `Memory` alone.
     pub(crate) fn look(&mut self, conn: Conn) -> Result<Look, FrontError>
         ensures look { IsLooked conn self.old result }
@@ -90,7 +90,7 @@ impl Lines {
         }
     }
 
-    /// Closes the connection, and lets its bytes go. Refused with `NoSuchConnection`, if it isn't open.
+    /// Closes the connection, and lets its bytes go. Fails with `NoSuchConnection`, if it isn't open.
     pub(crate) fn close(&mut self, conn: Conn) -> Result<(), FrontError>
         ensures { IsClosed conn self.old result self.new }
     {

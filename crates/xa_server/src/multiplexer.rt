@@ -38,7 +38,7 @@ pub trait Multiplexer {
     fn held_len(&self, conn: Conn) -> Option<usize>
         ensures { result ≡ held_at conn (state self.now).lines };
 
-    /// What stands at the front of the connection's stream. Nothing is changed. Refused with
+    /// What stands at the front of the connection's stream. Nothing is changed. Fails with
     /// `NoSuchConnection`, if it isn't open; else with `Memory` alone.
     fn look(&mut self, conn: Conn) -> Result<Look, FrontError>
         ensures look { IsLooked conn (state self.old).lines result }

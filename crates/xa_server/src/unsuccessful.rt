@@ -54,7 +54,7 @@ impl From<ChangeError> for Unsuccessful {
     fn from(error: ChangeError) -> Unsuccessful {
         match error {
             ChangeError::Failed(failure) => Unsuccessful::Failed(failure),
-            ChangeError::Refused(refusal) => Unsuccessful::Error(ErrorCode::Refused(refusal)),
+            ChangeError::Refused(refusal) => Unsuccessful::Error(ErrorCode::Keeper(refusal)),
         }
     }
 }

@@ -214,7 +214,7 @@ impl<R: Records + Drop> FrontTrial<R> {
         }
     }
 
-    /// Runs the event of the word and the text behind it. A refusal is answered by its name.
+    /// Runs the event of the word and the text behind it. A failed call is answered by the name of its error.
     pub fn run_event(
         &mut self,
         answer: &mut Answer,
@@ -222,7 +222,7 @@ impl<R: Records + Drop> FrontTrial<R> {
         text: &str,
     ) -> Result<(), NoAnswer> {
         match self.call(answer, word, text) {
-            Err(NoAnswer::Refused(error)) => {
+            Err(NoAnswer::Front(error)) => {
                 answer.push_shown("!", &error);
                 Ok(())
             }

@@ -87,7 +87,7 @@ fn answer_to(rt: &HostRuntime, words: &mut Words, line: &str) -> Answer {
         Err(NoAnswer::Malformed) => answer.push_word("!Malformed"),
         Err(NoAnswer::NotOpened) => answer.push_word("!NotOpened"),
         Err(NoAnswer::Socket) => answer.push_word("!Socket"),
-        Err(NoAnswer::Refused(error)) => answer.push_shown("!", &error),
+        Err(NoAnswer::Front(error)) => answer.push_shown("!", &error),
     }
     answer
 }

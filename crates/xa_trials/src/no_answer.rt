@@ -18,8 +18,8 @@ pub enum NoAnswer {
     Socket,
     /// The answer is there already.
     Answered,
-    /// A call on a connection was refused.
-    Refused(FrontError),
+    /// A call on a connection failed.
+    Front(FrontError),
 }
 
 impl From<AllocError> for NoAnswer {
@@ -47,7 +47,7 @@ impl From<FrontError> for NoAnswer {
     fn from(error: FrontError) -> NoAnswer {
         match error {
             FrontError::Memory => NoAnswer::Memory,
-            refusal => NoAnswer::Refused(refusal),
+            error => NoAnswer::Front(error),
         }
     }
 }

@@ -39,11 +39,11 @@ evaluated_in state body moment = option_and_then (λ s. evaluated_response s bod
 -- the same, or why there is none
 abbrev pub response_told : List ℕ → ℤ → Option DomainState → Result (List ℕ × Bool) ErrorCode
 response_told body moment state =
-    ok_or state (error.Refused Absent) >>= (λ s. ok_or (evaluated_response s body moment) (error.Body NotJson))
+    ok_or state (error.Keeper Absent) >>= (λ s. ok_or (evaluated_response s body moment) (error.Body NotJson))
 
 -- what decides in a domain; nothing in an absent one
 abbrev pub view_told : Option DomainState → Result Viewed ErrorCode
-view_told state = ok_or (option_map view_of state) (error.Refused Absent)
+view_told state = ok_or (option_map view_of state) (error.Keeper Absent)
 
 -- the reply to what was evaluated; or the body is no JSON; or there was no memory
 abbrev pub IsResponseReply : Option (List ℕ × Bool) → Result (List ℕ) Unsuccessful → Type 0

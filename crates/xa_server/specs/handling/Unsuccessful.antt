@@ -6,7 +6,7 @@ use Rattle.xa_notation.specs.declared.notation_error.NotationError.{NotationErro
 use Rattle.xa_records.specs.declared.refusal.ChangeError.{ChangeError}
 use Rattle.xa_records.specs.declared.refusal.ChangeError.TheVariants as change
 use Rattle.xa_records.specs.declared.refusal.Failure.TheVariants.{Memory}
-use Rattle.xa_server.specs.declared.error_code.ErrorCode.TheVariants.{Body, Refused}
+use Rattle.xa_server.specs.declared.error_code.ErrorCode.TheVariants.{Body, Keeper}
 use Rattle.xa_server.specs.declared.unsuccessful.Unsuccessful.{Unsuccessful}
 use Rattle.xa_server.specs.declared.unsuccessful.Unsuccessful.TheVariants.{Error, Failed}
 use Rattle.xa_server.specs.ErrorCode.{code_of_route_fault}
@@ -14,7 +14,7 @@ use Rattle.xa_server.specs.ErrorCode.{code_of_route_fault}
 -- of a change
 abbrev pub unsuccessful_of_change : ChangeError → Unsuccessful
 unsuccessful_of_change (change.Failed failure) = Failed failure
-unsuccessful_of_change (change.Refused refusal) = Error (Refused refusal)
+unsuccessful_of_change (change.Refused refusal) = Error (Keeper refusal)
 
 -- of a body
 abbrev pub unsuccessful_of_body : OrMemory NotationError → Unsuccessful
