@@ -6,9 +6,9 @@ use Rattle.xa_records.specs.Keeper.{Custody}
 use Rattle.xa_server.specs.declared.lines.Conn.{Conn}
 use Rattle.xa_server.specs.declared.front_error.FrontError.{FrontError}
 use Rattle.xa_server.specs.declared.front_error.FrontError.TheVariants.{Memory, NoSuchConnection, TooManyConnections, Full}
-use Rattle.xa_server.specs.Front.{Fronted, server_state}
+use Rattle.xa_server.specs.Front.{FrontModel, server_state}
 use Rattle.xa_server.specs.Lines.{IsClosed, IsOpen, IsOpened, Lines, empty_stream, first_free, line_at, none_open, with_line}
-use Rattle.xa_server.specs.World.{Serving}
+use Rattle.xa_server.specs.World.{ServerModel}
 use Rattle.pdpd.specs.declared.replay.transcript_connection.TranscriptConnection.{TranscriptConnection}
 use Rattle.pdpd.specs.Replay.{all_open}
 use Rattle.pdpd.specs.running.Replaying.{AreOf, HasFree, IsBegun, IsConnectionHeld, IsOneOpen, connections_from}
@@ -44,9 +44,9 @@ pub finished : (conn : Conn) (done : Unit {0}) (old new : Lines) → IsClosed co
 finished conn done old new is = is.2
 
 -- a server that is the same is in the same state
-pub same_state : {R : Type 0} (custody : R → Custody) (old new : Fronted R) → new.server ≡ old.server
+pub same_state : {R : Type 0} (custody : R → Custody) (old new : FrontModel R) → new.server ≡ old.server
     → server_state custody new.server ≡ server_state custody old.server
-same_state {R = R} custody old new same = ap (λ (s : Serving R). server_state custody s) same
+same_state {R = R} custody old new same = ap (λ (s : ServerModel R). server_state custody s) same
 
 -- ---- all of them
 

@@ -7,9 +7,9 @@ use Rattle.xa_http.specs.Stream.{Stream}
 use Rattle.xa_server.specs.declared.replies.Reply.{Reply}
 use Rattle.xa_server.specs.Alone.{Event}
 use Rattle.xa_records.specs.Keeper.{Custody}
-use Rattle.xa_server.specs.Front.{Fronted, FrontState, ServerState, front_state, server_state}
+use Rattle.xa_server.specs.Decisions.{nothing_cached}
+use Rattle.xa_server.specs.Front.{FrontModel, FrontState, ServerState, front_state, server_state}
 use Rattle.xa_server.specs.Served.{IsRun}
-use Rattle.xa_server.specs.Tally.{nothing_cached}
 use Rattle.xa_server.specs.World.{World}
 use Rattle.xa_server.proofs.ConnectionLemmas.{appends_none, appends_trans, consumes_none, consumes_trans, run_trans}
 use Rattle.xa_server.proofs.IsolationLemmas.{isolated}
@@ -290,14 +290,14 @@ unbuffered None bytes none = refl
 unbuffered (Some xs) bytes none = ap (λ (bs : List ℕ). Some (xs ++ bs)) none ∙ ap Some (append-nil xs)
 
 -- from where a replay begins
-pub replayed_from : {R : Type 0} (custody : R → Custody) (front : Fronted R) (records : R) (operator : List ℕ) (new : FrontState)
+pub replayed_from : {R : Type 0} (custody : R → Custody) (front : FrontModel R) (records : R) (operator : List ℕ) (new : FrontState)
     (left given rest before inner now : Option (List ℕ)) (buffer : List ℕ) (exit : Exit) → front.server.operator ≡ operator → front.server.records ≡ records
-    → front.server.tally ≡ nothing_cached → given ≡ left → inner ≡ before → buffer ≡ []
+    → front.server.decisions ≡ nothing_cached → given ≡ left → inner ≡ before → buffer ≡ []
     → IsReplayed (front_state custody front) new given rest (append_known inner buffer) now exit
     → IsReplayed (beginning operator (custody records).kept) new left rest before now exit
 replayed_from custody front records operator new left given rest before inner now buffer exit operates keeps holds gives writes none is =
     let server : server_state custody front.server ≡ (beginning operator (custody records).kept).server
-    = λ i. record { world = record { operator = operates i; kept = (custody (keeps i)).kept }; tally = holds i } in
+    = λ i. record { world = record { operator = operates i; kept = (custody (keeps i)).kept }; decisions = holds i } in
     let written : append_known inner buffer ≡ before = unbuffered inner buffer none ∙ writes in
     subst (λ (s : ServerState). IsTranscriptRead (Replays (record { server = s; lines = all_open }) new before now) left rest exit) server
     (subst (λ (b : Option (List ℕ)). IsTranscriptRead (Replays (record { server = server_state custody front.server; lines = all_open }) new b now) left rest exit) written

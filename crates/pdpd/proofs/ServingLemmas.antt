@@ -13,13 +13,13 @@ use Rattle.xa_server.specs.declared.front_error.FrontError.TheVariants.{Full, No
 use Rattle.xa_server.specs.declared.lines.Conn.{Conn}
 use Rattle.xa_server.specs.declared.replies.Reply.{Reply}
 use Rattle.xa_server.specs.Alone.{Event}
+use Rattle.xa_server.specs.Decisions.{nothing_cached}
 use Rattle.xa_server.specs.Driven.{IsConnection, IsDrivenWithin, KeepsOpen, Known}
-use Rattle.xa_server.specs.Front.{Fronted, FrontState, ServerState, front_state, server_state}
+use Rattle.xa_server.specs.Front.{FrontModel, FrontState, ServerState, front_state, server_state}
 use Rattle.xa_server.specs.Lines.{IsClosed, IsOpened, Lines, empty_stream, first_free, line_at, none_open, with_line}
 use Rattle.xa_server.specs.Served.{IsRun}
-use Rattle.xa_server.specs.Tally.{nothing_cached}
 use Rattle.xa_server.specs.Work.{IsWorkOfRun}
-use Rattle.xa_server.specs.World.{Serving}
+use Rattle.xa_server.specs.World.{ServerModel}
 use Rattle.xa_server.proofs.ConnectionLemmas.{run_trans, work_trans}
 use Rattle.xa_server.proofs.IsolationLemmas.{isolated}
 use Rattle.pdpd.specs.Connections.{AreIsolated, IsConnectionServed}
@@ -117,7 +117,7 @@ driven_one end conn done old opened left new before now none is server drives ke
     }
 
 -- whatever the last step of serving it gave
-pub served_as : {R : Type 0} (custody : R → Custody) (old opened left new : Fronted R) (end : DriveEnd) (conn : Conn) (done : Unit {0}) (before now : Known)
+pub served_as : {R : Type 0} (custody : R → Custody) (old opened left new : FrontModel R) (end : DriveEnd) (conn : Conn) (done : Unit {0}) (before now : Known)
     (result : Result (Unit {0}) Fault) → old.lines ≡ none_open → IsOpened old.lines (Ok conn) opened.lines → opened.server ≡ old.server
     → ((custody left.server.records).sound → IsConnection end (line_at conn opened.lines) conn (front_state custody opened) (front_state custody left) before now)
     → KeepsOpen conn opened.lines left.lines → IsClosed conn left.lines (Ok done) new.lines → new.server ≡ left.server
@@ -125,9 +125,9 @@ pub served_as : {R : Type 0} (custody : R → Custody) (old opened left new : Fr
     → OnOk result ((custody new.server.records).sound → IsConnectionServed (front_state custody old) (front_state custody new) before now)
 served_as {R = R} custody old opened left new end conn done before now (Ok unit) none is server drives keeps closed same goes_on = λ sound.
     driven_one end conn done (front_state custody old) (front_state custody opened) (front_state custody left) (front_state custody new) before now none is
-    (ap (λ (s : Serving R). server_state custody s) server)
-    (drives (subst (λ (s : Serving R). (custody s.records).sound) same sound)) keeps closed
-    (ap (λ (s : Serving R). server_state custody s) same)
+    (ap (λ (s : ServerModel R). server_state custody s) server)
+    (drives (subst (λ (s : ServerModel R). (custody s.records).sound) same sound)) keeps closed
+    (ap (λ (s : ServerModel R). server_state custody s) same)
     goes_on
 served_as custody old opened left new end conn done before now (Err fault) none is server drives keeps closed same goes_on = tt
 
@@ -162,8 +162,8 @@ more_isolated count old mid new known_before known_now before is =
     let server : new.server ≡ is.left.server = ap (λ (f : FrontState). f.server) is.closed in
     let run_here : IsRun mid.server.world here.events here.run new.server.world
     = subst (λ (s : ServerState). IsRun mid.server.world here.events here.run s.world) (sym server) here.is_run in
-    let work_here : IsWorkOfRun mid.server.world mid.server.tally here.events here.run new.server.world new.server.tally
-    = subst (λ (s : ServerState). IsWorkOfRun mid.server.world mid.server.tally here.events here.run s.world s.tally) (sym server) here.work in
+    let work_here : IsWorkOfRun mid.server.world mid.server.decisions here.events here.run new.server.world new.server.decisions
+    = subst (λ (s : ServerState). IsWorkOfRun mid.server.world mid.server.decisions here.events here.run s.world s.decisions) (sym server) here.work in
     let run : IsRun old.server.world events replies new.server.world
     = run_trans old.server.world mid.server.world new.server.world before.events here.events before.replies here.run before.is_run run_here in
     record {
@@ -172,7 +172,7 @@ more_isolated count old mid new known_before known_now before is =
       served = rw add-one (mid, before.events, before.replies, before.served, known_before, known_now, is, refl, refl);
       is_run = run;
       work =
-          work_trans old.server.world mid.server.world new.server.world old.server.tally mid.server.tally new.server.tally before.events here.events before.replies here.run
+          work_trans old.server.world mid.server.world new.server.world old.server.decisions mid.server.decisions new.server.decisions before.events here.events before.replies here.run
           before.work work_here;
       isolated = λ domain. isolated domain old.server.world new.server.world events replies run;
     }
@@ -182,12 +182,12 @@ unfolding Serves ServesOne
 served_more count old mid new before (known_before, known_now, is) = more_isolated count old mid new known_before known_now before is
 
 -- from the front of the files
-pub served_from : {R : Type 0} (custody : R → Custody) (count : ℕ) (old new : Fronted R) → IsOperator old.server.operator → old.server.tally ≡ nothing_cached
+pub served_from : {R : Type 0} (custody : R → Custody) (count : ℕ) (old new : FrontModel R) → IsOperator old.server.operator → old.server.decisions ≡ nothing_cached
     → old.lines ≡ none_open → Serves count (front_state custody old) (front_state custody new)
-    → (from : FrontState) × IsOperator from.server.world.operator × (from.server.tally ≡ nothing_cached) × (from.lines ≡ none_open)
+    → (from : FrontState) × IsOperator from.server.world.operator × (from.server.decisions ≡ nothing_cached) × (from.lines ≡ none_open)
     × AreIsolated count from (front_state custody new)
 unfolding Serves
-served_from custody count old new operator tally none is = (front_state custody old, operator, tally, none, is)
+served_from custody count old new operator decisions none is = (front_state custody old, operator, decisions, none, is)
 
 -- the last of them
 pub served_last : (count others : ℕ) (old mid new : FrontState) → count ≡ others + 1 → Serves others old mid → ServesOne mid new → Serves count old new

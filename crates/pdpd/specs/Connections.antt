@@ -40,5 +40,5 @@ pub record AreIsolated (count : ℕ) (old new : FrontState) : Type 0 where
   pub replies : List Reply
   pub served : AreServed count old new events replies
   pub is_run : IsRun old.server.world events replies new.server.world
-  pub work : IsWorkOfRun old.server.world old.server.tally events replies new.server.world new.server.tally
+  pub work : IsWorkOfRun old.server.world old.server.decisions events replies new.server.world new.server.decisions
   pub isolated : IsIsolatedBesideRefusals old.server.world new.server.world events replies

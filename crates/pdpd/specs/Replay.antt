@@ -6,11 +6,11 @@ use Rattle.xa_http.specs.Stream.{Stream, fed}
 use Rattle.xa_records.specs.Kept.{Kept}
 use Rattle.xa_server.specs.declared.replies.Reply.{Reply}
 use Rattle.xa_server.specs.Alone.{Event}
+use Rattle.xa_server.specs.Decisions.{nothing_cached}
 use Rattle.xa_server.specs.Front.{FrontState}
 use Rattle.xa_server.specs.Isolation.{IsIsolatedBesideRefusals}
 use Rattle.xa_server.specs.Lines.{IsOpen, Lines, empty_stream, none_open, with_line}
 use Rattle.xa_server.specs.Served.{IsRun}
-use Rattle.xa_server.specs.Tally.{nothing_cached}
 use Rattle.xa_server.specs.World.{World}
 use Rattle.pdpd.specs.declared.exit.Exit.{Exit}
 use Rattle.pdpd.specs.declared.exit.Exit.TheVariants.{Done, Malformed}
@@ -138,6 +138,6 @@ IsReplayed old new left rest before now exit =
 abbrev pub beginning : List ℕ → Kept → FrontState
 beginning operator kept =
     record {
-      server = record { world = record { operator = operator; kept = kept }; tally = nothing_cached };
+      server = record { world = record { operator = operator; kept = kept }; decisions = nothing_cached };
       lines = none_open;
     }

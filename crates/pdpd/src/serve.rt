@@ -3,10 +3,10 @@ ghost use Rattle.std.specs.Prelude.{◌≡◌, ◌↔◌, IfErr, IfOk, MatchResu
 ghost use Rattle.std.specs.Prelude.{OnOk, Err, None, Some};
 ghost use Rattle.std.specs.Net.Grammar.{IsSocketText, Parses};
 ghost use Rattle.sqlite.specs.Files.{over_files};
+ghost use Rattle.xa_server.specs.Decisions.{nothing_cached};
 ghost use Rattle.xa_server.specs.Driven.{known};
 ghost use Rattle.xa_server.specs.Front.{FrontState, front_state};
 ghost use Rattle.xa_server.specs.Lines.{none_open};
-ghost use Rattle.xa_server.specs.Tally.{nothing_cached};
 ghost use Rattle.xa_store.specs.KeeperReading.{custody_by};
 ghost use Rattle.pdpd.specs.declared.fault.Fault.TheVariants.{Address};
 ghost use Rattle.pdpd.specs.Connections.{AreIsolated, IsConnectionServed};
@@ -169,7 +169,7 @@ fn front_of_files(
     settings: Settings,
 ) -> Result<Front<FileRecords>, Fault>
     ensures operator { IfOk result (λ front. IsOperator front.server.operator) }
-    ensures tally { IfOk result (λ front. front.server.tally ≡ nothing_cached) }
+    ensures decisions { IfOk result (λ front. front.server.decisions ≡ nothing_cached) }
     ensures closed { IfOk result (λ front. front.lines ≡ none_open) }
     ensures err { IfErr result IsOfFiles }
 {
@@ -185,7 +185,7 @@ fn front_of_files(
 #[tactic(auto, using(crate::proofs::ServingLemmas::settings_not_address, crate::proofs::ServingLemmas::files_not_address, crate::proofs::ServingLemmas::serving_not_address, crate::proofs::ServingLemmas::address_found))]
 pub fn serve(rt: &HostRuntime, serving: &ServeCommand<'_>) -> Result<Front<FileRecords>, Fault>
     ensures served { IfOk result (λ front. (custody_by over_files front.server.records).sound
-        → (old : FrontState) × IsOperator old.server.world.operator × (old.server.tally ≡ nothing_cached)
+        → (old : FrontState) × IsOperator old.server.world.operator × (old.server.decisions ≡ nothing_cached)
         × (old.lines ≡ none_open)
         × AreIsolated serving.now.connections old (front_state (custody_by over_files) front)) }
     ensures address { (result ≡ Err Address) ↔ IsNoAddress serving.now.address }

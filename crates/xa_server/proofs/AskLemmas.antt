@@ -27,9 +27,9 @@ use Rattle.xa_server.specs.declared.unsuccessful.Unsuccessful.TheVariants.{Error
 use Rattle.xa_server.specs.Gates.{revision_by, revision_of}
 use Rattle.xa_server.specs.handling.Asking.{IsFresh, IsNoted, IsResponseReply, evaluated_in, key_of_revision, key_within, reply_told, response_told, view_told}
 use Rattle.xa_server.specs.handling.Replying.{Answers, OnlyReads, Shows}
+use Rattle.xa_server.specs.Decisions.{DecisionsModel}
 use Rattle.xa_server.specs.Machine.{response_to, told}
 use Rattle.xa_server.specs.Replies.{decision_reply}
-use Rattle.xa_server.specs.Tally.{Tally}
 use Rattle.xa_server.specs.ValidCache.{AreValid, response_body_at}
 use Rattle.xa_server.specs.View.{view_of}
 use Rattle.xa_server.specs.handling.Viewing.{nothing_viewed}
@@ -101,7 +101,7 @@ worked_by None view body moment is = absurd cc
 worked_by (Some state) view body moment is =
     let same : view_of state ≡ view = let it : Ok (view_of state) ≡ Ok view = is in cc in ap (λ v. response_of v body moment) (sym same)
 
-pub works_by : (state : Option DomainState) (view : Viewed) (body : List ℕ) (moment : ℤ) (key : Key) (result : Result (List ℕ) Unsuccessful) (old new : Tally) → view_told state ≡ Ok view
+pub works_by : (state : Option DomainState) (view : Viewed) (body : List ℕ) (moment : ℤ) (key : Key) (result : Result (List ℕ) Unsuccessful) (old new : DecisionsModel) → view_told state ≡ Ok view
     → IsFresh key (response_of view body moment) result old new → IsFresh key (evaluated_in state body moment) result old new
 works_by state view body moment key result old new is works = subst (λ worked. IsFresh key worked result old new) (worked_by state view body moment is) works
 
@@ -145,9 +145,9 @@ keeper_left custody view body moment (Err (Error code)) meant = record { sound =
 keeper_left custody view body moment (Err (Failed Memory)) meant = record { sound = λ sound. sound; clean = λ clean. clean; stays = λ clean sound. tt; leaves = λ clean sound left is. is; counts = refl }
 keeper_left custody view body moment (Err (Failed Store)) meant = let none : Store ≡ Memory = meant in absurd cc
 
-pub room_left : (result : Result (List ℕ) Unsuccessful) (claim : Type 0) → claim → OnErr result claim
-room_left (Ok bytes) claim holds = tt
-room_left (Err unsuccessful) claim holds = holds
+pub views_left : (result : Result (List ℕ) Unsuccessful) (claim : Type 0) → claim → OnErr result claim
+views_left (Ok bytes) claim holds = tt
+views_left (Err unsuccessful) claim holds = holds
 
 -- ---- the key of a body
 
@@ -156,7 +156,7 @@ and_false true other = refl
 and_false false other = refl
 
 -- a decision that was evaluated is cached under the key of its body, if that isn't too large
-pub noted : (key : Key) (given : Option Key) (body : List ℕ) (timeless : Bool) (old new : Tally) → given ≡ key_within key → IsNoted given body timeless old new
+pub noted : (key : Key) (given : Option Key) (body : List ℕ) (timeless : Bool) (old new : DecisionsModel) → given ≡ key_within key → IsNoted given body timeless old new
     → IsEvaluated key (Some (body, timeless)) old new
 noted key given body timeless old new is = subst (λ (g : Option Key). IsNoted g body timeless old new → IsEvaluated key (Some (body, timeless)) old new) (sym is) (by_size (nat_le (length key.body) 16_384) refl) where
   by_size : (small : Bool) → nat_le (length key.body) 16_384 ≡ small → IsNoted (cond small (Some key) None) body timeless old new → IsEvaluated key (Some (body, timeless)) old new
@@ -171,32 +171,32 @@ key_is key small is = by_size (nat_le (length key.body) 16_384) is where
   by_size true e = cc
   by_size false e = absurd cc
 
-pub held_within : (key small : Key) (tally : Tally) → Some small ≡ key_within key → cached_body key key.body tally ≡ found small tally.cached
-held_within key small tally is = by_size (nat_le (length key.body) 16_384) is where
-  by_size : (b : Bool) → Some small ≡ cond b (Some key) None → cond b (found key tally.cached) None ≡ found small tally.cached
-  by_size true e = let same : small ≡ key = cc in ap (λ k. found k tally.cached) (sym same)
+pub held_within : (key small : Key) (decisions : DecisionsModel) → Some small ≡ key_within key → cached_body key key.body decisions ≡ found small decisions.cached
+held_within key small decisions is = by_size (nat_le (length key.body) 16_384) is where
+  by_size : (b : Bool) → Some small ≡ cond b (Some key) None → cond b (found key decisions.cached) None ≡ found small decisions.cached
+  by_size true e = let same : small ≡ key = cc in ap (λ k. found k decisions.cached) (sym same)
   by_size false e = absurd cc
 
 -- without a key nothing is
-pub held_beyond : (key : Key) (tally : Tally) → None ≡ key_within key → cached_body key key.body tally ≡ None
-held_beyond key tally is = by_size (nat_le (length key.body) 16_384) is where
-  by_size : (b : Bool) → None ≡ cond b (Some key) None → cond b (found key tally.cached) None ≡ None
+pub held_beyond : (key : Key) (decisions : DecisionsModel) → None ≡ key_within key → cached_body key key.body decisions ≡ None
+held_beyond key decisions is = by_size (nat_le (length key.body) 16_384) is where
+  by_size : (b : Bool) → None ≡ cond b (Some key) None → cond b (found key decisions.cached) None ≡ None
   by_size true e = absurd cc
   by_size false e = refl
 
 -- ---- a decision that is cached
 
-held_is : (key : Key) (body decided : List ℕ) (tally : Tally) → cached_body key body tally ≡ Some decided → found key tally.cached ≡ Some decided
-held_is key body decided tally is = by_size (nat_le (length body) 16_384) is where
-  by_size : (small : Bool) → cond small (found key tally.cached) None ≡ Some decided → found key tally.cached ≡ Some decided
+held_is : (key : Key) (body decided : List ℕ) (decisions : DecisionsModel) → cached_body key body decisions ≡ Some decided → found key decisions.cached ≡ Some decided
+held_is key body decided decisions is = by_size (nat_le (length body) 16_384) is where
+  by_size : (small : Bool) → cond small (found key decisions.cached) None ≡ Some decided → found key decisions.cached ≡ Some decided
   by_size true is = is
   by_size false is = absurd cc
 
 -- the machine tells it
-pub hit : (kept : Kept) (name body decided : List ℕ) (moment : ℤ) (revision : Revision) (tally : Tally) → revision_of name kept ≡ Some revision → AreValid kept tally.cached
-    → cached_body (key_of_revision revision body) body tally ≡ Some decided → reply_told body moment (state_of name kept) ≡ Ok (decision_reply decided)
+pub hit : (kept : Kept) (name body decided : List ℕ) (moment : ℤ) (revision : Revision) (decisions : DecisionsModel) → revision_of name kept ≡ Some revision → AreValid kept decisions.cached
+    → cached_body (key_of_revision revision body) body decisions ≡ Some decided → reply_told body moment (state_of name kept) ≡ Ok (decision_reply decided)
 unfolding response_body_at response_of
-hit kept name body decided moment revision tally opens valid held = by_gate (domain_of_revision kept name revision opens) where
+hit kept name body decided moment revision decisions opens valid held = by_gate (domain_of_revision kept name revision opens) where
   by_answer : (state : DomainState) → response_body_at state body moment ≡ Some decided → (answered : Option decision.Answered) → decision.answer (view_of state) body moment ≡ answered
       → reply_told body moment (Some state) ≡ Ok (decision_reply decided)
   by_answer state right None e = let none : None ≡ Some decided = rw e at right in absurd cc
@@ -206,22 +206,22 @@ hit kept name body decided moment revision tally opens valid held = by_gate (dom
 
   by_gate : ((d : Domain) × (get kept.domains name ≡ Some d) × (revision_by (gate_of_domain d) ≡ revision)) → reply_told body moment (state_of name kept) ≡ Ok (decision_reply decided)
   by_gate (d, there, is) =
-      let key : found (key_of_revision (revision_by (gate_of_domain d)) body) tally.cached ≡ Some decided =
-      subst (λ o. found (key_of_revision o body) tally.cached ≡ Some decided) (sym is) (held_is (key_of_revision revision body) body decided tally held) in
-      let right = found_right kept name d tally.cached body decided moment valid there key in
+      let key : found (key_of_revision (revision_by (gate_of_domain d)) body) decisions.cached ≡ Some decided =
+      subst (λ o. found (key_of_revision o body) decisions.cached ≡ Some decided) (sym is) (held_is (key_of_revision revision body) body decided decisions held) in
+      let right = found_right kept name d decisions.cached body decided moment valid there key in
       rw there (by_answer d.state right (decision.answer (view_of d.state) body moment) refl)
 
 -- the reply by it is the machine's
-pub hit_reply : (kept : Kept) (name body : List ℕ) (moment : ℤ) (revision : Revision) (tally : Tally) (reply : List ℕ) → revision_of name kept ≡ Some revision → AreValid kept tally.cached
-    → Some reply ≡ option_map decision_reply (cached_body (key_of_revision revision body) body tally)
+pub hit_reply : (kept : Kept) (name body : List ℕ) (moment : ℤ) (revision : Revision) (decisions : DecisionsModel) (reply : List ℕ) → revision_of name kept ≡ Some revision → AreValid kept decisions.cached
+    → Some reply ≡ option_map decision_reply (cached_body (key_of_revision revision body) body decisions)
     → Answers kept kept name (Ok reply) (told (response_to body moment) (state_of name kept))
-hit_reply kept name body moment revision tally reply opens valid is = by_held (cached_body (key_of_revision revision body) body tally) refl is where
-  by_held : (held : Option (List ℕ)) → cached_body (key_of_revision revision body) body tally ≡ held → Some reply ≡ option_map decision_reply held
+hit_reply kept name body moment revision decisions reply opens valid is = by_held (cached_body (key_of_revision revision body) body decisions) refl is where
+  by_held : (held : Option (List ℕ)) → cached_body (key_of_revision revision body) body decisions ≡ held → Some reply ≡ option_map decision_reply held
       → Answers kept kept name (Ok reply) (told (response_to body moment) (state_of name kept))
   by_held None e is = absurd cc
   by_held (Some decided) e is =
       let same : reply ≡ decision_reply decided = cc in
-      answers kept kept name body moment (Ok reply) (hit kept name body decided moment revision tally opens valid e ∙ ap Ok (sym same), refl)
+      answers kept kept name body moment (Ok reply) (hit kept name body decided moment revision decisions opens valid e ∙ ap Ok (sym same), refl)
 
 -- ---- a body that doesn't ask the policies
 
@@ -242,7 +242,7 @@ module _ (kept : Kept) (name body : List ℕ) (moment : ℤ) (revision : Revisio
         replied kept kept name body moment (view_of d.state) result (rw there refl) (subst (λ r. IsResponseReply r result) (unasked (view_of d.state) body moment none) meant) refl
 
   -- and so is the work
-  pub unasked_works : (key : Key) (result : Result (List ℕ) Unsuccessful) (old new : Tally) → IsFresh key (response_of nothing_viewed body moment) result old new
+  pub unasked_works : (key : Key) (result : Result (List ℕ) Unsuccessful) (old new : DecisionsModel) → IsFresh key (response_of nothing_viewed body moment) result old new
       → IsFresh key (evaluated_in (state_of name kept) body moment) result old new
   unasked_works key result old new works = by_domain (domain_of_revision kept name revision opens) where
     by_domain : ((d : Domain) × (get kept.domains name ≡ Some d) × (revision_by (gate_of_domain d) ≡ revision)) → IsFresh key (evaluated_in (state_of name kept) body moment) result old new

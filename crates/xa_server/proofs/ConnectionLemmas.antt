@@ -9,8 +9,8 @@ use Rattle.xa_http.specs.Stream.{Stream}
 use Rattle.xa_server.specs.Alone.{Event}
 use Rattle.xa_server.specs.declared.replies.Reply.{Reply}
 use Rattle.xa_server.specs.Connection.{HasMessages}
+use Rattle.xa_server.specs.Decisions.{DecisionsModel}
 use Rattle.xa_server.specs.Served.{IsRun}
-use Rattle.xa_server.specs.Tally.{Tally}
 use Rattle.xa_server.specs.Work.{IsWorkOfRun}
 use Rattle.xa_server.specs.World.{World}
 
@@ -63,10 +63,10 @@ run_trans a b c (e ∷ es) fs (r ∷ rs) qs first later = (first.0, first.1, run
 run_trans a b c [] fs (r ∷ rs) qs none later = absurd none
 run_trans a b c (e ∷ es) fs [] qs none later = absurd none
 
-pub work_trans : (a b c : World) (k l m : Tally) (es fs : List Event) (rs qs : List Reply)
+pub work_trans : (a b c : World) (k l m : DecisionsModel) (es fs : List Event) (rs qs : List Reply)
     → IsWorkOfRun a k es rs b l → IsWorkOfRun b l fs qs c m → IsWorkOfRun a k (es ++ fs) (rs ++ qs) c m
 work_trans a b c k l m [] fs [] qs same later =
-    subst (λ (w : World). IsWorkOfRun w k fs qs c m) same.0 (subst (λ (t : Tally). IsWorkOfRun b t fs qs c m) same.1 later)
+    subst (λ (w : World). IsWorkOfRun w k fs qs c m) same.0 (subst (λ (t : DecisionsModel). IsWorkOfRun b t fs qs c m) same.1 later)
 work_trans a b c k l m (e ∷ es) fs (r ∷ rs) qs first later =
     (first.0, first.1, first.2, first.3, work_trans first.0 b c first.1 l m es fs rs qs first.4 later)
 work_trans a b c k l m [] fs (r ∷ rs) qs none later = absurd none

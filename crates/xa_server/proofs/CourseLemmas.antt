@@ -109,7 +109,7 @@ goes_read conn a b s t found read x y made comes server lines opens on finds = r
   lines = lines;
   opens = still_open conn a.lines b.lines s t opens lines;
   is_run = ap (λ (v : ServerState). v.world) server;
-  work = (ap (λ (v : ServerState). v.world) server, ap (λ (v : ServerState). v.tally) server);
+  work = (ap (λ (v : ServerState). v.world) server, ap (λ (v : ServerState). v.decisions) server);
   read = All-cons IsReadOn read [] on (All-nil IsReadOn);
   counted = refl;
   told = refl;
@@ -137,7 +137,7 @@ ends_read end conn a b s last found read x y made comes same opens stops reads t
         stops = stops;
         lines = line_kept conn a.lines b.lines s opens (ap (λ (v : FrontState). v.lines) same);
         is_run = world;
-        work = (world, ap (λ (v : FrontState). v.server.tally) same);
+        work = (world, ap (λ (v : FrontState). v.server.decisions) same);
         headline = headline a.server.world b.server.world [] [] world;
         beside_refusals = λ domain. isolated domain a.server.world b.server.world [] [] world;
         read = reads;

@@ -103,7 +103,7 @@ goes_trans n m conn a b c s t u x y z first later = record {
   opens = later.opens;
   is_run = run_trans a.server.world b.server.world c.server.world first.events later.events first.run later.run first.is_run later.is_run;
   work =
-      work_trans a.server.world b.server.world c.server.world a.server.tally b.server.tally c.server.tally first.events later.events first.run later.run
+      work_trans a.server.world b.server.world c.server.world a.server.decisions b.server.decisions c.server.decisions first.events later.events first.run later.run
       first.work later.work;
   read = All-append IsReadOn first.calls.reads later.calls.reads first.read later.read;
   counted = omega (arith, length-append first.calls.reads later.calls.reads, first.counted, later.counted);
@@ -224,7 +224,7 @@ driven_after n end conn a b c s t x y z first later few =
       lines = line_again conn a.lines b.lines c.lines t later.after first.lines later.lines;
       is_run = run;
       work =
-          work_trans a.server.world b.server.world c.server.world a.server.tally b.server.tally c.server.tally first.events later.events first.run later.run
+          work_trans a.server.world b.server.world c.server.world a.server.decisions b.server.decisions c.server.decisions first.events later.events first.run later.run
           first.work later.work;
       headline = headline a.server.world c.server.world (first.events ++ later.events) (first.run ++ later.run) run;
       beside_refusals = λ domain. isolated domain a.server.world c.server.world (first.events ++ later.events) (first.run ++ later.run) run;

@@ -49,7 +49,7 @@ ends_idle end conn a b s after fault found writes told x y made server lines sto
     stops = stops;
     lines = lines;
     is_run = ap (λ (v : ServerState). v.world) server;
-    work = (ap (λ (v : ServerState). v.world) server, ap (λ (v : ServerState). v.tally) server);
+    work = (ap (λ (v : ServerState). v.world) server, ap (λ (v : ServerState). v.decisions) server);
     headline = headline a.server.world b.server.world [] [] (ap (λ (v : ServerState). v.world) server);
     beside_refusals = λ domain. isolated domain a.server.world b.server.world [] [] (ap (λ (v : ServerState). v.world) server);
     read = read;
@@ -68,7 +68,7 @@ first_fed s message after first = (after, subst (λ (u : Stream). IsFirst u mess
 pub ends_one : (end : DriveEnd) (conn : Conn) (a b : FrontState) (s after : Stream) (moment : ℤ) (message : Message) (reply : Reply) (found : List Bool)
     (writes : List WriteEnd) (said : List Bool) (x y : Known) → AreMade (record { memory = found; reads = []; writes = writes; told = Some moment ∷ []; said = said }) x y
     → IsFirst s message after → IsServed a.server.world b.server.world moment message reply
-    → IsWork a.server.world.kept moment message reply a.server.tally b.server.tally → b.lines ≡ with_line conn (Some after) a.lines
+    → IsWork a.server.world.kept moment message reply a.server.decisions b.server.decisions → b.lines ≡ with_line conn (Some after) a.lines
     → StopsAfter end None [] after after → HaveRead end [] after y.left → HasTold end (moment ∷ []) (Some moment ∷ [])
     → AreWritten end (bytes_of reply ∷ []) writes → HaveMemory end found → HaveSaid end None (reply ∷ []) said → IsDrivenWithin 0 end conn a b s x y
 ends_one end conn a b s after moment message reply found writes said x y made first served work lines stops read tells written finds says =
@@ -85,7 +85,7 @@ ends_one end conn a b s after moment message reply found writes said x y made fi
         stops = stops;
         lines = lines;
         is_run = run;
-        work = (b.server.world, b.server.tally, served, work, (refl, refl));
+        work = (b.server.world, b.server.decisions, served, work, (refl, refl));
         headline = headline a.server.world b.server.world ((moment, message) ∷ []) (reply ∷ []) run;
         beside_refusals = λ domain. isolated domain a.server.world b.server.world ((moment, message) ∷ []) (reply ∷ []) run;
         read = read;
@@ -101,7 +101,7 @@ ends_one end conn a b s after moment message reply found writes said x y made fi
 pub goes_one : (conn : Conn) (a b : FrontState) (s after : Stream) (moment : ℤ) (message : Message) (reply : Reply) (writes : List WriteEnd) (x y : Known)
     → AreMade (record { memory = true ∷ true ∷ []; reads = []; writes = writes; told = Some moment ∷ []; said = goes_on_after (reply ∷ []) }) x y
     → IsFirst s message after → IsServed a.server.world b.server.world moment message reply
-    → IsWork a.server.world.kept moment message reply a.server.tally b.server.tally → b.lines ≡ with_line conn (Some after) a.lines → IsOpen conn a.lines s
+    → IsWork a.server.world.kept moment message reply a.server.decisions b.server.decisions → b.lines ≡ with_line conn (Some after) a.lines → IsOpen conn a.lines s
     → IsTaken true (bytes_of reply) writes → GoesOn 0 conn a b s after x y
 goes_one conn a b s after moment message reply writes x y made first served work lines opens written = record {
   calls = record { memory = true ∷ true ∷ []; reads = []; writes = writes; told = Some moment ∷ []; said = goes_on_after (reply ∷ []) };
@@ -112,7 +112,7 @@ goes_one conn a b s after moment message reply writes x y made first served work
   lines = lines;
   opens = still_open conn a.lines b.lines s after opens lines;
   is_run = (b.server.world, served, refl);
-  work = (b.server.world, b.server.tally, served, work, (refl, refl));
+  work = (b.server.world, b.server.decisions, served, work, (refl, refl));
   read = All-nil IsReadOn;
   counted = refl;
   told = refl;
@@ -134,7 +134,7 @@ goes_idle conn a b s found x y made server lines opens finds = record {
   lines = lines;
   opens = still_open conn a.lines b.lines s s opens lines;
   is_run = ap (λ (v : ServerState). v.world) server;
-  work = (ap (λ (v : ServerState). v.world) server, ap (λ (v : ServerState). v.tally) server);
+  work = (ap (λ (v : ServerState). v.world) server, ap (λ (v : ServerState). v.decisions) server);
   read = All-nil IsReadOn;
   counted = refl;
   told = refl;

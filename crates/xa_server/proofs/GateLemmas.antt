@@ -22,7 +22,7 @@ use Rattle.xa_server.specs.declared.unsuccessful.Unsuccessful.TheVariants.{Error
 use Rattle.xa_server.specs.Gates.{revision_by, revision_in, revision_of, revision_with, role_in, without_gate}
 use Rattle.xa_server.specs.handling.Replying.{Answers, admitted_by}
 use Rattle.xa_server.specs.Machine.{Answer, admitted, digest_shown, permitted}
-use Rattle.xa_server.specs.Stock.{AllStand, AreGates, IsGate, Stock, forgetting, remembering, using_gate}
+use Rattle.xa_server.specs.Resources.{AllStand, AreGates, IsGate, ResourcesModel, forgetting, remembering, using_gate}
 use Rattle.xa_server.proofs.AdmissionLemmas.{role_is}
 use Rattle.xa_server.proofs.GrowthLemmas.{grows}
 use Rattle.xa_server.proofs.ReadyLemmas.{ready_grown}
@@ -69,29 +69,29 @@ module _ (kept : Kept) (name digest : List ℕ) (gates : List (List ℕ × Gate)
   by_lookup None there is = absurd cc
   by_lookup (Some gate) there is = by_role gate (role_in digest gate.tokens) (found_gate kept name gates gate are there) refl is
 
-pub known_opens : (kept : Kept) (name digest : List ℕ) (message : Message) (stock : Stock) (revision : Revision) → digest_shown message ≡ Some digest → AllStand kept stock
-    → revision_in name digest stock.gates ≡ Some revision → (revision_of name kept ≡ Some revision) × (admitted true (state_of name kept) message ≡ Ok tt)
-known_opens kept name digest message stock revision shown stand is =
+pub known_opens : (kept : Kept) (name digest : List ℕ) (message : Message) (resources : ResourcesModel) (revision : Revision) → digest_shown message ≡ Some digest → AllStand kept resources
+    → revision_in name digest resources.gates ≡ Some revision → (revision_of name kept ≡ Some revision) × (admitted true (state_of name kept) message ≡ Ok tt)
+known_opens kept name digest message resources revision shown stand is =
     subst (λ d. (revision_of name kept ≡ Some revision) × (admitted_by true (state_of name kept) d ≡ Ok tt)) (sym shown)
-    (by_lookup kept name digest stock.gates revision stand.gates (lookup (bytes_eq name) stock.gates) refl is)
+    (by_lookup kept name digest resources.gates revision stand.gates (lookup (bytes_eq name) resources.gates) refl is)
 
 -- ---- what stands
 
-pub used_stands : (kept : Kept) (name : List ℕ) (stock : Stock) → AllStand kept stock → AllStand kept (using_gate name stock)
-used_stands kept name stock stand = record { decisions = stand.decisions; views = stand.views; gates = all_promoted (IsGate kept) (bytes_eq name) stock.gates stand.gates }
+pub used_stands : (kept : Kept) (name : List ℕ) (resources : ResourcesModel) → AllStand kept resources → AllStand kept (using_gate name resources)
+used_stands kept name resources stand = record { decisions = stand.decisions; views = stand.views; gates = all_promoted (IsGate kept) (bytes_eq name) resources.gates stand.gates }
 
-pub remembered_stands : (kept : Kept) (name : List ℕ) (gate : Gate) (stock : Stock) → gate_of name kept ≡ Some gate → AllStand kept stock → AllStand kept (remembering name gate stock)
-remembered_stands kept name gate stock opens stand = record {
+pub remembered_stands : (kept : Kept) (name : List ℕ) (gate : Gate) (resources : ResourcesModel) → gate_of name kept ≡ Some gate → AllStand kept resources → AllStand kept (remembering name gate resources)
+remembered_stands kept name gate resources opens stand = record {
   decisions = stand.decisions;
   views = stand.views;
-  gates = all_put (IsGate kept) bytes_eq (lru_cache stock.gates 512) name gate (λ j same. subst (λ n. gate_of n kept ≡ Some gate) (one_name name j same) opens) opens stand.gates;
+  gates = all_put (IsGate kept) bytes_eq (lru_cache resources.gates 512) name gate (λ j same. subst (λ n. gate_of n kept ≡ Some gate) (one_name name j same) opens) opens stand.gates;
 }
 
-pub same_stands : (old new : Kept) (stock : Stock) → new ≡ old → AllStand old stock → AllStand new stock
-same_stands old new stock same stand = subst (λ k. AllStand k stock) (sym same) stand
+pub same_stands : (old new : Kept) (resources : ResourcesModel) → new ≡ old → AllStand old resources → AllStand new resources
+same_stands old new resources same stand = subst (λ k. AllStand k resources) (sym same) stand
 
-forgotten_stands : (kept : Kept) (name : List ℕ) (stock : Stock) → AllStand kept stock → AllStand kept (forgetting name stock)
-forgotten_stands kept name stock stand = record { decisions = stand.decisions; views = stand.views; gates = all_removed (IsGate kept) (bytes_eq name) stock.gates stand.gates }
+forgotten_stands : (kept : Kept) (name : List ℕ) (resources : ResourcesModel) → AllStand kept resources → AllStand kept (forgetting name resources)
+forgotten_stands kept name resources stand = record { decisions = stand.decisions; views = stand.views; gates = all_removed (IsGate kept) (bytes_eq name) resources.gates stand.gates }
 
 -- none stands under a name whose gate was forgotten
 pub gone : (name : List ℕ) (gates : List (List ℕ × Gate)) → IsDistinct bytes_eq (keys_of gates) → lookup (bytes_eq name) (without_gate name gates) ≡ None
@@ -110,12 +110,12 @@ gates_left old new name others (entry ∷ gates) none are = (elim (bytes_eq name
 ]) refl
 
 -- after a message of that domain, whose gate was forgotten first
-pub changed_stands : (old new : Kept) (name : List ℕ) (result : Result (List ℕ) Unsuccessful) (meant : Answer) (stock : Stock) → Answers old new name result meant → AllStand old stock
-    → lookup (bytes_eq name) (without_gate name stock.gates) ≡ None → AllStand new (forgetting name stock)
-changed_stands old new name (Ok bytes) meant stock (after, is, changed) stand none = record {
-  decisions = valid_grown old new (grows old new name after changed) stock.tally.cached stand.decisions;
-  views = ready_grown old new (grows old new name after changed) stock.room.views stand.views;
-  gates = gates_left old new name changed.others (without_gate name stock.gates) none (all_removed (IsGate old) (bytes_eq name) stock.gates stand.gates);
+pub changed_stands : (old new : Kept) (name : List ℕ) (result : Result (List ℕ) Unsuccessful) (meant : Answer) (resources : ResourcesModel) → Answers old new name result meant → AllStand old resources
+    → lookup (bytes_eq name) (without_gate name resources.gates) ≡ None → AllStand new (forgetting name resources)
+changed_stands old new name (Ok bytes) meant resources (after, is, changed) stand none = record {
+  decisions = valid_grown old new (grows old new name after changed) resources.decisions.cached stand.decisions;
+  views = ready_grown old new (grows old new name after changed) resources.views.views stand.views;
+  gates = gates_left old new name changed.others (without_gate name resources.gates) none (all_removed (IsGate old) (bytes_eq name) resources.gates stand.gates);
 }
-changed_stands old new name (Err (Error code)) meant stock answers stand none = same_stands old new (forgetting name stock) answers.1 (forgotten_stands old name stock stand)
-changed_stands old new name (Err (Failed failure)) meant stock answers stand none = same_stands old new (forgetting name stock) answers (forgotten_stands old name stock stand)
+changed_stands old new name (Err (Error code)) meant resources answers stand none = same_stands old new (forgetting name resources) answers.1 (forgotten_stands old name resources stand)
+changed_stands old new name (Err (Failed failure)) meant resources answers stand none = same_stands old new (forgetting name resources) answers (forgotten_stands old name resources stand)

@@ -18,7 +18,7 @@ use Rattle.xa_server.specs.Isolation.{answered_events}
 use Rattle.xa_server.specs.Machine.{step}
 use Rattle.xa_server.specs.Owner.{owner}
 use Rattle.xa_server.specs.Served.{IsRun, IsSent, IsServed, state}
-use Rattle.xa_server.specs.World.{Serving, World, world}
+use Rattle.xa_server.specs.World.{ServerModel, World, world}
 use Rattle.xa_server.proofs.GrowthLemmas.{changed_state}
 use Rattle.xa_server.proofs.IsolationLemmas.{isolated}
 use Rattle.xa_server.proofs.ServedLemmas.{run_more}
@@ -92,27 +92,27 @@ not_made old moment message (Some domain) made = no_further old.kept.next (get o
 module _ {R : Type 0} (custody : R → Custody) (settled : (s : R) → (custody s).sound → (left : Kept) → (custody s).may_leave left → left ≡ (custody s).kept) where
   -- ---- the messages before the crash
 
-  clean_before : (old new : Serving R) (events : List Event) (replies : List Reply) → ServesAll custody old events replies new → (custody new.records).clean → (custody old.records).clean
-  clean_before old new [] [] all clean = subst (λ (s : Serving R). (custody s.records).clean) all clean
+  clean_before : (old new : ServerModel R) (events : List Event) (replies : List Reply) → ServesAll custody old events replies new → (custody new.records).clean → (custody old.records).clean
+  clean_before old new [] [] all clean = subst (λ (s : ServerModel R). (custody s.records).clean) all clean
   clean_before old new (event ∷ events) (reply ∷ replies) all clean = all.1.clean (clean_before all.0 new events replies all.3 clean)
   clean_before old new [] (reply ∷ replies) all clean = absurd all
   clean_before old new (event ∷ events) [] all clean = absurd all
 
-  goes_on : (old new : Serving R) (event : Event) (reply : Reply) → Serves custody old new event reply → StaysSound custody new reply → (custody new.records).clean → (custody old.records).sound
+  goes_on : (old new : ServerModel R) (event : Event) (reply : Reply) → Serves custody old new event reply → StaysSound custody new reply → (custody new.records).clean → (custody old.records).sound
       → (custody new.records).sound
   goes_on old new event (Sent bytes) serves on clean sound = serves.stays clean sound
   goes_on old new event (Refused failure) serves on clean sound = on
 
-  sound_after : (old new : Serving R) (events : List Event) (replies : List Reply) → ServesAll custody old events replies new → (custody new.records).clean → (custody old.records).sound
+  sound_after : (old new : ServerModel R) (events : List Event) (replies : List Reply) → ServesAll custody old events replies new → (custody new.records).clean → (custody old.records).sound
       → (custody new.records).sound
-  sound_after old new [] [] all clean sound = subst (λ (s : Serving R). (custody s.records).sound) (sym all) sound
+  sound_after old new [] [] all clean sound = subst (λ (s : ServerModel R). (custody s.records).sound) (sym all) sound
   sound_after old new (event ∷ events) (reply ∷ replies) all clean sound =
       let between = clean_before all.0 new events replies all.3 clean in
       sound_after all.0 new events replies all.3 clean (goes_on old all.0 event reply all.1 all.2 between sound)
   sound_after old new [] (reply ∷ replies) all clean sound = absurd all
   sound_after old new (event ∷ events) [] all clean sound = absurd all
 
-  is_run : (old new : Serving R) (events : List Event) (replies : List Reply) → ServesAll custody old events replies new → (custody new.records).clean → (custody old.records).sound
+  is_run : (old new : ServerModel R) (events : List Event) (replies : List Reply) → ServesAll custody old events replies new → (custody new.records).clean → (custody old.records).sound
       → IsRun (world custody old) events replies (world custody new)
   is_run old new [] [] all clean sound = ap (world custody) all
   is_run old new (event ∷ events) (reply ∷ replies) all clean sound =
@@ -124,7 +124,7 @@ module _ {R : Type 0} (custody : R → Custody) (settled : (s : R) → (custody 
 
   -- ---- the message in which the crash comes
 
-  module _ (old new : Serving R) (events : List Event) (replies : List Reply) (last : Event) (reply : Reply) (it : IsInterrupted custody old new events replies last reply) where
+  module _ (old new : ServerModel R) (events : List Event) (replies : List Reply) (last : Event) (reply : Reply) (it : IsInterrupted custody old new events replies last reply) where
     abbrev answered : List Event
     answered = answered_events events replies
 
@@ -197,5 +197,5 @@ module _ {R : Type 0} (custody : R → Custody) (settled : (s : R) → (custody 
       );
     }
 
-  pub keeps_answered : (old : Serving R) → KeepsAnswered custody old
+  pub keeps_answered : (old : ServerModel R) → KeepsAnswered custody old
   keeps_answered old new events replies last reply it = leaves_first old new events replies last reply it

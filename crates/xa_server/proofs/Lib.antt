@@ -16,10 +16,10 @@ pub mod NameLemmas
 pub mod MultiplexerLemmas
 pub mod ReadyLemmas
 pub mod ReplyLemmas
+pub mod ResourcesLemmas
 pub mod SendingLemmas
 pub mod ServedLemmas
 pub mod StandingLemmas
-pub mod StockLemmas
 pub mod TransferLemmas
 pub mod TurnLemmas
 pub mod ValidLemmas

@@ -10,19 +10,19 @@ use Rattle.xa_server.specs.declared.event.Outcome.TheVariants as outcome
 use Rattle.xa_server.specs.declared.front_error.FrontError.TheVariants.{Memory, NoSuchConnection, TooManyConnections, Full}
 use Rattle.xa_server.specs.declared.replies.Reply.{Reply}
 use Rattle.xa_server.specs.declared.replies.Reply.TheVariants.{Sent, Refused}
+use Rattle.xa_server.specs.Decisions.{DecisionsModel}
 use Rattle.xa_server.specs.Front.{Does, FrontState, IsPlayed, Plays, ServerState, message_cut, messages_cut, replies_given, reply_given}
 use Rattle.xa_server.specs.Crash.{IfSent}
 use Rattle.xa_server.specs.Fronting.{CountsOutcome, CountsOutcomes, DoesEvent, DoesLines, IfAllSent, IfOutcomeSent, PlaysLines}
 use Rattle.xa_server.specs.Lines.{Lines}
 use Rattle.xa_server.specs.Served.{IsRun}
-use Rattle.xa_server.specs.Tally.{Tally}
 use Rattle.xa_server.specs.Work.{IsWorkOfRun}
 use Rattle.xa_server.specs.World.{World}
 use Rattle.xa_server.proofs.IsolationLemmas.{headline, isolated}
 
 -- the work of a run, of a server that is so and then so
 abbrev Runs : ServerState → List messages.Event → List Reply → ServerState → Type 0
-Runs old events replies new = IsWorkOfRun old.world old.tally events replies new.world new.tally
+Runs old events replies new = IsWorkOfRun old.world old.decisions events replies new.world new.decisions
 
 -- what changes nothing of the server goes before a run
 unmoved : (old mid new : ServerState) (events : List messages.Event) (replies : List Reply) → mid ≡ old → Runs mid events replies new
@@ -37,7 +37,7 @@ goes_before event.Begin old mid new None (outcome.Begun result) events replies d
 goes_before (event.Piece conn piece) old mid new None (outcome.Held result) events replies does rest = unmoved old.server mid.server new.server events replies does.1 rest
 goes_before (event.Finish conn) old mid new None (outcome.Finished result) events replies does rest = unmoved old.server mid.server new.server events replies does.1 rest
 goes_before (event.Answer conn moment) old mid new (Some (next.Message message)) (outcome.Answered (Ok (Some answer))) events replies does rest =
-    (mid.server.world, mid.server.tally, does.4.0, does.4.1, rest)
+    (mid.server.world, mid.server.decisions, does.4.0, does.4.1, rest)
 goes_before (event.Answer conn moment) old mid new (Some (next.Fault fault)) (outcome.Answered (Ok (Some answer))) events replies does rest =
     unmoved old.server mid.server new.server events replies does.4.2 rest
 goes_before (event.Answer conn moment) old mid new (Some next.More) (outcome.Answered (Ok None)) events replies does rest =
@@ -88,7 +88,7 @@ goes_before (event.Answer conn moment) old mid new (Some taken) (outcome.Answere
 -- what is played is a run
 pub run_of : (events : List Event) (outcomes : List Outcome) (nexts : List (Option Next)) (old new : FrontState) → Plays events outcomes nexts old new
     → Runs old.server (messages_cut events nexts) (replies_given nexts outcomes) new.server
-run_of [] [] [] old new same = (ap (λ (s : FrontState). s.server.world) same, ap (λ (s : FrontState). s.server.tally) same)
+run_of [] [] [] old new same = (ap (λ (s : FrontState). s.server.world) same, ap (λ (s : FrontState). s.server.decisions) same)
 run_of (e ∷ events) (o ∷ outcomes) (given ∷ nexts) old new (mid, does, rest) =
     goes_before e old mid new given o (messages_cut events nexts) (replies_given nexts outcomes) does (run_of events outcomes nexts mid new rest)
 run_of [] [] (given ∷ nexts) old new none = absurd none
@@ -97,7 +97,7 @@ run_of (e ∷ events) [] nexts old new none = absurd none
 run_of (e ∷ events) (o ∷ outcomes) [] old new none = absurd none
 
 -- a run, without its work
-without_work : (old new : World) (held left : Tally) (events : List messages.Event) (replies : List Reply)
+without_work : (old new : World) (held left : DecisionsModel) (events : List messages.Event) (replies : List Reply)
     → IsWorkOfRun old held events replies new left → IsRun old events replies new
 without_work old new held left [] [] run = run.0
 without_work old new held left (e ∷ events) (r ∷ replies) run = (run.0, run.2, without_work run.0 new run.1 left events replies run.4)
@@ -109,7 +109,7 @@ pub played : (old new : FrontState) (events : List Event) (outcomes : List Outco
     → (nexts : List (Option Next)) × Plays events outcomes nexts old new → IsPlayed old new events outcomes
 played old new events outcomes (nexts, plays) =
     let work = run_of events outcomes nexts old new plays in
-    let run = without_work old.server.world new.server.world old.server.tally new.server.tally (messages_cut events nexts) (replies_given nexts outcomes) work in
+    let run = without_work old.server.world new.server.world old.server.decisions new.server.decisions (messages_cut events nexts) (replies_given nexts outcomes) work in
     record {
       nexts = nexts;
       plays = plays;

@@ -14,10 +14,10 @@ use Rattle.xa_server.specs.declared.revision.Revision.{Revision}
 use Rattle.xa_server.specs.declared.ready.Ready.{Ready}
 use Rattle.xa_server.specs.Gates.{revision_by, revision_of}
 use Rattle.xa_server.specs.handling.Asking.{view_told}
+use Rattle.xa_server.specs.Resources.{AreReady, IsReady}
 use Rattle.xa_server.specs.Standing.{StandsUnder}
-use Rattle.xa_server.specs.Stock.{AreReady, IsReady}
 use Rattle.xa_server.specs.View.{view_of}
-use Rattle.xa_server.specs.Views.{Room, added, bytes_of_tree, bytes_of_view, fitting_count, in_front, touched, view_ready, with_view, without}
+use Rattle.xa_server.specs.Views.{ViewsModel, added, bytes_of_tree, bytes_of_view, fitting_count, in_front, touched, view_ready, with_view, without}
 use Rattle.xa_server.proofs.GrowthLemmas.{HasGrown}
 use Rattle.xa_server.proofs.StandingLemmas.{all_implied, made_stands, stands_on}
 use Rattle.xa_server.proofs.WorkLemmas.{domain_of_revision}
@@ -84,16 +84,16 @@ made_ready kept name revision ready numbered opens told is = by_gate (domain_of_
 
 -- ---- what is kept after a use, and after a view was kept
 
-pub ready_touched : (kept : Kept) (number : ℕ) (room : Room) → AreReady kept room.views → AreReady kept (touched number room).views
-ready_touched kept number room ready = all_promoted (IsReady kept) (nat_eq number) room.views ready
+pub ready_touched : (kept : Kept) (number : ℕ) (cached : ViewsModel) → AreReady kept cached.views → AreReady kept (touched number cached).views
+ready_touched kept number cached ready = all_promoted (IsReady kept) (nat_eq number) cached.views ready
 
-pub ready_without : (kept : Kept) (number : ℕ) (room : Room) → AreReady kept room.views → AreReady kept (without number room).views
-ready_without kept number room ready = all_removed (IsReady kept) (nat_eq number) room.views ready
+pub ready_without : (kept : Kept) (number : ℕ) (cached : ViewsModel) → AreReady kept cached.views → AreReady kept (without number cached).views
+ready_without kept number cached ready = all_removed (IsReady kept) (nat_eq number) cached.views ready
 
-pub ready_with : (kept : Kept) (number : ℕ) (view : Ready) (room : Room) → IsReady kept (number, view) → AreReady kept room.views → AreReady kept (with_view number view room).views
-ready_with kept number view room this ready =
-    let all = in_front number view room.views in
-    all_taken (IsReady kept) (fitting_count room.max_count room.max_bytes all) all (this, all_removed (IsReady kept) (nat_eq number) room.views ready)
+pub ready_with : (kept : Kept) (number : ℕ) (view : Ready) (cached : ViewsModel) → IsReady kept (number, view) → AreReady kept cached.views → AreReady kept (with_view number view cached).views
+ready_with kept number view cached this ready =
+    let all = in_front number view cached.views in
+    all_taken (IsReady kept) (fitting_count cached.max_count cached.max_bytes all) all (this, all_removed (IsReady kept) (nat_eq number) cached.views ready)
 
 -- by how much memory a view is counted that was made of what is kept
 pub estimated : (there : Option KeptView) (kept : KeptView) (ready : Ready) (read : ℕ) → Some kept ≡ there

@@ -58,7 +58,7 @@ cut_short reply writes cut = record {
 message_sent : (whole shut last : Bool) (turn : Turn) (conn : Conn) (old new : FrontState) (s after : Stream) (moment : ℤ) (message : Message) (reply : Reply)
     (f h : Option (List Bool)) (l : Option (List ℕ)) (r : Option (List ReadEnd)) (c d : Option (List ℕ)) (w v : Option (List WriteEnd)) (k j : Option (List (Option ℤ)))
     (o p : Option (List Bool)) → IsFirst s message after → IsServed old.server.world new.server.world moment message reply
-    → IsWork old.server.world.kept moment message reply old.server.tally new.server.tally → new.lines ≡ with_line conn (Some after) old.lines
+    → IsWork old.server.world.kept moment message reply old.server.decisions new.server.decisions → new.lines ≡ with_line conn (Some after) old.lines
     → IsOpen conn old.lines s → last ≡ after.ended → Grows f h (true ∷ true ∷ []) → Grows k j (Some moment ∷ [])
     → IsWritten whole (bytes_of reply) c d w v → IsAskedAfter whole reply shut o p → turn ≡ turn_after whole shut last
     → IsTurn turn conn old new s (known f l r c w k o) (known h l r d v j p)

@@ -16,7 +16,7 @@ use Rattle.xa_server.specs.declared.unsuccessful.Unsuccessful.{Unsuccessful}
 use Rattle.xa_server.specs.declared.unsuccessful.Unsuccessful.TheVariants.{Error, Failed}
 use Rattle.xa_server.specs.Gates.{revision_by, revision_of}
 use Rattle.xa_server.specs.handling.Asking.{IsFresh, IsLookedUp, evaluated_in, key_of_revision}
-use Rattle.xa_server.specs.Tally.{Tally}
+use Rattle.xa_server.specs.Decisions.{DecisionsModel}
 use Rattle.xa_server.specs.ValidCache.{AreValid, GivesBody, IsValid, response_body_at}
 use Rattle.xa_server.specs.View.{view_of}
 use Rattle.xa_server.specs.Work.{IsBodyCached, IsEvaluated, cache_key, evaluated_response, response_of}
@@ -76,7 +76,7 @@ worked_valid kept name domain body decided moment numbered there worked =
 -- ---- what is cached after a message
 
 module _ (kept' : Kept) (numbered : IsNumbered kept') (name : List ℕ) (domain' : Domain) (there : get kept'.domains name ≡ Some domain') (body : List ℕ) (moment : ℤ) where
-  valid_held : (decided : List ℕ) (timeless holds : Bool) → (holds ≡ true → timeless ≡ true) → (old new : Tally) → evaluated_response domain'.state body moment ≡ Some (decided, timeless)
+  valid_held : (decided : List ℕ) (timeless holds : Bool) → (holds ≡ true → timeless ≡ true) → (old new : DecisionsModel) → evaluated_response domain'.state body moment ≡ Some (decided, timeless)
       → IsBodyCached holds (cache_key domain' body) decided old new → AreValid kept' old.cached → AreValid kept' new.cached
   valid_held decided timeless false so old new worked (held, unkept) valid = subst (AreValid kept') (sym held) valid
   valid_held decided timeless true so old new worked (inr (held, unkept)) valid = subst (AreValid kept') (sym held) valid
@@ -89,25 +89,25 @@ module _ (kept' : Kept) (numbered : IsNumbered kept') (name : List ℕ) (domain'
   first true b h = refl
   first false b h = absurd cc
 
-  valid_worked : (worked : Option (List ℕ × Bool)) (old new : Tally) → evaluated_response domain'.state body moment ≡ worked → IsEvaluated (cache_key domain' body) worked old new
+  valid_worked : (worked : Option (List ℕ × Bool)) (old new : DecisionsModel) → evaluated_response domain'.state body moment ≡ worked → IsEvaluated (cache_key domain' body) worked old new
       → AreValid kept' old.cached → AreValid kept' new.cached
   valid_worked None old new e same valid = subst (λ t. AreValid kept' t.cached) (sym same) valid
   valid_worked (Some (decided, timeless)) old new e (counted, held) valid =
       valid_held decided timeless (timeless && fits (cache_key domain' body) decided) (first timeless (fits (cache_key domain' body) decided)) old new e held valid
 
-  valid_fresh : (result : Result (List ℕ) Unsuccessful) (old new : Tally) → IsFresh (cache_key domain' body) (evaluated_response domain'.state body moment) result old new
+  valid_fresh : (result : Result (List ℕ) Unsuccessful) (old new : DecisionsModel) → IsFresh (cache_key domain' body) (evaluated_response domain'.state body moment) result old new
       → AreValid kept' old.cached → AreValid kept' new.cached
   valid_fresh (Ok bytes) old new work valid = valid_worked (evaluated_response domain'.state body moment) old new refl work valid
   valid_fresh (Err (Error code)) old new (none, same) valid = subst (λ t. AreValid kept' t.cached) (sym same) valid
   valid_fresh (Err (Failed failure)) old new same valid = subst (λ t. AreValid kept' t.cached) (sym same) valid
 
 -- after a look-up
-pub looked_valid : (kept : Kept) (held : Option (List ℕ)) (key : Key) (old new : Tally) → IsLookedUp held key old new → AreValid kept old.cached → AreValid kept new.cached
+pub looked_valid : (kept : Kept) (held : Option (List ℕ)) (key : Key) (old new : DecisionsModel) → IsLookedUp held key old new → AreValid kept old.cached → AreValid kept new.cached
 looked_valid kept None key old new same valid = subst (λ t. AreValid kept t.cached) (sym same) valid
 looked_valid kept (Some body) key old new moved valid = subst (λ t. AreValid kept t.cached) (sym moved) (all_looked (IsValid kept) key old.cached valid)
 
 -- after a decision was evaluated in the domain of that revision
-pub fresh_valid : (kept : Kept) (name body : List ℕ) (moment : ℤ) (revision : Revision) (result : Result (List ℕ) Unsuccessful) (old new : Tally) → IsNumbered kept → revision_of name kept ≡ Some revision
+pub fresh_valid : (kept : Kept) (name body : List ℕ) (moment : ℤ) (revision : Revision) (result : Result (List ℕ) Unsuccessful) (old new : DecisionsModel) → IsNumbered kept → revision_of name kept ≡ Some revision
     → IsFresh (key_of_revision revision body) (evaluated_in (state_of name kept) body moment) result old new → AreValid kept old.cached → AreValid kept new.cached
 fresh_valid kept name body moment revision result old new numbered opens work valid = by_gate (domain_of_revision kept name revision opens) where
   by_gate : ((d : Domain) × (get kept.domains name ≡ Some d) × (revision_by (gate_of_domain d) ≡ revision)) → AreValid kept new.cached

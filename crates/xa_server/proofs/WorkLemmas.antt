@@ -24,21 +24,21 @@ use Rattle.xa_server.specs.Gates.{revision_by, revision_of}
 use Rattle.xa_server.specs.handling.Asking.{IsAsked, IsFresh, WorksMessage, WorksOf, WorksRoute}
 use Rattle.xa_server.specs.handling.Replying.{IsReplyOf}
 use Rattle.xa_server.specs.handling.Unsuccessful.{unsuccessful_of_route}
+use Rattle.xa_server.specs.Decisions.{DecisionsModel}
 use Rattle.xa_server.specs.Served.{IsServed}
-use Rattle.xa_server.specs.Tally.{Tally}
 use Rattle.xa_server.specs.Work.{IsAskWork, IsEvaluated, IsWork, IsWorkOf, IsWorkOfRun, cache_key, cached_body, domain_of_message, evaluated_response}
 use Rattle.xa_server.specs.World.{World}
 
 -- ---- a message that failed, or was turned away, before anything was done
 
-failed_ask : (key : Key) (held : Option (List ℕ)) (worked : Option (List ℕ × Bool)) (failure : Failure) (tally : Tally) → IsAsked key held worked (Err (Failed failure)) tally tally
-failed_ask key None worked failure tally = refl
-failed_ask key (Some body) worked failure tally = inl refl
+failed_ask : (key : Key) (held : Option (List ℕ)) (worked : Option (List ℕ × Bool)) (failure : Failure) (decisions : DecisionsModel) → IsAsked key held worked (Err (Failed failure)) decisions decisions
+failed_ask key None worked failure decisions = refl
+failed_ask key (Some body) worked failure decisions = inl refl
 
-pub failed : (asked : Option Domain) (body : List ℕ) (moment : ℤ) (failure : Failure) (tally : Tally) → WorksOf asked body moment (Err (Failed failure)) tally tally
-failed None body moment failure tally = refl
-failed (Some domain) body moment failure tally =
-    failed_ask (cache_key domain body) (cached_body (cache_key domain body) body tally) (evaluated_response domain.state body moment) failure tally
+pub failed : (asked : Option Domain) (body : List ℕ) (moment : ℤ) (failure : Failure) (decisions : DecisionsModel) → WorksOf asked body moment (Err (Failed failure)) decisions decisions
+failed None body moment failure decisions = refl
+failed (Some domain) body moment failure decisions =
+    failed_ask (cache_key domain body) (cached_body (cache_key domain body) body decisions) (evaluated_response domain.state body moment) failure decisions
 
 -- ---- a message that was let in
 
@@ -60,19 +60,19 @@ domain_of_revision kept name revision opens = by_domain (get kept.domains name) 
 
 -- ---- what the message asks for
 
-pub asked_work : (received : Received) (kept : Kept) (route : Route) (result : Result (List ℕ) Unsuccessful) (old new : Tally) → route_of received.message.now ≡ Ok route
+pub asked_work : (received : Received) (kept : Kept) (route : Route) (result : Result (List ℕ) Unsuccessful) (old new : DecisionsModel) → route_of received.message.now ≡ Ok route
     → WorksRoute received kept route result old new → WorksMessage received kept result old new
 asked_work received kept route result old new asks work = rw asks work
 
-pub unasked_work : (received : Received) (kept : Kept) (error : OrMemory RouteFault) (tally : Tally) → Gives {X = Route} (Err error) (route_of received.message.now)
-    → WorksMessage received kept (Err (unsuccessful_of_route error)) tally tally
-unasked_work received kept or_memory.Memory tally gives =
-    failed (domain_of_message kept received.message.now (route_of received.message.now)) received.message.now.body received.moment Memory tally
-unasked_work received kept (or_memory.Error fault) tally gives = rw gives refl
+pub unasked_work : (received : Received) (kept : Kept) (error : OrMemory RouteFault) (decisions : DecisionsModel) → Gives {X = Route} (Err error) (route_of received.message.now)
+    → WorksMessage received kept (Err (unsuccessful_of_route error)) decisions decisions
+unasked_work received kept or_memory.Memory decisions gives =
+    failed (domain_of_message kept received.message.now (route_of received.message.now)) received.message.now.body received.moment Memory decisions
+unasked_work received kept (or_memory.Error fault) decisions gives = rw gives refl
 
 -- ---- what goes back
 
-fresh_work : (key : Key) (worked : Option (List ℕ × Bool)) (result : Result (List ℕ) Unsuccessful) (reply : Reply) (old new : Tally)
+fresh_work : (key : Key) (worked : Option (List ℕ × Bool)) (result : Result (List ℕ) Unsuccessful) (reply : Reply) (old new : DecisionsModel)
     → IsFresh key worked result old new → IsReplyOf result reply → IsAskWork key None worked reply old new
 fresh_work key worked (Ok bytes) reply old new work is = subst (λ r. IsAskWork key None worked r old new) (sym is) work
 fresh_work key worked (Err (Failed failure)) reply old new work is = subst (λ r. IsAskWork key None worked r old new) (sym is) (inl work)
@@ -80,28 +80,28 @@ fresh_work key worked (Err (Error code)) reply old new (none, same) (inl is) =
     subst (λ r. IsAskWork key None worked r old new) (sym is) (subst (λ w. IsEvaluated key w old new) (sym none) same)
 fresh_work key worked (Err (Error code)) reply old new (none, same) (inr is) = subst (λ r. IsAskWork key None worked r old new) (sym is) (inl same)
 
-ask_work : (key : Key) (held : Option (List ℕ)) (worked : Option (List ℕ × Bool)) (result : Result (List ℕ) Unsuccessful) (reply : Reply) (old new : Tally)
+ask_work : (key : Key) (held : Option (List ℕ)) (worked : Option (List ℕ × Bool)) (result : Result (List ℕ) Unsuccessful) (reply : Reply) (old new : DecisionsModel)
     → IsAsked key held worked result old new → IsReplyOf result reply → IsAskWork key held worked reply old new
 ask_work key None worked result reply old new work is = fresh_work key worked result reply old new work is
 ask_work key (Some body) worked (Ok bytes) reply old new work is = subst (λ r. IsAskWork key (Some body) worked r old new) (sym is) work
 ask_work key (Some body) worked (Err (Failed failure)) reply old new work is = subst (λ r. IsAskWork key (Some body) worked r old new) (sym is) work
 ask_work key (Some body) worked (Err (Error code)) reply old new work is = elim work [ ]
 
-pub work_of : (asked : Option Domain) (body : List ℕ) (moment : ℤ) (result : Result (List ℕ) Unsuccessful) (reply : Reply) (old new : Tally)
+pub work_of : (asked : Option Domain) (body : List ℕ) (moment : ℤ) (result : Result (List ℕ) Unsuccessful) (reply : Reply) (old new : DecisionsModel)
     → WorksOf asked body moment result old new → IsReplyOf result reply → IsWorkOf asked body moment reply old new
 work_of None body moment result reply old new work is = work
 work_of (Some domain) body moment result reply old new work is =
     ask_work (cache_key domain body) (cached_body (cache_key domain body) body old) (evaluated_response domain.state body moment) result reply old new work is
 
 -- a run goes on by one message
-pub run_more : (old mid new : World) (held between left : Tally) (events : List Event) (replies : List Reply) (event : Event) (reply : Reply)
+pub run_more : (old mid new : World) (held between left : DecisionsModel) (events : List Event) (replies : List Reply) (event : Event) (reply : Reply)
     → IsWorkOfRun old held events replies mid between → IsServed mid new event.0 event.1 reply → IsWork mid.kept event.0 event.1 reply between left
     → IsWorkOfRun old held (events ++ event ∷ []) (replies ++ reply ∷ []) new left
 run_more old mid new held between left [] [] event reply run served work = (
   new,
   left,
   subst (λ (w : World). IsServed w new event.0 event.1 reply) run.0 served,
-  subst (λ (t : Tally). IsWork old.kept event.0 event.1 reply t left) run.1 (subst (λ (w : World). IsWork w.kept event.0 event.1 reply between left) run.0 work),
+  subst (λ (t : DecisionsModel). IsWork old.kept event.0 event.1 reply t left) run.1 (subst (λ (w : World). IsWork w.kept event.0 event.1 reply between left) run.0 work),
   (refl, refl),
 )
 run_more old mid new held between left (e ∷ events) (r ∷ replies) event reply run served work =

@@ -183,7 +183,7 @@ pub record IsDriven (end : DriveEnd) (conn : Conn) (old new : FrontState) (strea
   pub stops : StopsAfter end fault calls.reads last after
   pub lines : new.lines ≡ with_line conn (Some after) old.lines
   pub is_run : IsRun old.server.world events run new.server.world
-  pub work : IsWorkOfRun old.server.world old.server.tally events run new.server.world new.server.tally
+  pub work : IsWorkOfRun old.server.world old.server.decisions events run new.server.world new.server.decisions
   pub headline : IsIsolated old.server.world new.server.world events run
   pub beside_refusals : IsIsolatedBesideRefusals old.server.world new.server.world events run
   pub read : HaveRead end calls.reads after now.left

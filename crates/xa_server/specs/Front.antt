@@ -16,27 +16,27 @@ use Rattle.xa_server.specs.declared.front_error.FrontError.TheVariants.{Memory, 
 use Rattle.xa_server.specs.declared.lines.Conn.{Conn}
 use Rattle.xa_server.specs.declared.replies.Reply.{Reply}
 use Rattle.xa_server.specs.declared.replies.Reply.TheVariants.{Sent}
+use Rattle.xa_server.specs.Decisions.{DecisionsModel}
 use Rattle.xa_server.specs.ErrorCode.{code_of_session_fault, error_reply}
 use Rattle.xa_server.specs.Isolation.{IsIsolated, IsIsolatedBesideRefusals}
 use Rattle.xa_server.specs.Lines.{IsClosed, IsHeld, IsOpen, IsOpened, Lines, line_at, with_line}
 use Rattle.xa_server.specs.Served.{IsRun, IsServed}
-use Rattle.xa_server.specs.Tally.{Tally}
 use Rattle.xa_server.specs.Work.{IsWork, IsWorkOfRun}
-use Rattle.xa_server.specs.World.{Serving, World, world}
+use Rattle.xa_server.specs.World.{ServerModel, World, world}
 
 -- a front as contracts see it: its server, and its connections
-pub record Fronted (R : Type 0) : Type 0 where
-  pub server : Serving R
+pub record FrontModel (R : Type 0) : Type 0 where
+  pub server : ServerModel R
   pub lines : Lines
 
 -- what is known of a server: its world, and its cached decisions with their counts
 pub record ServerState : Type 0 where
   pub world : World
-  pub tally : Tally
+  pub decisions : DecisionsModel
 
 -- of a server, by what its keeper keeps
-abbrev pub server_state : {R : Type 0} → (R → Custody) → Serving R → ServerState
-server_state custody server = record { world = world custody server; tally = server.tally }
+abbrev pub server_state : {R : Type 0} → (R → Custody) → ServerModel R → ServerState
+server_state custody server = record { world = world custody server; decisions = server.decisions }
 
 -- what is known of a front: its server, and its connections
 pub record FrontState : Type 0 where
@@ -44,7 +44,7 @@ pub record FrontState : Type 0 where
   pub lines : Lines
 
 -- of a front, by what its keeper keeps
-abbrev pub front_state : {R : Type 0} → (R → Custody) → Fronted R → FrontState
+abbrev pub front_state : {R : Type 0} → (R → Custody) → FrontModel R → FrontState
 front_state custody front = record { server = server_state custody front.server; lines = front.lines }
 
 -- what a connection is answered, by what its session gives next: a message is served, and a fault has its reply;
@@ -52,7 +52,7 @@ front_state custody front = record { server = server_state custody front.server;
 abbrev pub IsGiven : ℤ → ServerState → Next → Stream → Option Answer → ServerState → Type 0
 IsGiven moment old (next.Message message) after (Some answer) new =
     IsServed old.world new.world moment message answer.reply
-    × IsWork old.world.kept moment message answer.reply old.tally new.tally × (answer.last ≡ after.ended)
+    × IsWork old.world.kept moment message answer.reply old.decisions new.decisions × (answer.last ≡ after.ended)
 IsGiven moment old (next.Fault fault) after (Some answer) new =
     (answer.reply ≡ Sent (error_reply (code_of_session_fault fault))) × (answer.last ≡ true) × (new ≡ old)
 IsGiven moment old next.More after None new = new ≡ old
@@ -114,8 +114,8 @@ pub record IsPlayed (old new : FrontState) (events : List Event) (outcomes : Lis
   pub nexts : List (Option Next)
   pub plays : Plays events outcomes nexts old new
   pub run : IsRun old.server.world (messages_cut events nexts) (replies_given nexts outcomes) new.server.world
-  pub work : IsWorkOfRun old.server.world old.server.tally (messages_cut events nexts)
-      (replies_given nexts outcomes) new.server.world new.server.tally
+  pub work : IsWorkOfRun old.server.world old.server.decisions (messages_cut events nexts)
+      (replies_given nexts outcomes) new.server.world new.server.decisions
   pub headline : IsIsolated old.server.world new.server.world (messages_cut events nexts) (replies_given nexts outcomes)
   pub beside_refusals :
       IsIsolatedBesideRefusals old.server.world new.server.world (messages_cut events nexts)

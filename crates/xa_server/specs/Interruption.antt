@@ -8,7 +8,7 @@ use Rattle.xa_server.specs.declared.replies.Reply.{Reply}
 use Rattle.xa_server.specs.declared.replies.Reply.TheVariants.{Sent, Refused}
 use Rattle.xa_server.specs.Isolation.{answered_events}
 use Rattle.xa_server.specs.Served.{IsServed, state}
-use Rattle.xa_server.specs.World.{Serving, World, world}
+use Rattle.xa_server.specs.World.{ServerModel, World, world}
 
 -- each domain is in the state in which its own machine, used by it alone, leaves it after these messages
 abbrev pub AreStatesAfter : World → List Event → Kept → Type 0
@@ -17,7 +17,7 @@ AreStatesAfter old events left =
 
 module _ {R : Type 0} (custody : R → Custody) where
   -- a message was served: these are clauses of `Server::serve`
-  pub record Serves (old new : Serving R) (event : Event) (reply : Reply) : Type 0 where
+  pub record Serves (old new : ServerModel R) (event : Event) (reply : Reply) : Type 0 where
     pub served : (custody new.records).sound → IsServed (world custody old) (world custody new) event.0 event.1 reply
     pub clean : (custody new.records).clean → (custody old.records).clean
     pub stays : (custody new.records).clean → (custody old.records).sound → IfSent reply (custody new.records).sound
@@ -25,29 +25,29 @@ module _ {R : Type 0} (custody : R → Custody) where
         → LeavesStep (custody old.records).may_leave (custody new.records).may_leave (world custody old) event.0 event.1
 
   -- after a refusal the keeper is sound still; after another reply it is by itself
-  abbrev pub StaysSound : Serving R → Reply → Type 0
+  abbrev pub StaysSound : ServerModel R → Reply → Type 0
   StaysSound new (Sent bytes) = Unit {0}
   StaysSound new (Refused failure) = (custody new.records).sound
 
   -- these messages were served one after another, and each time it went on
-  abbrev pub ServesAll : Serving R → List Event → List Reply → Serving R → Type 0
+  abbrev pub ServesAll : ServerModel R → List Event → List Reply → ServerModel R → Type 0
   ServesAll old [] [] new = new ≡ old
   ServesAll old (event ∷ events) (reply ∷ replies) new =
-      (mid : Serving R) × Serves old mid event reply × StaysSound mid reply × ServesAll mid events replies new
+      (mid : ServerModel R) × Serves old mid event reply × StaysSound mid reply × ServesAll mid events replies new
   ServesAll old [] (_ ∷ _) new = ⊥
   ServesAll old (_ ∷ _) [] new = ⊥
 
   -- these messages were served, and then one more, whatever its reply: in it, or after it, the server crashes
-  pub record IsInterrupted (old new : Serving R) (events : List Event) (replies : List Reply) (last : Event)
+  pub record IsInterrupted (old new : ServerModel R) (events : List Event) (replies : List Reply) (last : Event)
       (reply : Reply) : Type 0 where
     pub sound : (custody old.records).sound
-    pub mid : Serving R
+    pub mid : ServerModel R
     pub before : ServesAll old events replies mid
     pub stopped : Serves mid new last reply
     pub clean : (custody new.records).clean
 
   -- of messages of which so many were answered
-  pub record LeavesFirst (old new : Serving R) (messages : List Event) (answered : ℕ) : Type 0 where
+  pub record LeavesFirst (old new : ServerModel R) (messages : List Event) (answered : ℕ) : Type 0 where
     -- a crash leaves the states after the first k messages, for some k: those that were answered are among them
     pub states : (left : Kept) → (custody new.records).may_leave left
         → (k : ℕ) × (answered ≤ k) × AreStatesAfter (world custody old) (take k messages) left
@@ -55,9 +55,9 @@ module _ {R : Type 0} (custody : R → Custody) where
     pub some : (other : Kept) × ¬ (custody new.records).may_leave other
 
   -- wherever a list of messages is interrupted: those before the last that were refused are as if they had never come
-  abbrev pub KeepsAnswered : Serving R → Type 0
+  abbrev pub KeepsAnswered : ServerModel R → Type 0
   KeepsAnswered old =
-      (new : Serving R) (events : List Event) (replies : List Reply) (last : Event) (reply : Reply)
+      (new : ServerModel R) (events : List Event) (replies : List Reply) (last : Event) (reply : Reply)
       → IsInterrupted old new events replies last reply
       → LeavesFirst old new (answered_events events replies ++ last ∷ [])
       (length (answered_events (events ++ last ∷ []) (replies ++ reply ∷ [])))

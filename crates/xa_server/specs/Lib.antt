@@ -6,7 +6,7 @@ pub mod DocumentKey
 pub mod View
 pub mod Machine
 pub mod Alone
-pub mod Tally
+pub mod Decisions
 pub mod World
 pub mod Served
 pub mod Crash
@@ -17,7 +17,7 @@ pub mod ValidCache
 pub mod Work
 pub mod Views
 pub mod Gates
-pub mod Stock
+pub mod Resources
 pub mod Connection
 pub mod Lines
 pub mod Front

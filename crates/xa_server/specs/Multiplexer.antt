@@ -5,14 +5,14 @@ use Rattle.xa_server.specs.declared.event.Outcome.{Outcome}
 use Rattle.xa_server.specs.declared.event.Outcome.TheVariants as outcome
 use Rattle.xa_server.specs.declared.front_error.FrontError.{FrontError}
 use Rattle.xa_server.specs.declared.front_error.FrontError.TheVariants.{Memory}
-use Rattle.xa_server.specs.Front.{Fronted}
+use Rattle.xa_server.specs.Front.{FrontModel}
 
 -- a front is sound if its keeper is
-abbrev pub front_is_sound : {R : Type 0} → (R → Custody) → Fronted R → Type 0
+abbrev pub front_is_sound : {R : Type 0} → (R → Custody) → FrontModel R → Type 0
 front_is_sound custody front = (custody front.server.records).sound
 
 -- and goes on if that can
-abbrev pub front_goes_on : {R : Type 0} → (R → Custody) → Fronted R → Bool
+abbrev pub front_goes_on : {R : Type 0} → (R → Custody) → FrontModel R → Bool
 front_goes_on custody front = (custody front.server.records).is_open
 
 -- whether a call has found memory, by its result

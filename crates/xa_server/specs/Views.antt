@@ -9,7 +9,7 @@ use Rattle.xa_decide.specs.Nodes.{nodes_of_tree}
 use Rattle.xa_server.specs.declared.ready.Ready.{Ready}
 
 -- the views, how many of them there may be, and how many bytes they may take together
-pub record Room : Type 0 where
+pub record ViewsModel : Type 0 where
   pub views : List (ℕ × Ready)
   pub max_count : ℕ
   pub max_bytes : ℕ
@@ -23,12 +23,12 @@ abbrev pub view_ready : ℕ → ℕ → List (ℕ × Ready) → Option Viewed
 view_ready number epoch views = option_and_then (view_if epoch) (lookup (nat_eq number) views)
 
 -- after a use of the view under that number
-abbrev pub touched : ℕ → Room → Room
-touched number room = record room { views = promoted (nat_eq number) room.views }
+abbrev pub touched : ℕ → ViewsModel → ViewsModel
+touched number cached = record cached { views = promoted (nat_eq number) cached.views }
 
 -- with nothing under that number
-abbrev pub without : ℕ → Room → Room
-without number room = record room { views = remove_entry (nat_eq number) room.views }
+abbrev pub without : ℕ → ViewsModel → ViewsModel
+without number cached = record cached { views = remove_entry (nat_eq number) cached.views }
 
 -- how many of the first find room, if there is room for so many views of so many bytes
 abbrev pub fitting_count : ℕ → ℕ → List (ℕ × Ready) → ℕ
@@ -46,9 +46,9 @@ abbrev pub shortened : ℕ → ℕ → List (ℕ × Ready) → List (ℕ × Read
 shortened most bytes views = take (fitting_count most bytes views) views
 
 -- with that view under that number
-abbrev pub with_view : ℕ → Ready → Room → Room
-with_view number ready room =
-    record room { views = shortened room.max_count room.max_bytes (in_front number ready room.views) }
+abbrev pub with_view : ℕ → Ready → ViewsModel → ViewsModel
+with_view number ready cached =
+    record cached { views = shortened cached.max_count cached.max_bytes (in_front number ready cached.views) }
 
 -- a sum, as far as numbers of 64 bits go
 abbrev pub added : ℕ → ℕ → ℕ

@@ -19,10 +19,10 @@ use Rattle.xa_server.specs.declared.error_code.ErrorCode.{ErrorCode}
 use Rattle.xa_server.specs.declared.replies.Reply.{Reply}
 use Rattle.xa_server.specs.declared.replies.Reply.TheVariants.{Sent, Refused}
 use Rattle.xa_server.specs.Alone.{Event}
+use Rattle.xa_server.specs.Decisions.{DecisionsModel}
 use Rattle.xa_server.specs.Machine.{admitted}
 use Rattle.xa_server.specs.Owner.{name_if}
 use Rattle.xa_server.specs.Served.{IsServed}
-use Rattle.xa_server.specs.Tally.{Tally}
 use Rattle.xa_server.specs.View.{view_of}
 use Rattle.xa_server.specs.World.{World}
 
@@ -64,15 +64,15 @@ evaluated_response state body moment = response_of (view_of state) body moment
 -- ---- what becomes of the cached decisions, and of the counts
 
 -- the cached body of the response to that body of a request; one of more than 16,384 bytes isn't looked up
-abbrev pub cached_body : Key → List ℕ → Tally → Option (List ℕ)
-cached_body key body tally = if nat_le (length body) 16_384 then found key tally.cached else None
+abbrev pub cached_body : Key → List ℕ → DecisionsModel → Option (List ℕ)
+cached_body key body decisions = if nat_le (length body) 16_384 then found key decisions.cached else None
 
 -- a look-up makes that decision the newest use
-abbrev pub looked_up : Key → Tally → Tally
-looked_up key tally = record tally { cached = looked key tally.cached }
+abbrev pub looked_up : Key → DecisionsModel → DecisionsModel
+looked_up key decisions = record decisions { cached = looked key decisions.cached }
 
 -- a body that is to be cached is cached, or is counted as not cached
-abbrev pub IsBodyCached : Bool → Key → List ℕ → Tally → Tally → Type 0
+abbrev pub IsBodyCached : Bool → Key → List ℕ → DecisionsModel → DecisionsModel → Type 0
 IsBodyCached true key body old new =
     ((new.cached ≡ kept key body old.cached) × (new.unkept ≡ old.unkept))
     ⊎ ((new.cached ≡ old.cached) × IsOneMore old.unkept new.unkept)
@@ -80,36 +80,36 @@ IsBodyCached false key body old new = (new.cached ≡ old.cached) × (new.unkept
 
 -- a decision was evaluated: it is counted, and cached if it is the same at every moment and neither body is too large.
 -- Of no JSON nothing is evaluated
-abbrev pub IsEvaluated : Key → Option (List ℕ × Bool) → Tally → Tally → Type 0
+abbrev pub IsEvaluated : Key → Option (List ℕ × Bool) → DecisionsModel → DecisionsModel → Type 0
 IsEvaluated key None old new = new ≡ old
 IsEvaluated key (Some (body, timeless)) old new =
     IsOneMore old.evaluations new.evaluations × IsBodyCached (timeless && fits key body) key body old new
 
 -- an ask whose decision is cached, or isn't. One that is refused may have done as much, or nothing
-abbrev pub IsAskWork : Key → Option (List ℕ) → Option (List ℕ × Bool) → Reply → Tally → Tally → Type 0
+abbrev pub IsAskWork : Key → Option (List ℕ) → Option (List ℕ × Bool) → Reply → DecisionsModel → DecisionsModel → Type 0
 IsAskWork key (Some body) worked (Sent _) old new = new ≡ looked_up key old
 IsAskWork key (Some body) worked (Refused _) old new = (new ≡ old) ⊎ (new ≡ looked_up key old)
 IsAskWork key None worked (Sent _) old new = IsEvaluated key worked old new
 IsAskWork key None worked (Refused _) old new = (new ≡ old) ⊎ IsEvaluated key worked old new
 
 -- an ask of a domain; any other message moves nothing
-abbrev pub IsWorkOf : Option Domain → List ℕ → ℤ → Reply → Tally → Tally → Type 0
+abbrev pub IsWorkOf : Option Domain → List ℕ → ℤ → Reply → DecisionsModel → DecisionsModel → Type 0
 IsWorkOf None body moment reply old new = new ≡ old
 IsWorkOf (Some domain) body moment reply old new =
     IsAskWork (cache_key domain body) (cached_body (cache_key domain body) body old)
     (evaluated_response domain.state body moment) reply old new
 
 -- the work of one message
-abbrev pub IsWork : Kept → ℤ → Message → Reply → Tally → Tally → Type 0
+abbrev pub IsWork : Kept → ℤ → Message → Reply → DecisionsModel → DecisionsModel → Type 0
 IsWork kept moment message reply old new =
     IsWorkOf (domain_of_message kept message (route_of message)) message.body moment reply old new
 
 -- the work of one message after another
-abbrev pub IsWorkOfRun : World → Tally → List Event → List Reply → World → Tally → Type 0
-IsWorkOfRun old tally [] [] new left = (new ≡ old) × (left ≡ tally)
-IsWorkOfRun old tally (event ∷ events) (reply ∷ replies) new left =
-    (mid : World) × (between : Tally) × IsServed old mid event.0 event.1 reply
-    × IsWork old.kept event.0 event.1 reply tally between
+abbrev pub IsWorkOfRun : World → DecisionsModel → List Event → List Reply → World → DecisionsModel → Type 0
+IsWorkOfRun old decisions [] [] new left = (new ≡ old) × (left ≡ decisions)
+IsWorkOfRun old decisions (event ∷ events) (reply ∷ replies) new left =
+    (mid : World) × (between : DecisionsModel) × IsServed old mid event.0 event.1 reply
+    × IsWork old.kept event.0 event.1 reply decisions between
     × IsWorkOfRun mid between events replies new left
-IsWorkOfRun old tally [] (_ ∷ _) new left = ⊥
-IsWorkOfRun old tally (_ ∷ _) [] new left = ⊥
+IsWorkOfRun old decisions [] (_ ∷ _) new left = ⊥
+IsWorkOfRun old decisions (_ ∷ _) [] new left = ⊥

@@ -2,7 +2,7 @@
 use Rattle.std.specs.Prelude.{ℕ, List}
 use Rattle.xa_records.specs.Keeper.{Custody}
 use Rattle.xa_records.specs.Kept.{Kept}
-use Rattle.xa_server.specs.Tally.{Tally}
+use Rattle.xa_server.specs.Decisions.{DecisionsModel}
 
 -- the digest of the operator's token, and what is kept of all domains
 pub record World : Type 0 where
@@ -11,11 +11,11 @@ pub record World : Type 0 where
 
 -- a server as contracts see it: the digest of the operator's token, its keeper, and its cached decisions with their
 -- counts
-pub record Serving (R : Type 0) : Type 0 where
+pub record ServerModel (R : Type 0) : Type 0 where
   pub operator : List ℕ
   pub records : R
-  pub tally : Tally
+  pub decisions : DecisionsModel
 
 -- the world of a server, by what its keeper keeps
-abbrev pub world : {R : Type 0} → (R → Custody) → Serving R → World
+abbrev pub world : {R : Type 0} → (R → Custody) → ServerModel R → World
 world custody server = record { operator = server.operator; kept = (custody server.records).kept }

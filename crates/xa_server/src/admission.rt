@@ -5,7 +5,7 @@ ghost use Rattle.xa_records.specs.Readings.{gate_of};
 ghost use Rattle.xa_server.specs.Gates.{revision_of};
 ghost use Rattle.xa_server.specs.handling.Replying.{OnlyReads, Opens, Tells, admitted_by};
 ghost use Rattle.xa_server.specs.Machine.{admitted, by_operator, digest_shown, permitted};
-ghost use Rattle.xa_server.specs.Stock.{AllStand};
+ghost use Rattle.xa_server.specs.Resources.{AllStand};
 
 use crate::authorization::token_in;
 use crate::error_code::ErrorCode;
@@ -102,8 +102,8 @@ pub(crate) fn admit_ask<R: Records>(
         (admitted true (state_of name.now (R.custody records.old).kept) message.now) }
     ensures stands { AllStand (R.custody records.old).kept resources.old → (R.custody records.new).sound
         → AllStand (R.custody records.old).kept resources.new }
-    ensures tally { resources.new.tally ≡ resources.old.tally }
-    ensures room { resources.new.room ≡ resources.old.room }
+    ensures decisions { resources.new.decisions ≡ resources.old.decisions }
+    ensures views { resources.new.views ≡ resources.old.views }
     ensures keeper { OnlyReads (R.custody records.old) (R.custody records.new) result }
 {
     let digest = digest_shown(message).ok_or(ErrorCode::Unauthorized)?;

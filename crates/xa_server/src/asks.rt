@@ -24,7 +24,7 @@ ghost use Rattle.xa_server.specs.handling.Asking.{IsResponseReply, MakesReady, e
 ghost use Rattle.xa_server.specs.handling.Asking.{key_within, reply_asked, response_asked};
 ghost use Rattle.xa_server.specs.handling.Replying.{Answers, OnlyReads, Tells};
 ghost use Rattle.xa_server.specs.Machine.{response_to, told};
-ghost use Rattle.xa_server.specs.Stock.{AllStand};
+ghost use Rattle.xa_server.specs.Resources.{AllStand};
 ghost use Rattle.xa_server.specs.handling.Viewing.{AreKeyed, nothing_viewed};
 ghost use Rattle.xa_server.specs.Views.{added, bytes_of_tree, bytes_of_view};
 ghost use Rattle.xa_server.specs.Work.{cached_body};
@@ -176,10 +176,10 @@ fn reply_by_new_view<R: Records>(
     ensures works { (R.custody records.new).sound
         → IsFresh (key_asked read.entry.ask.now read.entry.body)
         (evaluated_asked (R.custody records.old).kept read.entry.ask.now read.entry.body)
-        result resources.old.tally resources.new.tally }
+        result resources.old.decisions resources.new.decisions }
     ensures stands { IfLetIn (R.custody records.old) (R.custody records.new) read.entry.ask.now resources.old
         (AllStand (R.custody records.old).kept resources.new) }
-    ensures room { OnErr result (resources.new.room ≡ resources.old.room) }
+    ensures views { OnErr result (resources.new.views ≡ resources.old.views) }
     ensures keeper { OnlyReads (R.custody records.old) (R.custody records.new) result }
 {
     if resources.texts.oversized.has(read.ask.revision) {
@@ -274,12 +274,12 @@ pub(crate) fn reply_to_ask<R: Records>(
         ((R.custody records.new).kept ≡ (R.custody records.old).kept) }
     ensures works { IfLetIn (R.custody records.old) (R.custody records.new) ask.now resources.old
         (IsAsked (key_asked ask.now body.now)
-        (cached_body (key_asked ask.now body.now) body.now resources.old.tally)
+        (cached_body (key_asked ask.now body.now) body.now resources.old.decisions)
         (evaluated_asked (R.custody records.old).kept ask.now body.now) result
-        resources.old.tally resources.new.tally) }
+        resources.old.decisions resources.new.decisions) }
     ensures stands { IfLetIn (R.custody records.old) (R.custody records.new) ask.now resources.old
         (AllStand (R.custody records.old).kept resources.new) }
-    ensures room { OnErr result (resources.new.room ≡ resources.old.room) }
+    ensures views { OnErr result (resources.new.views ≡ resources.old.views) }
     ensures keeper { OnlyReads (R.custody records.old) (R.custody records.new) result }
 {
     let Some(key) = key_within(alloc, ask.revision, body)? else {

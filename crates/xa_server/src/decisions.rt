@@ -2,7 +2,7 @@
 ghost use Rattle.std.specs.Prelude.{◌≡◌, true, option_map, IfOk};
 ghost use Rattle.xa_cache.specs.Bodies.{found};
 ghost use Rattle.xa_server.specs.handling.Asking.{IsLookedUp, IsNoted, key_of_revision, key_within};
-ghost use Rattle.xa_server.specs.Tally.{nothing_cached};
+ghost use Rattle.xa_server.specs.Decisions.{nothing_cached};
 ghost use Rattle.xa_server.specs.Work.{IsBodyCached};
 ghost use Rattle.xa_server.specs.Replies.{decision_reply};
 
@@ -33,9 +33,9 @@ pub(crate) struct Decisions {
 impl Model for Decisions {
     ghost use Rattle.std.specs.Coded.{codes};
     ghost use Rattle.xa_cache.specs.contracts.cache.Cache as bodies;
-    ghost use Rattle.xa_server.specs.Tally.{Tally};
+    ghost use Rattle.xa_server.specs.Decisions.{DecisionsModel};
 
-    ghost Value = { Tally };
+    ghost Value = { DecisionsModel };
 
     ghost coded = { Prim.hlevel (codes, bodies.the_row.coded) };
 

@@ -37,9 +37,9 @@ pub struct Front<R: Records> {
 
 impl<R: Records> Model for Front<R> {
     ghost use Rattle.std.specs.Coded.{codes};
-    ghost use Rattle.xa_server.specs.Front.{Fronted};
+    ghost use Rattle.xa_server.specs.Front.{FrontModel};
 
-    ghost Value = { Fronted R };
+    ghost Value = { FrontModel R };
 
     ghost coded = { Prim.hlevel (codes, R.code) };
 

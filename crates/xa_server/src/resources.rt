@@ -3,7 +3,7 @@
 ghost use Rattle.std.specs.Prelude.{◌≡◌, ◌⊎◌, [], IfOk, IsSome, None, bytes_eq};
 ghost use Rattle.std.specs.Map.{lookup};
 ghost use Rattle.xa_server.specs.Gates.{revision_in};
-ghost use Rattle.xa_server.specs.Stock.{empty_stock, forgetting, remembering, using_gate};
+ghost use Rattle.xa_server.specs.Resources.{empty_resources, forgetting, remembering, using_gate};
 
 use crate::decisions::Decisions;
 use crate::gates::Gates;
@@ -47,19 +47,19 @@ impl Model for Resources {
     ghost use Rattle.xa_server.specs.contracts.decisions.Decisions as held;
     ghost use Rattle.xa_server.specs.contracts.gates.Gates as known;
     ghost use Rattle.xa_server.specs.contracts.views.Views as ready;
-    ghost use Rattle.xa_server.specs.Stock.{Stock};
+    ghost use Rattle.xa_server.specs.Resources.{ResourcesModel};
 
-    ghost Value = { Stock };
+    ghost Value = { ResourcesModel };
 
     ghost coded = { Prim.hlevel (codes, held.the_row.coded, ready.the_row.coded, known.the_row.coded) };
 
-    ghost view = { λ r. record { tally = r.decisions; room = r.views; gates = r.gates } };
+    ghost view = { λ r. record { decisions = r.decisions; views = r.views; gates = r.gates } };
 }
 
 impl Resources {
     /// Nothing is cached yet, and a decision may cost anything.
     pub(crate) fn new(alloc: Global, operator: Digest) -> Result<Resources, AllocError>
-        ensures { IfOk result (λ r. r ≡ empty_stock) }
+        ensures { IfOk result (λ r. r ≡ empty_resources) }
     {
         Ok(Resources {
             texts: Texts {
@@ -76,11 +76,11 @@ impl Resources {
     /// From now on with these limits. The cached views had others; none is cached any longer.
     pub(crate) fn set_limits(&mut self, limits: Limits)
         ensures { self.new ≡ record {
-          tally = self.old.tally;
-          room = record {
+          decisions = self.old.decisions;
+          views = record {
             views = [];
-            max_count = self.old.room.max_count;
-            max_bytes = self.old.room.max_bytes;
+            max_count = self.old.views.max_count;
+            max_bytes = self.old.views.max_bytes;
           };
           gates = self.old.gates;
         } }

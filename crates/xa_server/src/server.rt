@@ -32,24 +32,25 @@ pub struct Server<R: Records> {
 
 impl<R: Records> Model for Server<R> {
     ghost use Rattle.std.specs.Coded.{codes};
-    ghost use Rattle.xa_server.specs.Stock.{AllStand};
-    ghost use Rattle.xa_server.specs.World.{Serving};
+    ghost use Rattle.xa_server.specs.Resources.{AllStand};
+    ghost use Rattle.xa_server.specs.World.{ServerModel};
     ghost use Rattle.xa_server.specs.contracts.resources.Resources as shared;
 
-    ghost Value = { Serving R };
+    ghost Value = { ServerModel R };
 
     ghost coded = { Prim.hlevel (codes, R.code, shared.the_row.coded) };
 
-    ghost view = { λ s. record { operator = s.operator; records = s.records; tally = s.resources.tally } };
+    ghost view = { λ s.
+        record { operator = s.operator; records = s.records; decisions = s.resources.decisions } };
 
     ghost invariant = { λ s. (R.custody s.records).sound → AllStand (R.custody s.records).kept s.resources };
 }
 
 impl<R: Records> Server<R> {
     ghost use Rattle.xa_server.specs.Crash.{IfSent, LeavesStep};
+    ghost use Rattle.xa_server.specs.Decisions.{nothing_cached};
     ghost use Rattle.xa_server.specs.Isolation.{IsIsolated, IsIsolatedBesideRefusals};
     ghost use Rattle.xa_server.specs.Served.{CountsReply, IsRun, IsServed};
-    ghost use Rattle.xa_server.specs.Tally.{nothing_cached};
     ghost use Rattle.xa_server.specs.Work.{IsWork, IsWorkOfRun};
     ghost use Rattle.xa_server.specs.World.{world};
 
@@ -58,7 +59,7 @@ impl<R: Records> Server<R> {
     pub fn new(alloc: Global, records: R, operator: Digest) -> Result<Server<R>, AllocFailed<R>>
         ensures { MatchResult result
             (λ server.
-            (server.records ≡ records) × (server.operator ≡ operator) × (server.tally ≡ nothing_cached))
+            (server.records ≡ records) × (server.operator ≡ operator) × (server.decisions ≡ nothing_cached))
             (λ failed. failed.value ≡ records) }
     {
         let Ok(routes) = Routes::new(alloc) else {
@@ -95,7 +96,7 @@ impl<R: Records> Server<R> {
             (R.custody self.old.records).faults (R.custody self.new.records).faults result }
         ensures work { (R.custody self.new.records).sound
             → IsWork (R.custody self.old.records).kept moment message.now result
-            self.old.tally self.new.tally }
+            self.old.decisions self.new.decisions }
     {
         let received = Received {
             operator: self.operator,
@@ -124,8 +125,8 @@ impl<R: Records> Server<R> {
         ensures run { IfOk result (λ replies. (R.custody self.new.records).sound
             → IsRun (world R.custody self.old) events.now replies.items (world R.custody self.new)) }
         ensures work { IfOk result (λ replies. (R.custody self.new.records).sound
-            → IsWorkOfRun (world R.custody self.old) self.old.tally events.now replies.items
-            (world R.custody self.new) self.new.tally) }
+            → IsWorkOfRun (world R.custody self.old) self.old.decisions events.now replies.items
+            (world R.custody self.new) self.new.decisions) }
         ensures sound { (R.custody self.new.records).sound → (R.custody self.old.records).sound }
         ensures err { OnErr result (self.new ≡ self.old) }
     {
@@ -154,14 +155,14 @@ impl<R: Records> Server<R> {
 
     /// How many decisions were evaluated; it stops at `u64::MAX`.
     pub fn evaluations(&self) -> u64
-        ensures { result ≡ self.now.tally.evaluations }
+        ensures { result ≡ self.now.decisions.evaluations }
     {
         self.resources.decisions.evaluations()
     }
 
     /// How many decisions were to be cached, and weren't for want of memory; it stops at `u64::MAX`.
     pub fn unkept(&self) -> u64
-        ensures { result ≡ self.now.tally.unkept }
+        ensures { result ≡ self.now.decisions.unkept }
     {
         self.resources.decisions.unkept()
     }

@@ -24,7 +24,7 @@ const DEFAULT_TOTAL_BYTES: usize = 268_435_456;
 #[derive(Drop)]
 pub(crate) struct Views {
     /// The views, the one that was used last first.
-    ready: LruCache<u64, Ready>,
+    views: LruCache<u64, Ready>,
     /// How many of them there may be.
     max_count: usize,
     /// How many bytes they may take together, by their estimates.
@@ -35,16 +35,16 @@ impl Model for Views {
     ghost use Rattle.std.specs.Prelude.{◌≡◌, ◌-◌, ◌^◌};
     ghost use Rattle.std.specs.Coded.{codes};
     ghost use Rattle.xa_server.specs.contracts.ready.Ready as entry;
-    ghost use Rattle.xa_server.specs.Views.{Room};
+    ghost use Rattle.xa_server.specs.Views.{ViewsModel};
 
-    ghost Value = { Room };
+    ghost Value = { ViewsModel };
 
     ghost coded = { Prim.hlevel (codes, entry.the_row.coded) };
 
     ghost view = { λ v.
-        record { views = v.ready.entries; max_count = v.max_count; max_bytes = v.max_bytes } };
+        record { views = v.views.entries; max_count = v.max_count; max_bytes = v.max_bytes } };
 
-    ghost invariant = { λ v. v.ready.cap ≡ 2 ^ 64 - 1 };
+    ghost invariant = { λ v. v.views.cap ≡ 2 ^ 64 - 1 };
 }
 
 impl Views {
@@ -54,7 +54,7 @@ impl Views {
             views ≡ record { views = []; max_count = 128; max_bytes = 268_435_456 }) }
     {
         Ok(Views {
-            ready: LruCache::unbounded(alloc)?,
+            views: LruCache::unbounded(alloc)?,
             max_count: MAX_VIEWS,
             max_bytes: DEFAULT_TOTAL_BYTES,
         })
@@ -65,7 +65,7 @@ impl Views {
         ensures { self.new
             ≡ record { views = []; max_count = self.old.max_count; max_bytes = self.old.max_bytes } }
     {
-        self.ready.clear();
+        self.views.clear();
     }
 
     /// None is cached any longer, and there is room for `most`, or for 128, whichever is less.
@@ -89,7 +89,7 @@ impl Views {
         ensures { option_map (λ view. view.now) result
             ≡ view_ready revision.number revision.epoch self.now.views }
     {
-        match self.ready.peek(&revision.number) {
+        match self.views.peek(&revision.number) {
             Some(ready) if ready.revision.epoch == revision.epoch => Some(&ready.view),
             _ => None,
         }
@@ -99,7 +99,7 @@ impl Views {
     pub(crate) fn touch(&mut self, number: u64)
         ensures { self.new ≡ touched number self.old }
     {
-        self.ready.promote(&number);
+        self.views.promote(&number);
     }
 
     /// Caches the view under its domain's number, in the place of any that was there, as the one that was
@@ -114,14 +114,14 @@ impl Views {
     {
         let number = ready.revision.number;
         if self.max_count == 0 || ready.bytes > self.max_bytes {
-            self.ready.pop(&number);
+            self.views.pop(&number);
             return false;
         }
-        if !put(&mut self.ready, number, ready) {
-            self.ready.pop(&number);
+        if !put(&mut self.views, number, ready) {
+            self.views.pop(&number);
             return false;
         }
-        shorten(&mut self.ready, self.max_count, self.max_bytes);
+        shorten(&mut self.views, self.max_count, self.max_bytes);
         true
     }
 }

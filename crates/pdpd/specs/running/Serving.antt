@@ -2,7 +2,7 @@
 use Rattle.std.specs.Prelude.{ℕ, ◌⊎◌}
 use Rattle.xa_records.specs.Keeper.{Custody}
 use Rattle.xa_server.specs.Driven.{Known}
-use Rattle.xa_server.specs.Front.{FrontState, Fronted}
+use Rattle.xa_server.specs.Front.{FrontModel, FrontState}
 use Rattle.pdpd.specs.declared.fault.Fault.{Fault}
 use Rattle.pdpd.specs.declared.serve.setting.Setting.TheVariants.{Work, Reply, Reading, Views, Idle}
 use Rattle.pdpd.specs.Connections.{AreIsolated, IsConnectionServed}
@@ -23,5 +23,5 @@ unfoldable pub Serves : ℕ → FrontState → FrontState → Type 0
 Serves count old new = AreIsolated count old new
 
 -- the keeper behind a front holds what it is told to hold: it did before, if it does afterwards
-abbrev pub WasSound : {R : Type 0} → (R → Custody) → Fronted R → Fronted R → Type 0
+abbrev pub WasSound : {R : Type 0} → (R → Custody) → FrontModel R → FrontModel R → Type 0
 WasSound custody old new = (custody new.server.records).sound → (custody old.server.records).sound

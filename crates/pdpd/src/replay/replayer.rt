@@ -4,9 +4,9 @@ ghost use Rattle.std.specs.Prelude.{Some, length, slice_get, slice_set};
 ghost use Rattle.std.specs.Io.Buffered.{writer_buffer, writer_contents, writer_inner};
 ghost use Rattle.sha2.specs.Sha256.{sha256};
 ghost use Rattle.xa_http.specs.Stream.{fed};
+ghost use Rattle.xa_server.specs.Decisions.{nothing_cached};
 ghost use Rattle.xa_server.specs.Front.{front_state, server_state};
 ghost use Rattle.xa_server.specs.Lines.{none_open};
-ghost use Rattle.xa_server.specs.Tally.{nothing_cached};
 ghost use Rattle.pdpd.specs.Exit.{breaks_off};
 ghost use Rattle.pdpd.specs.Replay.{all_open};
 ghost use Rattle.pdpd.specs.running.Replaying.{AreReady, IsReady, StaysReady, Takes, TakesAsHeld, TakesOpen};
@@ -51,7 +51,7 @@ impl<R: Records + Drop, W: Write + Drop> Replayer<R, W> {
     pub fn new(alloc: Global, records: R, writer: W, token: &str) -> Result<Replayer<R, W>, Exit>
         ensures operator { IfOk result (λ replayer. replayer.front.server.operator ≡ sha256 token.now) }
         ensures records { IfOk result (λ replayer. replayer.front.server.records ≡ records) }
-        ensures tally { IfOk result (λ replayer. replayer.front.server.tally ≡ nothing_cached) }
+        ensures decisions { IfOk result (λ replayer. replayer.front.server.decisions ≡ nothing_cached) }
         ensures closed { IfOk result (λ replayer. replayer.front.lines ≡ none_open) }
         ensures writer { IfOk result (λ replayer. writer_inner replayer.writer ≡ writer) }
         ensures unwritten { IfOk result (λ replayer. writer_buffer replayer.writer ≡ []) }

@@ -1,7 +1,7 @@
 //! What an operator has set of a server, and the front of such a server.
 ghost use Rattle.std.specs.Prelude.{◌≡◌, IfErr, IfOk};
+ghost use Rattle.xa_server.specs.Decisions.{nothing_cached};
 ghost use Rattle.xa_server.specs.Lines.{none_open};
-ghost use Rattle.xa_server.specs.Tally.{nothing_cached};
 ghost use Rattle.pdpd.specs.declared.fault.Fault.TheVariants.{Memory};
 ghost use Rattle.pdpd.specs.running.Serving.{IsOfSettings};
 
@@ -61,7 +61,7 @@ fn front_over<R: Records + Drop>(
 ) -> Result<Front<R>, Fault>
     ensures operator { IfOk result (λ front. front.server.operator ≡ operator) }
     ensures records { IfOk result (λ front. front.server.records ≡ records) }
-    ensures tally { IfOk result (λ front. front.server.tally ≡ nothing_cached) }
+    ensures decisions { IfOk result (λ front. front.server.decisions ≡ nothing_cached) }
     ensures closed { IfOk result (λ front. front.lines ≡ none_open) }
     ensures err { IfErr result (λ fault. fault ≡ Memory) }
 {
@@ -83,7 +83,7 @@ pub fn front_of_tables<S: Alter + Drop>(
     settings: Settings,
 ) -> Result<Front<SqlRecords<S>>, Fault>
     ensures operator { IfOk result (λ front. front.server.operator ≡ operator) }
-    ensures tally { IfOk result (λ front. front.server.tally ≡ nothing_cached) }
+    ensures decisions { IfOk result (λ front. front.server.decisions ≡ nothing_cached) }
     ensures closed { IfOk result (λ front. front.lines ≡ none_open) }
     ensures err { IfErr result (λ fault. fault ≡ Memory) }
 {

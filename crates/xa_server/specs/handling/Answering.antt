@@ -14,7 +14,7 @@ use Rattle.xa_server.specs.declared.replies.Reply.TheVariants.{Sent}
 use Rattle.xa_server.specs.ErrorCode.{code_of_session_fault, error_reply}
 use Rattle.xa_server.specs.Front.{IsGiven, ServerState}
 use Rattle.xa_server.specs.Fronting.{CountsAnswer, IfAnswerSent, LeavesNext, TakesNext}
-use Rattle.xa_server.specs.World.{Serving, World, world}
+use Rattle.xa_server.specs.World.{ServerModel, World, world}
 
 -- a stream takes a piece, whole or not at all, if there is one
 abbrev pub IsFed : Option Stream → List ℕ → Result (Unit {0}) FrontError → Option Stream → Type 0
@@ -75,7 +75,7 @@ pub record IsHandedOn (old new : Custody) (before : World) (moment : ℤ) (line 
   pub counts : CountsAnswer old.faults new.faults result
 
 -- the same of the keeper of a server
-abbrev pub HandsOn : {R : Type 0} → (R → Custody) → Serving R → Serving R → ℤ → Option Stream
+abbrev pub HandsOn : {R : Type 0} → (R → Custody) → ServerModel R → ServerModel R → ℤ → Option Stream
     → Result (Option Answer) FrontError → Type 0
 HandsOn custody old new moment line result =
     IsHandedOn (custody old.records) (custody new.records) (world custody old) moment line result

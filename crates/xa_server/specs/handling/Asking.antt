@@ -24,9 +24,9 @@ use Rattle.xa_server.specs.declared.unsuccessful.Unsuccessful.{Unsuccessful}
 use Rattle.xa_server.specs.declared.unsuccessful.Unsuccessful.TheVariants.{Error, Failed}
 use Rattle.xa_server.specs.Gates.{revision_of}
 use Rattle.xa_server.specs.handling.Replying.{OnlyReads, Sharing, Shows}
+use Rattle.xa_server.specs.Decisions.{DecisionsModel}
 use Rattle.xa_server.specs.Replies.{decision_reply}
-use Rattle.xa_server.specs.Stock.{AllStand, Stock}
-use Rattle.xa_server.specs.Tally.{Tally}
+use Rattle.xa_server.specs.Resources.{AllStand, ResourcesModel}
 use Rattle.xa_server.specs.View.{view_of}
 use Rattle.xa_server.specs.Work.{IsEvaluated, cache_key, cached_body, domain_of_message, domain_of_route, looked_up}
 use Rattle.xa_server.specs.Work.{evaluated_response, response_of}
@@ -76,7 +76,7 @@ abbrev pub key_within : Key → Option Key
 key_within key = if nat_le (length key.body) 16_384 then Some key else None
 
 -- a decision was evaluated, and counted; without a key it isn't cached
-abbrev pub IsNoted : Option Key → List ℕ → Bool → Tally → Tally → Type 0
+abbrev pub IsNoted : Option Key → List ℕ → Bool → DecisionsModel → DecisionsModel → Type 0
 IsNoted (Some key) body timeless old new = IsEvaluated key (Some (body, timeless)) old new
 IsNoted None body timeless old new =
     IsOneMore old.evaluations new.evaluations × (new.cached ≡ old.cached) × (new.unkept ≡ old.unkept)
@@ -86,7 +86,7 @@ abbrev pub IsLetIn : Kept → Ask → Type 0
 IsLetIn kept ask = revision_of ask.name.now kept ≡ Some ask.revision
 
 -- this holds if a domain has let it in, if all that the server shares stood before, and if the keeper is sound after
-abbrev pub IfLetIn : Custody → Custody → Ask → Stock → Type 0 → Type 0
+abbrev pub IfLetIn : Custody → Custody → Ask → ResourcesModel → Type 0 → Type 0
 IfLetIn old new ask before claim = IsLetIn old.kept ask → AllStand old.kept before → new.sound → claim
 
 -- the key under which the decision on the body is cached
@@ -109,57 +109,62 @@ reply_asked kept ask body = reply_told body ask.moment (state_of ask.name.now ke
 
 -- the decision was evaluated, with success; by an error answer nothing was there to be evaluated, and a failure has
 -- left all
-abbrev pub IsFresh : Key → Option (List ℕ × Bool) → Result (List ℕ) Unsuccessful → Tally → Tally → Type 0
+abbrev pub IsFresh : Key → Option (List ℕ × Bool) → Result (List ℕ) Unsuccessful → DecisionsModel → DecisionsModel
+    → Type 0
 IsFresh key worked (Ok bytes) old new = IsEvaluated key worked old new
 IsFresh key worked (Err (Error code)) old new = (worked ≡ None) × (new ≡ old)
 IsFresh key worked (Err (Failed failure)) old new = new ≡ old
 
 -- a look-up of a decision that is cached, or isn't
-abbrev pub IsLookedUp : Option (List ℕ) → Key → Tally → Tally → Type 0
+abbrev pub IsLookedUp : Option (List ℕ) → Key → DecisionsModel → DecisionsModel → Type 0
 IsLookedUp None key old new = new ≡ old
 IsLookedUp (Some body) key old new = new ≡ looked_up key old
 
 -- an ask that was let in, whose decision is cached, or isn't
 abbrev pub IsAsked : Key → Option (List ℕ) → Option (List ℕ × Bool) → Result (List ℕ) Unsuccessful
-    → Tally → Tally → Type 0
+    → DecisionsModel → DecisionsModel → Type 0
 IsAsked key (Some body) worked (Ok bytes) old new = new ≡ looked_up key old
 IsAsked key (Some body) worked (Err (Error code)) old new = ⊥
 IsAsked key (Some body) worked (Err (Failed failure)) old new = (new ≡ old) ⊎ (new ≡ looked_up key old)
 IsAsked key None worked result old new = IsFresh key worked result old new
 
 -- an ask that was let in was answered by a decision that is evaluated
-pub record FreshReply (old new : Custody) (ask : Ask) (body : List ℕ) (before after : Stock)
+pub record FreshReply (old new : Custody) (ask : Ask) (body : List ℕ) (before after : ResourcesModel)
     (result : Result (List ℕ) Unsuccessful) : Type 0 where
   pub tells : IfLetIn old new ask before (Shows old.kept new.kept result (reply_asked old.kept ask body))
   pub works : IfLetIn old new ask before
-      (IsFresh (key_asked ask body) (evaluated_asked old.kept ask body) result before.tally after.tally)
+      (IsFresh (key_asked ask body) (evaluated_asked old.kept ask body) result before.decisions after.decisions)
   pub stands : IfLetIn old new ask before (AllStand old.kept after)
-  pub room : OnErr result (after.room ≡ before.room)
+  pub views : OnErr result (after.views ≡ before.views)
   pub keeper : OnlyReads old new result
 
 -- ---- what was done to cached decisions
 
 -- by a message, by the domain that it asks
-abbrev pub WorksOf : Option Domain → List ℕ → ℤ → Result (List ℕ) Unsuccessful → Tally → Tally → Type 0
+abbrev pub WorksOf : Option Domain → List ℕ → ℤ → Result (List ℕ) Unsuccessful → DecisionsModel → DecisionsModel
+    → Type 0
 WorksOf None body moment result old new = new ≡ old
 WorksOf (Some domain) body moment result old new =
     IsAsked (cache_key domain body) (cached_body (cache_key domain body) body old)
     (evaluated_response domain.state body moment) result old new
 
-abbrev pub WorksRoute : Received → Kept → Route → Result (List ℕ) Unsuccessful → Tally → Tally → Type 0
+abbrev pub WorksRoute : Received → Kept → Route → Result (List ℕ) Unsuccessful → DecisionsModel → DecisionsModel
+    → Type 0
 WorksRoute received kept route result old new =
     WorksOf (domain_of_route kept received.message.now route) received.message.now.body received.moment result old new
 
-abbrev pub WorksMessage : Received → Kept → Result (List ℕ) Unsuccessful → Tally → Tally → Type 0
+abbrev pub WorksMessage : Received → Kept → Result (List ℕ) Unsuccessful → DecisionsModel → DecisionsModel → Type 0
 WorksMessage received kept result old new =
     WorksOf (domain_of_message kept received.message.now (route_of received.message.now)) received.message.now.body
     received.moment result old new
 
 -- and what is told of all that a server shares, after a message that asks for this, or after a message
-abbrev pub SharesRoute : Custody → Custody → Received → Route → Stock → Stock → Result (List ℕ) Unsuccessful → Type 0
+abbrev pub SharesRoute : Custody → Custody → Received → Route → ResourcesModel → ResourcesModel
+    → Result (List ℕ) Unsuccessful → Type 0
 SharesRoute old new received route before after result =
-    Sharing old new before after result (WorksRoute received old.kept route result before.tally after.tally)
+    Sharing old new before after result (WorksRoute received old.kept route result before.decisions after.decisions)
 
-abbrev pub SharesMessage : Custody → Custody → Received → Stock → Stock → Result (List ℕ) Unsuccessful → Type 0
+abbrev pub SharesMessage : Custody → Custody → Received → ResourcesModel → ResourcesModel
+    → Result (List ℕ) Unsuccessful → Type 0
 SharesMessage old new received before after result =
-    Sharing old new before after result (WorksMessage received old.kept result before.tally after.tally)
+    Sharing old new before after result (WorksMessage received old.kept result before.decisions after.decisions)

@@ -122,7 +122,7 @@ pub record GoesOn (count : ℕ) (conn : Conn) (old new : FrontState) (stream aft
   pub lines : new.lines ≡ with_line conn (Some after) old.lines
   pub opens : IsOpen conn new.lines after
   pub is_run : IsRun old.server.world events run new.server.world
-  pub work : IsWorkOfRun old.server.world old.server.tally events run new.server.world new.server.tally
+  pub work : IsWorkOfRun old.server.world old.server.decisions events run new.server.world new.server.decisions
   pub read : All IsReadOn calls.reads
   pub counted : length calls.reads ≡ count
   pub told : calls.told ≡ map Some (moments_of events)

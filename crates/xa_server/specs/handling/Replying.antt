@@ -19,9 +19,9 @@ use Rattle.xa_server.specs.declared.replies.Reply.{Reply}
 use Rattle.xa_server.specs.declared.replies.Reply.TheVariants.{Sent, Refused}
 use Rattle.xa_server.specs.ErrorCode.{error_reply}
 use Rattle.xa_server.specs.Owner.{name_if, owner}
-use Rattle.xa_server.specs.Stock.{AllStand, Stock}
 use Rattle.xa_server.specs.Machine.{Answer, answer, by_route, general_answer, general_by_route, or_body_fault}
 use Rattle.xa_server.specs.Machine.{permitted}
+use Rattle.xa_server.specs.Resources.{AllStand, ResourcesModel}
 
 -- what is made of what a body says, or its fault
 abbrev pub by_body : {X : Type 0} → (X → Option DomainState → Answer) → Result X NotationError → Option DomainState
@@ -79,12 +79,12 @@ AnswersMessage received old new (Some name) result =
     Answers old new name result (answer received.operator (state_of name old) received.message.now received.moment)
 
 -- the same, if all that the server shares stood before and the keeper is sound after
-abbrev pub TellsRoute : Custody → Custody → Received → Stock → Option (List ℕ) → Route → Result (List ℕ) Unsuccessful
-    → Type 0
+abbrev pub TellsRoute : Custody → Custody → Received → ResourcesModel → Option (List ℕ) → Route
+    → Result (List ℕ) Unsuccessful → Type 0
 TellsRoute old new received before name route result =
     AllStand old.kept before → new.sound → AnswersRoute received old.kept new.kept name route result
 
-abbrev pub TellsMessage : Custody → Custody → Received → Stock → Result (List ℕ) Unsuccessful → Type 0
+abbrev pub TellsMessage : Custody → Custody → Received → ResourcesModel → Result (List ℕ) Unsuccessful → Type 0
 TellsMessage old new received before result =
     AllStand old.kept before → new.sound
     → AnswersMessage received old.kept new.kept (owner received.message.now) result
@@ -167,17 +167,17 @@ KeepsMessage old new received result =
 
 -- what is told of all that a server shares, after a part of a message was handled before which all of it stood: this
 -- was done to cached decisions, and all still stands; without success the views are as they were
-pub record Sharing {X : Type 0} (old new : Custody) (before after : Stock) (result : Result X Unsuccessful)
+pub record Sharing {X : Type 0} (old new : Custody) (before after : ResourcesModel) (result : Result X Unsuccessful)
     (works_so : Type 0) : Type 0 where
   pub works : AllStand old.kept before → new.sound → works_so
   pub stands : AllStand old.kept before → new.sound → AllStand new.kept after
-  pub room : OnErr result (after.room ≡ before.room)
+  pub views : OnErr result (after.views ≡ before.views)
 
 -- of it no more was touched than a gate that was remembered
-pub record OnlyForgets (old new : Custody) (before after : Stock) : Type 0 where
+pub record OnlyForgets (old new : Custody) (before after : ResourcesModel) : Type 0 where
   pub stands : AllStand old.kept before → new.sound → AllStand new.kept after
-  pub tally : after.tally ≡ before.tally
-  pub room : after.room ≡ before.room
+  pub decisions : after.decisions ≡ before.decisions
+  pub views : after.views ≡ before.views
 
 -- a part of a message was handled: so it was answered, and this a crash may leave, or it failed
 pub record Handles {X : Type 0} (old new : Custody) (result : Result X Unsuccessful) (is_answered leaves_so : Type 0)

@@ -21,6 +21,6 @@ returns-in-Ok-new-clause-replayed g c = λ sound. (
       (g.I.Read.remaining c.args.reader) (remaining_of g.I.Read.remaining c.in-Ok-new.transcript) (remaining_of g.I.Read.remaining c.replay_all-exit.new.transcript)
       (g.W.Write.contents c.args.writer) (g.W.Write.contents (writer_inner c.in-Ok.replayer.writer))
       (g.W.Write.contents (writer_inner c.replay_all-exit.new.replayer.writer)) (writer_buffer c.in-Ok.replayer.writer) c.replay_all-exit.result
-      c.in-Ok.ensures.operator c.in-Ok.ensures.records c.in-Ok.ensures.tally c.in-Ok-new.ensures.remaining
+      c.in-Ok.ensures.operator c.in-Ok.ensures.records c.in-Ok.ensures.decisions c.in-Ok-new.ensures.remaining
       (ap g.W.Write.contents c.in-Ok.ensures.writer) c.in-Ok.ensures.unwritten (c.replay_all-exit.ensures.replayed sound),
 )

@@ -10,7 +10,7 @@ returns-in-Err-clause-address c =
 
 pub returns-in-Ok-clause-served : goal.returns-in-Ok-clause-served
 returns-in-Ok-clause-served c = λ sound.
-    served_from (custody_by over_files) c.args.serving.now.connections c.in_ok-front.front c.serve_at.new.front c.in_ok-front.ensures.operator c.in_ok-front.ensures.tally
+    served_from (custody_by over_files) c.args.serving.now.connections c.in_ok-front.front c.serve_at.new.front c.in_ok-front.ensures.operator c.in_ok-front.ensures.decisions
     c.in_ok-front.ensures.closed (c.in-Ok.ensures.served sound)
 
 pub returns-in-Ok-clause-address : goal.returns-in-Ok-clause-address

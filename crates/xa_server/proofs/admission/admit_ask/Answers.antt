@@ -1,7 +1,7 @@
 -- The gate that is remembered lets in as the keeper's does.
 use Rattle.std.proofs.Common.{rules, ◌≡◌, Some, inl, inr, refl, sym, subst}
 use Rattle.xa_server.specs.Machine.{digest_shown}
-use Rattle.xa_server.specs.Stock.{AllStand}
+use Rattle.xa_server.specs.Resources.{AllStand}
 use Rattle.xa_server.proofs.GateLemmas.{known_opens, remembered_stands, used_stands}
 use Rattle.xa_server.proofs.admission.admit_ask.Goals as goal
 

@@ -4,10 +4,10 @@ use Rattle.std.specs.Prelude.{Some, option_map}
 use Rattle.xa_cache.specs.Bodies.{found}
 use Rattle.xa_server.specs.handling.Asking.{key_of_revision, key_within}
 use Rattle.xa_server.specs.Replies.{decision_reply}
-use Rattle.xa_server.specs.Stock.{AllStand}
+use Rattle.xa_server.specs.Resources.{AllStand}
 use Rattle.xa_server.specs.Work.{cached_body}
 use Rattle.xa_server.proofs.AskLemmas.{held_within, hit_reply}
-use Rattle.xa_server.proofs.StockLemmas.{looked_stands}
+use Rattle.xa_server.proofs.ResourcesLemmas.{looked_stands}
 use Rattle.xa_server.proofs.asks.reply_to_ask.Goals as goal
 
 pub returns-in-Some-2-clause-answers : goal.returns-in-Some-2-clause-answers
@@ -25,12 +25,12 @@ pub returns-in_err-reply-clause-stands : goal.returns-in_err-reply-clause-stands
 returns-in_err-reply-clause-stands g c = λ opens stand sound.
     let kept = (g.R.Records.custody c.args.records.now).kept in
     looked_stands kept (found c.in-Some.key c.resources.inside.decisions.cached) c.in-Some.key
-    (record { tally = c.resources.inside.decisions; room = c.resources.inside.views; gates = c.resources.inside.gates }) (record { tally = c.cached_reply.new.self; room = c.resources.inside.views; gates = c.resources.inside.gates })
+    (record { decisions = c.resources.inside.decisions; views = c.resources.inside.views; gates = c.resources.inside.gates }) (record { decisions = c.cached_reply.new.self; views = c.resources.inside.views; gates = c.resources.inside.gates })
     c.cached_reply.ensures.moves refl refl (subst (AllStand kept) (sym c.resources.view_is) stand)
 
 pub returns-in-Some-2-clause-stands : goal.returns-in-Some-2-clause-stands
 returns-in-Some-2-clause-stands g c = λ opens stand sound.
     let kept = (g.R.Records.custody c.args.records.now).kept in
     looked_stands kept (found c.in-Some.key c.resources.inside.decisions.cached) c.in-Some.key
-    (record { tally = c.resources.inside.decisions; room = c.resources.inside.views; gates = c.resources.inside.gates }) (record { tally = c.cached_reply.new.self; room = c.resources.inside.views; gates = c.resources.inside.gates })
+    (record { decisions = c.resources.inside.decisions; views = c.resources.inside.views; gates = c.resources.inside.gates }) (record { decisions = c.cached_reply.new.self; views = c.resources.inside.views; gates = c.resources.inside.gates })
     c.cached_reply.ensures.moves refl refl (subst (AllStand kept) (sym c.resources.view_is) stand)

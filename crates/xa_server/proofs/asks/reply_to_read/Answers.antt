@@ -4,11 +4,11 @@ use Rattle.std.proofs.Common.{rules, ◌≡◌, Ok, Err, false, refl, sym, ap, s
 use Rattle.xa_decide.specs.Asked.{asks_policies}
 use Rattle.xa_records.specs.Kept.{state_of}
 use Rattle.xa_server.specs.handling.Asking.{key_of_revision}
-use Rattle.xa_server.specs.Stock.{AllStand, Stock}
+use Rattle.xa_server.specs.Resources.{AllStand, ResourcesModel}
 use Rattle.xa_server.specs.handling.Viewing.{nothing_viewed}
-use Rattle.xa_server.proofs.AskLemmas.{keeper_left, replied, room_left, unasked_reply, unasked_works, works_by}
+use Rattle.xa_server.proofs.AskLemmas.{keeper_left, replied, unasked_reply, unasked_works, views_left, works_by}
 use Rattle.xa_server.proofs.ReadyLemmas.{ready_found}
-use Rattle.xa_server.proofs.StockLemmas.{left_stands, touched_stands}
+use Rattle.xa_server.proofs.ResourcesLemmas.{left_stands, touched_stands}
 use Rattle.xa_server.proofs.asks.reply_to_read.Goals as goal
 
 pub returns-in_err-reply : goal.returns-in_err-reply
@@ -32,10 +32,10 @@ returns-in_err-reply g c =
           let told = ready_found kept c.args.read.ask.now.name.now c.args.read.ask.now.revision c.resources.inside.views.views c.in-Some.view.now opens old.views (sym c.in-Some.ensures) in
           let work = works_by state c.in-Some.view.now c.args.read.body c.args.read.ask.now.moment (key_of_revision c.args.read.ask.now.revision c.args.read.body) c.reply_by_view.result _ _ told c.reply_by_view.ensures.works in
           left_stands kept c.args.read.ask.now.name.now c.args.read.body c.args.read.ask.now.moment c.args.read.ask.now.revision (g.met.R.Records.numbered c.args.records.now sound) opens c.reply_by_view.result
-          (record { tally = c.resources.inside.decisions; room = c.resources.inside.views; gates = c.resources.inside.gates })
-          (record { tally = c.reply_by_view.new.decisions; room = c.resources.inside.views; gates = c.resources.inside.gates })
+          (record { decisions = c.resources.inside.decisions; views = c.resources.inside.views; gates = c.resources.inside.gates })
+          (record { decisions = c.reply_by_view.new.decisions; views = c.resources.inside.views; gates = c.resources.inside.gates })
           work refl refl old;
-      room = rw (← c.resources.view_is, stopped) refl;
+      views = rw (← c.resources.view_is, stopped) refl;
       keeper = rw stopped (keeper_left custody c.in-Some.view.now c.args.read.body c.args.read.ask.now.moment (Err c.in_err-reply.field-0.0) c.in_err-reply.ensures.tells);
     }
 
@@ -59,10 +59,10 @@ returns-in-Some g c =
           let told = ready_found kept c.args.read.ask.now.name.now c.args.read.ask.now.revision c.resources.inside.views.views c.in-Some.view.now opens old.views (sym c.in-Some.ensures) in
           let work = works_by state c.in-Some.view.now c.args.read.body c.args.read.ask.now.moment (key_of_revision c.args.read.ask.now.revision c.args.read.body) c.reply_by_view.result _ _ told c.reply_by_view.ensures.works in
           touched_stands kept c.args.read.ask.now.name.now c.args.read.body c.args.read.ask.now.moment c.args.read.ask.now.revision (g.met.R.Records.numbered c.args.records.now sound) opens c.reply_by_view.result
-          (record { tally = c.resources.inside.decisions; room = c.resources.inside.views; gates = c.resources.inside.gates }) (record { tally = c.reply_by_view.new.decisions; room = c.touch.new.self; gates = c.resources.inside.gates })
+          (record { decisions = c.resources.inside.decisions; views = c.resources.inside.views; gates = c.resources.inside.gates }) (record { decisions = c.reply_by_view.new.decisions; views = c.touch.new.self; gates = c.resources.inside.gates })
           work
           c.touch.ensures refl old;
-      room = tt;
+      views = tt;
       keeper = keeper_left custody c.in-Some.view.now c.args.read.body c.args.read.ask.now.moment (Ok c.in_ok-reply.reply) c.in_ok-reply.ensures.tells;
     }
 
@@ -84,9 +84,9 @@ returns g c =
           let work = unasked_works kept c.args.read.ask.now.name.now c.args.read.body c.args.read.ask.now.moment c.args.read.ask.now.revision opens none (key_of_revision c.args.read.ask.now.revision c.args.read.body) c.reply_without_policies.result _ _
           c.reply_without_policies.ensures.works in
           left_stands kept c.args.read.ask.now.name.now c.args.read.body c.args.read.ask.now.moment c.args.read.ask.now.revision (g.met.R.Records.numbered c.args.records.now sound) opens c.reply_without_policies.result
-          (record { tally = c.resources.inside.decisions; room = c.resources.inside.views; gates = c.resources.inside.gates })
-          (record { tally = c.reply_without_policies.new.decisions; room = c.resources.inside.views; gates = c.resources.inside.gates })
+          (record { decisions = c.resources.inside.decisions; views = c.resources.inside.views; gates = c.resources.inside.gates })
+          (record { decisions = c.reply_without_policies.new.decisions; views = c.resources.inside.views; gates = c.resources.inside.gates })
           work refl refl old;
-      room = room_left c.reply_without_policies.result _ (ap (λ (s : Stock). s.room) c.resources.view_is);
+      views = views_left c.reply_without_policies.result _ (ap (λ (s : ResourcesModel). s.views) c.resources.view_is);
       keeper = keeper_left custody nothing_viewed c.args.read.body c.args.read.ask.now.moment c.reply_without_policies.result c.reply_without_policies.ensures.tells;
     }

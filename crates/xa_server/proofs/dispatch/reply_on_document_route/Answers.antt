@@ -6,6 +6,6 @@ use Rattle.xa_server.proofs.dispatch.reply_on_document_route.Goals as goal
 pub returns-clause-shared : goal.returns-clause-shared
 returns-clause-shared g c = record {
   stands = λ stand sound. search (rules, changed_stands);
-  tally = search rules;
-  room = search rules;
+  decisions = search rules;
+  views = search rules;
 }

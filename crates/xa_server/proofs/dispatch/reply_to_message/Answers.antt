@@ -21,9 +21,9 @@ returns-in_err-route-clause-shared g c =
     let stopped : c.from_residual.result ≡ Err (unsuccessful_of_route error) = search rules in
     record {
       works = λ stand sound.
-          rw stopped (unasked_work c.args.received.now (g.R.Records.custody c.args.records.now).kept error c.args.resources.now.tally c.in_err-route.ensures.route);
+          rw stopped (unasked_work c.args.received.now (g.R.Records.custody c.args.records.now).kept error c.args.resources.now.decisions c.in_err-route.ensures.route);
       stands = λ stand sound. stand;
-      room = rw stopped refl;
+      views = rw stopped refl;
     }
 
 pub returns-clause-answers : goal.returns-clause-answers
@@ -37,11 +37,11 @@ pub returns-clause-shared : goal.returns-clause-shared
 returns-clause-shared g c = record {
   works = λ stand sound.
       let kept = (g.R.Records.custody c.args.records.now).kept in
-      let after = c.reply_to_route.new.resources.tally in
-      asked_work c.args.received.now kept c.in_ok-route.route c.reply_to_route.result c.args.resources.now.tally after c.in_ok-route.ensures.route
+      let after = c.reply_to_route.new.resources.decisions in
+      asked_work c.args.received.now kept c.in_ok-route.route c.reply_to_route.result c.args.resources.now.decisions after c.in_ok-route.ensures.route
       (c.reply_to_route.ensures.shared.works stand sound);
   stands = c.reply_to_route.ensures.shared.stands;
-  room = c.reply_to_route.ensures.shared.room;
+  views = c.reply_to_route.ensures.shared.views;
 }
 
 -- the keeper isn't asked

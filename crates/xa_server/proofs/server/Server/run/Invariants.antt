@@ -8,7 +8,7 @@ use Rattle.xa_server.proofs.server.Server.run.Given as goal
 abbrev pub invariant-loop-moment : goal.invariant-loop-moment
 invariant-loop-moment g l = record {
   run : (g.R.Records.custody l.self.records).sound → IsRun (world g.R.Records.custody l.fn.self) (take l.moment-index l.events) l.replies.items (world g.R.Records.custody l.self);
-  work : (g.R.Records.custody l.self.records).sound → IsWorkOfRun (world g.R.Records.custody l.fn.self) l.fn.self.tally (take l.moment-index l.events) l.replies.items (world g.R.Records.custody l.self) l.self.tally;
+  work : (g.R.Records.custody l.self.records).sound → IsWorkOfRun (world g.R.Records.custody l.fn.self) l.fn.self.decisions (take l.moment-index l.events) l.replies.items (world g.R.Records.custody l.self) l.self.decisions;
   sound : (g.R.Records.custody l.self.records).sound → (g.R.Records.custody l.fn.self.records).sound;
   told : vec_len l.replies ≡ l.moment-index;
   room : length l.events ≤ vec_capacity l.replies;

@@ -6,24 +6,24 @@ use Rattle.xa_records.specs.declared.gate.Gate.{Gate}
 use Rattle.xa_records.specs.Kept.{Kept}
 use Rattle.xa_records.specs.Readings.{gate_of}
 use Rattle.xa_server.specs.declared.ready.Ready.{Ready}
+use Rattle.xa_server.specs.Decisions.{DecisionsModel, nothing_cached}
 use Rattle.xa_server.specs.Gates.{used, with_gate, without_gate}
 use Rattle.xa_server.specs.Standing.{StandsUnder}
-use Rattle.xa_server.specs.Tally.{Tally, nothing_cached}
 use Rattle.xa_server.specs.ValidCache.{AreValid}
 use Rattle.xa_server.specs.View.{view_of}
-use Rattle.xa_server.specs.Views.{Room}
+use Rattle.xa_server.specs.Views.{ViewsModel}
 
 -- cached decisions with their counts, cached views, and gates that are remembered
-pub record Stock : Type 0 where
-  pub tally : Tally
-  pub room : Room
+pub record ResourcesModel : Type 0 where
+  pub decisions : DecisionsModel
+  pub views : ViewsModel
   pub gates : List (List ℕ × Gate)
 
 -- as a server begins
-abbrev pub empty_stock : Stock
-empty_stock = record {
-  tally = nothing_cached;
-  room = record { views = []; max_count = 128; max_bytes = 268_435_456 };
+abbrev pub empty_resources : ResourcesModel
+empty_resources = record {
+  decisions = nothing_cached;
+  views = record { views = []; max_count = 128; max_bytes = 268_435_456 };
   gates = [];
 }
 
@@ -43,19 +43,19 @@ AreGates kept gates = AllByRecursion (IsGate kept) gates
 
 -- each cached decision may be given again, each cached view may decide, and each gate that is remembered is its
 -- domain's
-pub record AllStand (kept : Kept) (stock : Stock) : Type 0 where
-  pub decisions : AreValid kept stock.tally.cached
-  pub views : AreReady kept stock.room.views
-  pub gates : AreGates kept stock.gates
+pub record AllStand (kept : Kept) (resources : ResourcesModel) : Type 0 where
+  pub decisions : AreValid kept resources.decisions.cached
+  pub views : AreReady kept resources.views.views
+  pub gates : AreGates kept resources.gates
 
 -- after a use of the gate under that name
-abbrev pub using_gate : List ℕ → Stock → Stock
-using_gate name stock = record stock { gates = used name stock.gates }
+abbrev pub using_gate : List ℕ → ResourcesModel → ResourcesModel
+using_gate name resources = record resources { gates = used name resources.gates }
 
 -- with that gate under that name
-abbrev pub remembering : List ℕ → Gate → Stock → Stock
-remembering name gate stock = record stock { gates = with_gate name gate stock.gates }
+abbrev pub remembering : List ℕ → Gate → ResourcesModel → ResourcesModel
+remembering name gate resources = record resources { gates = with_gate name gate resources.gates }
 
 -- with no gate under that name
-abbrev pub forgetting : List ℕ → Stock → Stock
-forgetting name stock = record stock { gates = without_gate name stock.gates }
+abbrev pub forgetting : List ℕ → ResourcesModel → ResourcesModel
+forgetting name resources = record resources { gates = without_gate name resources.gates }
