@@ -18,7 +18,7 @@ use Rattle.xa_server.specs.declared.drive_end.DriveEnd.TheVariants.{Ended, ReadF
 use Rattle.xa_server.specs.declared.front_error.FrontError.{FrontError}
 use Rattle.xa_server.specs.declared.lines.Conn.{Conn}
 use Rattle.xa_server.specs.Driven.{AreMade, AreSent, AreWritten, HadMemory, HasTold, HaveMemory, HaveRead, HaveSaid, IsConnection, IsDriven, IsDrivenWithin, Known, StopsAfter, known}
-use Rattle.xa_server.specs.handling.Driving.{FeedsOne, GoesOn, HasRead, IsHeldAnswered, IsRead, IsTurn, IsWaiting}
+use Rattle.xa_server.specs.handling.Driving.{FeedsOne, HasRead, IsHeldAnswered, IsRead, IsTurn, IsWaiting, StaysOpenAfter}
 use Rattle.xa_server.specs.Front.{FrontState, ServerState}
 use Rattle.xa_server.specs.Replies.{bytes_of}
 use Rattle.xa_server.specs.Lines.{IsOpen, held_at, line_at, with_line}
@@ -36,7 +36,7 @@ pub record Shrinks (turns : ℕ) (conn : Conn) (old new : FrontState) (x y : Kno
   pub stream : Stream
   pub after : Stream
   pub opens : IsOpen conn old.lines stream
-  pub goes : GoesOn 0 conn old new stream after x y
+  pub goes : StaysOpenAfter 0 conn old new stream after x y
   pub less : turns + turns + length after.held ≤ length stream.held
 
 held_line : (line : Option Stream) (n : ℕ) → option_map (λ (stream : Stream). length stream.held) line ≡ Some n
@@ -97,11 +97,11 @@ turns_over turns n conn a b x y result held many is =
 
 -- the connection goes on after it
 goes_read : (conn : Conn) (a b : FrontState) (s t : Stream) (found : List Bool) (read : ReadEnd) (x y : Known)
-    → AreMade (record { memory = found; reads = read ∷ []; writes = []; told = []; said = [] }) x y → fed s (bytes_read (read ∷ [])) ≡ t
+    → AreMade (record { memory = found; reads = read ∷ []; writes = []; told = []; said_open = [] }) x y → fed s (bytes_read (read ∷ [])) ≡ t
     → b.server ≡ a.server → b.lines ≡ with_line conn (Some t) a.lines → IsOpen conn a.lines s → IsReadOn read → All HadMemory found
-    → GoesOn 1 conn a b s t x y
+    → StaysOpenAfter 1 conn a b s t x y
 goes_read conn a b s t found read x y made comes server lines opens on finds = record {
-  calls = record { memory = found; reads = read ∷ []; writes = []; told = []; said = [] };
+  calls = record { memory = found; reads = read ∷ []; writes = []; told = []; said_open = [] };
   events = [];
   run = [];
   made = made;
@@ -115,18 +115,18 @@ goes_read conn a b s t found read x y made comes server lines opens on finds = r
   told = refl;
   written = refl;
   memory = finds;
-  said = refl;
+  said_open = refl;
 }
 
 -- it has ended with it
 ends_read : (end : DriveEnd) (conn : Conn) (a b : FrontState) (s last : Stream) (found : List Bool) (read : ReadEnd) (x y : Known)
-    → AreMade (record { memory = found; reads = read ∷ []; writes = []; told = []; said = [] }) x y → fed s (bytes_read (read ∷ [])) ≡ last → b ≡ a
+    → AreMade (record { memory = found; reads = read ∷ []; writes = []; told = []; said_open = [] }) x y → fed s (bytes_read (read ∷ [])) ≡ last → b ≡ a
     → IsOpen conn a.lines s → StopsAfter end None (read ∷ []) last s → HaveRead end (read ∷ []) s y.left → HasTold end [] [] → AreWritten end [] []
     → HaveMemory end found → HaveSaid end None [] [] → IsRead (Some end) conn a b s x y
 ends_read end conn a b s last found read x y made comes same opens stops reads tells written finds says =
     let world : b.server.world ≡ a.server.world = ap (λ (v : FrontState). v.server.world) same in (
       record {
-        calls = record { memory = found; reads = read ∷ []; writes = []; told = []; said = [] };
+        calls = record { memory = found; reads = read ∷ []; writes = []; told = []; said_open = [] };
         events = [];
         run = [];
         fault = None;
@@ -144,7 +144,7 @@ ends_read end conn a b s last found read x y made comes same opens stops reads t
         told = tells;
         written = written;
         memory = finds;
-        said = says;
+        said_open = says;
       },
       omega arith,
     )
@@ -192,16 +192,16 @@ ended_read result count conn a s room f l m r q c w k o opens waits is none spac
 -- a piece came to the connection
 pub fed_read : (conn : Conn) (a b : FrontState) (s : Stream) (room : ℕ) (piece : List ℕ) (f g : Option (List Bool)) (l m : Option (List ℕ)) (r q : Option (List ReadEnd))
     (c : Option (List ℕ)) (w : Option (List WriteEnd)) (k : Option (List (Option ℤ))) (o p : Option (List Bool)) → IsOpen conn a.lines s → room ≡ 65_536 → 0 < length piece → length piece ≤ room
-    → Consumes l m piece → Grows r q (gave room piece ∷ []) → p ≡ o → FeedsOne conn piece a b f g (Ok tt) → GoesOn 1 conn a b s (fed s piece) (known f l r c w k o) (known g m q c w k p)
+    → Consumes l m piece → Grows r q (gave room piece ∷ []) → p ≡ o → FeedsOne conn piece a b f g (Ok tt) → StaysOpenAfter 1 conn a b s (fed s piece) (known f l r c w k o) (known g m q c w k p)
 fed_read conn a b s room piece f g l m r q c w k o p opens full some few consumes grows saying fed' =
-    subst (λ (z : Option (List Bool)). GoesOn 1 conn a b s (fed s piece) (known f l r c w k o) (known g m q c w k z)) (sym saying) (goes_read conn a b s (fed s piece) (true ∷ []) (gave room piece) (known f l r c w k o) (known g m q c w k o)
+    subst (λ (z : Option (List Bool)). StaysOpenAfter 1 conn a b s (fed s piece) (known f l r c w k o) (known g m q c w k z)) (sym saying) (goes_read conn a b s (fed s piece) (true ∷ []) (gave room piece) (known f l r c w k o) (known g m q c w k o)
     (made_read (true ∷ []) (gave room piece) f g l m r q c w k o fed'.4 (subst (λ (bs : List ℕ). Consumes l m bs) (sym (append-nil piece)) consumes) grows)
     (ap (λ (bs : List ℕ). fed s bs) (append-nil piece)) fed'.3
     (subst (λ (u : Stream). b.lines ≡ with_line conn (Some (fed u piece)) a.lines) (same_stream conn a.lines fed'.0 s fed'.1 opens) fed'.2)
     opens (full, some, few) (All-cons HadMemory true [] refl (All-nil HadMemory)))
 
 -- and is answered
-pub piece_answered : (result : Option DriveEnd) (conn : Conn) (a b c : FrontState) (s t : Stream) (x y z : Known) → GoesOn 1 conn a b s t x y
+pub piece_answered : (result : Option DriveEnd) (conn : Conn) (a b c : FrontState) (s t : Stream) (x y z : Known) → StaysOpenAfter 1 conn a b s t x y
     → IsHeldAnswered result (line_at conn b.lines) conn b c y z → IsRead result conn a c s x z
 piece_answered None conn a b c s t x y z first is =
     let held : IsHeldAnswered None (Some t) conn b c y z = subst (λ (line : Option Stream). IsHeldAnswered None line conn b c y z) first.opens is in
@@ -266,7 +266,7 @@ read_out count conn a b x y often (s, t, opens, goes, waits) = subst (λ (line :
     told = goes.told;
     written = subst (λ (rs : List (List ℕ)). AreSent rs goes.calls.writes) (sym (append-nil (map bytes_of goes.run))) goes.written;
     memory = goes.memory;
-    said = goes.said;
+    said_open = goes.said_open;
   },
   omega (arith, goes.counted, often),
 )

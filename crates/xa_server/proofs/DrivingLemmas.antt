@@ -16,7 +16,7 @@ use Rattle.xa_server.specs.declared.replies.Reply.{Reply}
 use Rattle.xa_server.specs.Alone.{Event}
 use Rattle.xa_server.specs.Connection.{all_replies, fault_replies, messages_of, moments_of}
 use Rattle.xa_server.specs.Driven.{AreMade, AreSent, AreWritten, Calls, HadMemory, HasTold, HaveMemory, HaveRead, IsDriven, IsDrivenWithin, Known, StopsAfter}
-use Rattle.xa_server.specs.handling.Driving.{GoesOn}
+use Rattle.xa_server.specs.handling.Driving.{StaysOpenAfter}
 use Rattle.xa_server.specs.Front.{FrontState}
 use Rattle.xa_server.specs.Lines.{IsOpen}
 use Rattle.xa_server.specs.Replies.{bytes_of}
@@ -72,7 +72,7 @@ told_more ks ls last es fs first later =
 
 -- ---- what goes on
 
-pub none_gone : (conn : Conn) (w : FrontState) (s : Stream) (x : Known) → IsOpen conn w.lines s → GoesOn 0 conn w w s s x x
+pub none_gone : (conn : Conn) (w : FrontState) (s : Stream) (x : Known) → IsOpen conn w.lines s → StaysOpenAfter 0 conn w w s s x x
 none_gone conn w s x opens = record {
   calls = no_calls;
   events = [];
@@ -88,11 +88,11 @@ none_gone conn w s x opens = record {
   told = refl;
   written = refl;
   memory = All-nil HadMemory;
-  said = refl;
+  said_open = refl;
 }
 
 pub goes_trans : (n m : ℕ) (conn : Conn) (a b c : FrontState) (s t u : Stream) (x y z : Known)
-    → GoesOn n conn a b s t x y → GoesOn m conn b c t u y z → GoesOn (n + m) conn a c s u x z
+    → StaysOpenAfter n conn a b s t x y → StaysOpenAfter m conn b c t u y z → StaysOpenAfter (n + m) conn a c s u x z
 goes_trans n m conn a b c s t u x y z first later = record {
   calls = both first.calls later.calls;
   events = first.events ++ later.events;
@@ -112,7 +112,7 @@ goes_trans n m conn a b c s t u x y z first later = record {
       subst (λ (rs : List (List ℕ)). AreSent rs (first.calls.writes ++ later.calls.writes)) (sym (map-append bytes_of first.run later.run))
       (sent_trans (map bytes_of first.run) (map bytes_of later.run) first.calls.writes later.calls.writes first.written later.written);
   memory = All-append HadMemory first.calls.memory later.calls.memory first.memory later.memory;
-  said = said_on first.run later.run first.calls.said later.calls.said first.said later.said;
+  said_open = said_on first.run later.run first.calls.said_open later.calls.said_open first.said_open later.said_open;
 }
 
 -- ---- an end after what was answered
@@ -208,7 +208,7 @@ replies_after rs qs fault =
     ∙ ap (λ (bs : List (List ℕ)). bs ++ fault_replies fault) (sym (map-append bytes_of rs qs))
 
 driven_after : (n : ℕ) (end : DriveEnd) (conn : Conn) (a b c : FrontState) (s t : Stream) (x y z : Known)
-    → GoesOn n conn a b s t x y → (later : IsDriven end conn b c t y z) → length later.calls.reads ≤ 1 → IsDriven end conn a c s x z
+    → StaysOpenAfter n conn a b s t x y → (later : IsDriven end conn b c t y z) → length later.calls.reads ≤ 1 → IsDriven end conn a c s x z
 driven_after n end conn a b c s t x y z first later few =
     let run = run_trans a.server.world b.server.world c.server.world first.events later.events first.run later.run first.is_run later.is_run in
     record {
@@ -234,14 +234,14 @@ driven_after n end conn a b c s t x y z first later few =
           subst (λ (rs : List (List ℕ)). AreWritten end rs (first.calls.writes ++ later.calls.writes)) (replies_after first.run later.run later.fault)
           (written_after end (map bytes_of first.run) (all_replies later.run later.fault) first.calls.writes later.calls.writes first.written later.written);
       memory = found_after end first.calls.memory later.calls.memory first.memory later.memory;
-      said = said_after end later.fault first.run later.run first.calls.said later.calls.said first.said later.said;
+      said_open = said_after end later.fault first.run later.run first.calls.said_open later.calls.said_open first.said_open later.said_open;
     }
 
 fewer : (ps qs : List ReadEnd) (n m most : ℕ) → length ps ≡ n → length qs ≤ m → n + m ≤ most → length (ps ++ qs) ≤ most
 fewer ps qs n m most first later within = omega (arith, length-append ps qs, first, later, within)
 
 pub ends_after : (n m most : ℕ) (end : DriveEnd) (conn : Conn) (a b c : FrontState) (s t : Stream) (x y z : Known) → m ≤ 1 → n + m ≤ most
-    → GoesOn n conn a b s t x y → IsDrivenWithin m end conn b c t y z → IsDrivenWithin most end conn a c s x z
+    → StaysOpenAfter n conn a b s t x y → IsDrivenWithin m end conn b c t y z → IsDrivenWithin most end conn a c s x z
 unfolding driven_after
 ends_after n m most end conn a b c s t x y z few within first later = (
   driven_after n end conn a b c s t x y z first later.0 (omega (arith, few, later.1)),

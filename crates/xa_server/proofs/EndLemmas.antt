@@ -11,8 +11,8 @@ use Rattle.xa_server.specs.declared.drive_end.DriveEnd.{DriveEnd}
 use Rattle.xa_server.specs.declared.lines.Conn.{Conn}
 use Rattle.xa_server.specs.declared.replies.Reply.{Reply}
 use Rattle.xa_server.specs.Connection.{fault_replies}
-use Rattle.xa_server.specs.Driven.{AreMade, AreWritten, HadMemory, HasTold, HaveMemory, HaveRead, HaveSaid, IsDrivenWithin, Known, StopsAfter, goes_on_after}
-use Rattle.xa_server.specs.handling.Driving.{GoesOn}
+use Rattle.xa_server.specs.Driven.{AreMade, AreWritten, HadMemory, HasTold, HaveMemory, HaveRead, HaveSaid, IsDrivenWithin, Known, StopsAfter, said_open_after}
+use Rattle.xa_server.specs.handling.Driving.{StaysOpenAfter}
 use Rattle.xa_server.specs.Front.{FrontState, ServerState}
 use Rattle.xa_server.specs.Lines.{IsOpen, with_line}
 use Rattle.xa_server.specs.Replies.{bytes_of}
@@ -33,12 +33,12 @@ two_found = All-cons HadMemory true (true ∷ []) refl one_found
 
 -- it ends, and no message was answered
 pub ends_idle : (end : DriveEnd) (conn : Conn) (a b : FrontState) (s after : Stream) (fault : Option SessionFault) (found : List Bool) (writes : List WriteEnd)
-    (told : List (Option ℤ)) (x y : Known) → AreMade (record { memory = found; reads = []; writes = writes; told = told; said = [] }) x y
+    (told : List (Option ℤ)) (x y : Known) → AreMade (record { memory = found; reads = []; writes = writes; told = told; said_open = [] }) x y
     → b.server ≡ a.server → b.lines ≡ with_line conn (Some after) a.lines → StopsAfter end fault [] s after → HaveRead end [] after y.left
     → HasTold end [] told → AreWritten end (fault_replies fault) writes → HaveMemory end found → HaveSaid end fault [] [] → IsDrivenWithin 0 end conn a b s x y
 ends_idle end conn a b s after fault found writes told x y made server lines stops read tells written finds says = (
   record {
-    calls = record { memory = found; reads = []; writes = writes; told = told; said = [] };
+    calls = record { memory = found; reads = []; writes = writes; told = told; said_open = [] };
     events = [];
     run = [];
     fault = fault;
@@ -56,7 +56,7 @@ ends_idle end conn a b s after fault found writes told x y made server lines sto
     told = tells;
     written = written;
     memory = finds;
-    said = says;
+    said_open = says;
   },
   omega arith,
 )
@@ -66,7 +66,7 @@ first_fed s message after first = (after, subst (λ (u : Stream). IsFirst u mess
 
 -- it ends after one message
 pub ends_one : (end : DriveEnd) (conn : Conn) (a b : FrontState) (s after : Stream) (moment : ℤ) (message : Message) (reply : Reply) (found : List Bool)
-    (writes : List WriteEnd) (said : List Bool) (x y : Known) → AreMade (record { memory = found; reads = []; writes = writes; told = Some moment ∷ []; said = said }) x y
+    (writes : List WriteEnd) (said : List Bool) (x y : Known) → AreMade (record { memory = found; reads = []; writes = writes; told = Some moment ∷ []; said_open = said }) x y
     → IsFirst s message after → IsServed a.server.world b.server.world moment message reply
     → IsWork a.server.world.kept moment message reply a.server.decisions b.server.decisions → b.lines ≡ with_line conn (Some after) a.lines
     → StopsAfter end None [] after after → HaveRead end [] after y.left → HasTold end (moment ∷ []) (Some moment ∷ [])
@@ -74,7 +74,7 @@ pub ends_one : (end : DriveEnd) (conn : Conn) (a b : FrontState) (s after : Stre
 ends_one end conn a b s after moment message reply found writes said x y made first served work lines stops read tells written finds says =
     let run : IsRun a.server.world ((moment, message) ∷ []) (reply ∷ []) b.server.world = (b.server.world, served, refl) in (
       record {
-        calls = record { memory = found; reads = []; writes = writes; told = Some moment ∷ []; said = said };
+        calls = record { memory = found; reads = []; writes = writes; told = Some moment ∷ []; said_open = said };
         events = (moment, message) ∷ [];
         run = reply ∷ [];
         fault = None;
@@ -92,19 +92,19 @@ ends_one end conn a b s after moment message reply found writes said x y made fi
         told = tells;
         written = written;
         memory = finds;
-        said = says;
+        said_open = says;
       },
       omega arith,
     )
 
 -- it goes on after one message
 pub goes_one : (conn : Conn) (a b : FrontState) (s after : Stream) (moment : ℤ) (message : Message) (reply : Reply) (writes : List WriteEnd) (x y : Known)
-    → AreMade (record { memory = true ∷ true ∷ []; reads = []; writes = writes; told = Some moment ∷ []; said = goes_on_after (reply ∷ []) }) x y
+    → AreMade (record { memory = true ∷ true ∷ []; reads = []; writes = writes; told = Some moment ∷ []; said_open = said_open_after (reply ∷ []) }) x y
     → IsFirst s message after → IsServed a.server.world b.server.world moment message reply
     → IsWork a.server.world.kept moment message reply a.server.decisions b.server.decisions → b.lines ≡ with_line conn (Some after) a.lines → IsOpen conn a.lines s
-    → IsTaken true (bytes_of reply) writes → GoesOn 0 conn a b s after x y
+    → IsTaken true (bytes_of reply) writes → StaysOpenAfter 0 conn a b s after x y
 goes_one conn a b s after moment message reply writes x y made first served work lines opens written = record {
-  calls = record { memory = true ∷ true ∷ []; reads = []; writes = writes; told = Some moment ∷ []; said = goes_on_after (reply ∷ []) };
+  calls = record { memory = true ∷ true ∷ []; reads = []; writes = writes; told = Some moment ∷ []; said_open = said_open_after (reply ∷ []) };
   events = (moment, message) ∷ [];
   run = reply ∷ [];
   made = made;
@@ -118,15 +118,15 @@ goes_one conn a b s after moment message reply writes x y made first served work
   told = refl;
   written = one_sent (bytes_of reply) writes written;
   memory = two_found;
-  said = refl;
+  said_open = refl;
 }
 
 -- it goes on, and no message was answered
 pub goes_idle : (conn : Conn) (a b : FrontState) (s : Stream) (found : List Bool) (x y : Known)
-    → AreMade (record { memory = found; reads = []; writes = []; told = []; said = [] }) x y → b.server ≡ a.server → b.lines ≡ with_line conn (Some s) a.lines
-    → IsOpen conn a.lines s → All HadMemory found → GoesOn 0 conn a b s s x y
+    → AreMade (record { memory = found; reads = []; writes = []; told = []; said_open = [] }) x y → b.server ≡ a.server → b.lines ≡ with_line conn (Some s) a.lines
+    → IsOpen conn a.lines s → All HadMemory found → StaysOpenAfter 0 conn a b s s x y
 goes_idle conn a b s found x y made server lines opens finds = record {
-  calls = record { memory = found; reads = []; writes = []; told = []; said = [] };
+  calls = record { memory = found; reads = []; writes = []; told = []; said_open = [] };
   events = [];
   run = [];
   made = made;
@@ -140,5 +140,5 @@ goes_idle conn a b s found x y made server lines opens finds = record {
   told = refl;
   written = refl;
   memory = finds;
-  said = refl;
+  said_open = refl;
 }

@@ -14,13 +14,13 @@ use Rattle.xa_server.specs.declared.front_error.FrontError.{FrontError}
 use Rattle.xa_server.specs.declared.lines.Conn.{Conn}
 use Rattle.xa_server.specs.declared.replies.Reply.{Reply}
 use Rattle.xa_server.specs.declared.replies.Reply.TheVariants.{Refused, Sent}
-use Rattle.xa_server.specs.Driven.{HaveSaid, goes_on_after, known}
+use Rattle.xa_server.specs.Driven.{HaveSaid, known, said_open_after}
 use Rattle.xa_server.specs.handling.Driving.{AnswersOne, IsAnsweredAt, IsAskedAfter, IsSentAs}
 use Rattle.xa_server.specs.Front.{FrontState, IsAnswered}
 use Rattle.xa_server.specs.Transfers.{Grows, WriteEnd}
 use Rattle.xa_server.proofs.TransferLemmas.{grows_none}
 
-pub asked_so : (goes_on shut : Bool) (said saying : Option (List Bool)) → Grows said saying (goes_on ∷ []) → shut ≡ not goes_on → IsAskedAfter true (Refused Store) shut said saying
+pub asked_so : (is_open shut : Bool) (said saying : Option (List Bool)) → Grows said saying (is_open ∷ []) → shut ≡ not is_open → IsAskedAfter true (Refused Store) shut said saying
 asked_so true shut said saying grows same = subst (λ (b : Bool). IsAskedAfter true (Refused Store) b said saying) (sym same) grows
 asked_so false shut said saying grows same = subst (λ (b : Bool). IsAskedAfter true (Refused Store) b said saying) (sym same) grows
 
@@ -28,7 +28,7 @@ says_same : (said saying : Option (List Bool)) → saying ≡ said → Grows sai
 says_same said saying same = subst (λ (z : Option (List Bool)). Grows said z []) (sym same) (grows_none said)
 
 -- its keeper can go on
-pub asked_on : (reply : Reply) (said saying : Option (List Bool)) → IsAskedAfter true reply false said saying → Grows said saying (goes_on_after (reply ∷ []))
+pub asked_on : (reply : Reply) (said saying : Option (List Bool)) → IsAskedAfter true reply false said saying → Grows said saying (said_open_after (reply ∷ []))
 asked_on (Refused Store) said saying asked = asked
 asked_on (Refused Memory) said saying asked = says_same said saying asked.1
 asked_on (Sent bytes) said saying asked = says_same said saying asked.1
@@ -54,27 +54,27 @@ asked_none whole shut reply bytes said saying same asked = by_write whole (subst
 
 -- ---- one reply after another
 
-pub goes_on_trans : (rs qs : List Reply) → goes_on_after (rs ++ qs) ≡ goes_on_after rs ++ goes_on_after qs
-goes_on_trans [] qs = refl
-goes_on_trans (Refused Store ∷ rs) qs = ap (λ (bs : List Bool). true ∷ bs) (goes_on_trans rs qs)
-goes_on_trans (Refused Memory ∷ rs) qs = goes_on_trans rs qs
-goes_on_trans (Sent bytes ∷ rs) qs = goes_on_trans rs qs
+pub said_trans : (rs qs : List Reply) → said_open_after (rs ++ qs) ≡ said_open_after rs ++ said_open_after qs
+said_trans [] qs = refl
+said_trans (Refused Store ∷ rs) qs = ap (λ (bs : List Bool). true ∷ bs) (said_trans rs qs)
+said_trans (Refused Memory ∷ rs) qs = said_trans rs qs
+said_trans (Sent bytes ∷ rs) qs = said_trans rs qs
 
-pub said_on : (rs qs : List Reply) (bs cs : List Bool) → bs ≡ goes_on_after rs → cs ≡ goes_on_after qs → bs ++ cs ≡ goes_on_after (rs ++ qs)
+pub said_on : (rs qs : List Reply) (bs cs : List Bool) → bs ≡ said_open_after rs → cs ≡ said_open_after qs → bs ++ cs ≡ said_open_after (rs ++ qs)
 said_on rs qs bs cs first later =
-    ap (λ (xs : List Bool). xs ++ cs) first ∙ ap (λ (xs : List Bool). goes_on_after rs ++ xs) later ∙ sym (goes_on_trans rs qs)
+    ap (λ (xs : List Bool). xs ++ cs) first ∙ ap (λ (xs : List Bool). said_open_after rs ++ xs) later ∙ sym (said_trans rs qs)
 
 joined : (rs before : List Reply) (last : Reply) (qs : List Reply) → qs ≡ before ++ last ∷ [] → rs ++ qs ≡ (rs ++ before) ++ last ∷ []
 joined rs before last qs same = ap (λ (xs : List Reply). rs ++ xs) same ∙ sym (append_assoc rs before (last ∷ []))
 
-pub said_after : (end : DriveEnd) (fault : Option SessionFault) (rs qs : List Reply) (bs cs : List Bool) → bs ≡ goes_on_after rs → HaveSaid end fault qs cs
+pub said_after : (end : DriveEnd) (fault : Option SessionFault) (rs qs : List Reply) (bs cs : List Bool) → bs ≡ said_open_after rs → HaveSaid end fault qs cs
     → HaveSaid end fault (rs ++ qs) (bs ++ cs)
 said_after drive_end.Shut fault rs qs bs cs first (before, run, said) = (
   rs ++ before,
   joined rs before (Refused Store) qs run,
   ap (λ (xs : List Bool). bs ++ xs) said
-      ∙ sym (append_assoc bs (goes_on_after before) (false ∷ []))
-      ∙ ap (λ (xs : List Bool). xs ++ false ∷ []) (said_on rs before bs (goes_on_after before) first refl),
+      ∙ sym (append_assoc bs (said_open_after before) (false ∷ []))
+      ∙ ap (λ (xs : List Bool). xs ++ false ∷ []) (said_on rs before bs (said_open_after before) first refl),
 )
 said_after drive_end.WriteFault None rs qs bs cs first (before, last, run, said) =
     (rs ++ before, last, joined rs before last qs run, said_on rs before bs cs first said)

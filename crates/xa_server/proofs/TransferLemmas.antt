@@ -32,7 +32,7 @@ taken_trans (unflushed kind ∷ ws) vs = taken_trans ws vs
 -- ---- all together
 
 abbrev pub no_calls : Calls
-no_calls = record { memory = []; reads = []; writes = []; told = []; said = [] }
+no_calls = record { memory = []; reads = []; writes = []; told = []; said_open = [] }
 
 -- these, and then those
 abbrev pub both : Calls → Calls → Calls
@@ -41,7 +41,7 @@ both first later = record {
   reads = first.reads ++ later.reads;
   writes = first.writes ++ later.writes;
   told = first.told ++ later.told;
-  said = first.said ++ later.said;
+  said_open = first.said_open ++ later.said_open;
 }
 
 pub made_none : (x : Known) → AreMade no_calls x x
@@ -52,7 +52,7 @@ made_none x = record {
   contents = appends_none x.contents;
   writes = grows_none x.writes;
   told = grows_none x.told;
-  said = grows_none x.said;
+  said_open = grows_none x.said_open;
 }
 
 pub made_trans : (first later : Calls) (x y z : Known) → AreMade first x y → AreMade later y z → AreMade (both first later) x z
@@ -67,14 +67,14 @@ made_trans first later x y z a b = record {
       (appends_trans x.contents y.contents z.contents (bytes_taken first.writes) (bytes_taken later.writes) a.contents b.contents);
   writes = grows_trans x.writes y.writes z.writes first.writes later.writes a.writes b.writes;
   told = grows_trans x.told y.told z.told first.told later.told a.told b.told;
-  said = grows_trans x.said y.said z.said first.said later.said a.said b.said;
+  said_open = grows_trans x.said_open y.said_open z.said_open first.said_open later.said_open a.said_open b.said_open;
 }
 
 -- nothing was read
 pub made_unread : (found : List Bool) (writes : List WriteEnd) (told : List (Option ℤ)) (said : List Bool) (f g : Option (List Bool)) (l : Option (List ℕ)) (r : Option (List ReadEnd))
     (c d : Option (List ℕ)) (w v : Option (List WriteEnd)) (k j : Option (List (Option ℤ))) (o p : Option (List Bool))
     → Grows f g found → Appends c d (bytes_taken writes) → Grows w v writes → Grows k j told → Grows o p said
-    → AreMade (record { memory = found; reads = []; writes = writes; told = told; said = said }) (known f l r c w k o) (known g l r d v j p)
+    → AreMade (record { memory = found; reads = []; writes = writes; told = told; said_open = said }) (known f l r c w k o) (known g l r d v j p)
 made_unread found writes told said f g l r c d w v k j o p finds appends grows tells says = record {
   memory = finds;
   left = consumes_none l;
@@ -82,14 +82,14 @@ made_unread found writes told said f g l r c d w v k j o p finds appends grows t
   contents = appends;
   writes = grows;
   told = tells;
-  said = says;
+  said_open = says;
 }
 
 -- something was, or that failed
 pub made_read : (found : List Bool) (read : ReadEnd) (f g : Option (List Bool)) (l m : Option (List ℕ)) (r q : Option (List ReadEnd))
     (c : Option (List ℕ)) (w : Option (List WriteEnd)) (k : Option (List (Option ℤ))) (o : Option (List Bool))
     → Grows f g found → Consumes l m (bytes_read (read ∷ [])) → Grows r q (read ∷ [])
-    → AreMade (record { memory = found; reads = read ∷ []; writes = []; told = []; said = [] }) (known f l r c w k o) (known g m q c w k o)
+    → AreMade (record { memory = found; reads = read ∷ []; writes = []; told = []; said_open = [] }) (known f l r c w k o) (known g m q c w k o)
 made_read found read f g l m r q c w k o finds consumes reads = record {
   memory = finds;
   left = consumes;
@@ -97,7 +97,7 @@ made_read found read f g l m r q c w k o finds consumes reads = record {
   contents = appends_none c;
   writes = grows_none w;
   told = grows_none k;
-  said = grows_none o;
+  said_open = grows_none o;
 }
 
 -- ---- replies

@@ -23,7 +23,7 @@ use Rattle.xa_server.specs.declared.front_error.FrontError.{FrontError}
 use Rattle.xa_server.specs.declared.front_error.FrontError.TheVariants as error
 use Rattle.xa_server.specs.declared.lines.Conn.{Conn}
 use Rattle.xa_server.specs.declared.replies.Reply.{Reply}
-use Rattle.xa_server.specs.Driven.{AreWritten, HadMemory, HasTold, goes_on_after, known}
+use Rattle.xa_server.specs.Driven.{AreWritten, HadMemory, HasTold, known, said_open_after}
 use Rattle.xa_server.specs.handling.Driving.{IsAnsweredAt, IsAnsweredNow, IsAskedAfter, IsSentAs, IsTurn, turn_after}
 use Rattle.xa_server.specs.ErrorCode.{code_of_session_fault, error_reply}
 use Rattle.xa_server.specs.Front.{FrontState, IsGiven}
@@ -76,15 +76,15 @@ message_sent true true last turn conn old new s after moment message reply f h l
     ([], ap (λ (q : Reply). q ∷ []) shut.0, refl))
 message_sent true false true turn conn old new s after moment message reply f h l r c d w v k j o p first served work lines opens ended finds tells sent asked same =
     subst (λ (t : Turn). IsTurn t conn old new s (known f l r c w k o) (known h l r d v j p)) (sym same)
-    (ends_one Ended conn old new s after moment message reply (true ∷ true ∷ []) sent.writings (goes_on_after (reply ∷ [])) (known f l r c w k o) (known h l r d v j p)
-    (made_unread (true ∷ true ∷ []) sent.writings (Some moment ∷ []) (goes_on_after (reply ∷ [])) f h l r c d w v k j o p finds sent.appends sent.grows tells
+    (ends_one Ended conn old new s after moment message reply (true ∷ true ∷ []) sent.writings (said_open_after (reply ∷ [])) (known f l r c w k o) (known h l r d v j p)
+    (made_unread (true ∷ true ∷ []) sent.writings (Some moment ∷ []) (said_open_after (reply ∷ [])) f h l r c d w v k j o p finds sent.appends sent.grows tells
     (asked_on reply o p asked))
     first served work lines (inr (sym ended, refl)) (inl (All-nil IsReadOn, sym ended)) refl (one_sent (bytes_of reply) sent.writings sent.taken) two_found refl)
 message_sent true false false turn conn old new s after moment message reply f h l r c d w v k j o p first served work lines opens ended finds tells sent asked same =
     subst (λ (t : Turn). IsTurn t conn old new s (known f l r c w k o) (known h l r d v j p)) (sym same) (
       after,
       goes_one conn old new s after moment message reply sent.writings (known f l r c w k o) (known h l r d v j p)
-          (made_unread (true ∷ true ∷ []) sent.writings (Some moment ∷ []) (goes_on_after (reply ∷ [])) f h l r c d w v k j o p finds sent.appends sent.grows tells
+          (made_unread (true ∷ true ∷ []) sent.writings (Some moment ∷ []) (said_open_after (reply ∷ [])) f h l r c d w v k j o p finds sent.appends sent.grows tells
           (asked_on reply o p asked))
           first served work lines opens sent.taken,
       first_shrinks s message after first,

@@ -37,7 +37,7 @@ pub record Calls : Type 0 where
   pub reads : List ReadEnd
   pub writes : List WriteEnd
   pub told : List (Option ℤ)
-  pub said : List Bool
+  pub said_open : List Bool
 
 -- what is known of such calls so far, and of the bytes that the reader has left and the writer holds
 pub record Known : Type 0 where
@@ -47,7 +47,7 @@ pub record Known : Type 0 where
   pub contents : Option (List ℕ)
   pub writes : Option (List WriteEnd)
   pub told : Option (List (Option ℤ))
-  pub said : Option (List Bool)
+  pub said_open : Option (List Bool)
 
 -- of these, in this order
 abbrev pub known : Option (List Bool) → Option (List ℕ) → Option (List ReadEnd) → Option (List ℕ)
@@ -60,7 +60,7 @@ known found left reads contents writes told said =
       contents = contents;
       writes = writes;
       told = told;
-      said = said;
+      said_open = said;
     }
 
 -- the same, by what a front and a writer say of their calls and bytes, and with what is known of a reader and a clock
@@ -77,7 +77,7 @@ pub record AreMade (calls : Calls) (before now : Known) : Type 0 where
   pub contents : Appends before.contents now.contents (bytes_taken calls.writes)
   pub writes : Grows before.writes now.writes calls.writes
   pub told : Grows before.told now.told calls.told
-  pub said : Grows before.said now.said calls.said
+  pub said_open : Grows before.said_open now.said_open calls.said_open
 
 -- ---- what each end of a connection says of them
 
@@ -133,19 +133,19 @@ HaveMemory Memory calls = (before : List Bool) × All HadMemory before × (calls
 HaveMemory _ calls = All HadMemory calls
 
 -- that it can go on, once after each message that was refused for want of storage
-abbrev pub goes_on_after : List Reply → List Bool
-goes_on_after [] = []
-goes_on_after (Refused Store ∷ replies) = true ∷ goes_on_after replies
-goes_on_after (_ ∷ replies) = goes_on_after replies
+abbrev pub said_open_after : List Reply → List Bool
+said_open_after [] = []
+said_open_after (Refused Store ∷ replies) = true ∷ said_open_after replies
+said_open_after (_ ∷ replies) = said_open_after replies
 
 -- what the front said: after each such message whose reply was written, that its keeper can go on. At `Shut` it said
 -- after the last that it can't, and that ended the connection
 abbrev pub HaveSaid : DriveEnd → Option SessionFault → List Reply → List Bool → Type 0
 HaveSaid Shut fault run said =
-    (before : List Reply) × (run ≡ before ++ Refused Store ∷ []) × (said ≡ goes_on_after before ++ false ∷ [])
+    (before : List Reply) × (run ≡ before ++ Refused Store ∷ []) × (said ≡ said_open_after before ++ false ∷ [])
 HaveSaid WriteFault None run said =
-    (before : List Reply) × (last : Reply) × (run ≡ before ++ last ∷ []) × (said ≡ goes_on_after before)
-HaveSaid _ fault run said = said ≡ goes_on_after run
+    (before : List Reply) × (last : Reply) × (run ≡ before ++ last ∷ []) × (said ≡ said_open_after before)
+HaveSaid _ fault run said = said ≡ said_open_after run
 
 -- why no message after the last is answered: the stream holds none that is whole, or there was no moment for the next,
 -- which is whole, or a write failed, or the keeper can't go on, or memory was wanted, maybe for the piece that was
@@ -190,7 +190,7 @@ pub record IsDriven (end : DriveEnd) (conn : Conn) (old new : FrontState) (strea
   pub told : HasTold end (moments_of events) calls.told
   pub written : AreWritten end (all_replies run fault) calls.writes
   pub memory : HaveMemory end calls.memory
-  pub said : HaveSaid end fault run calls.said
+  pub said_open : HaveSaid end fault run calls.said_open
 
 -- so it was, with no more reads than `most`
 abbrev pub IsDrivenWithin : ℕ → DriveEnd → Conn → FrontState → FrontState → Stream → Known → Known → Type 0

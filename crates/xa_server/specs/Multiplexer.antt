@@ -12,8 +12,8 @@ abbrev pub front_is_sound : {R : Type 0} → (R → Custody) → FrontModel R �
 front_is_sound custody front = (custody front.server.records).sound
 
 -- and goes on if that can
-abbrev pub front_goes_on : {R : Type 0} → (R → Custody) → FrontModel R → Bool
-front_goes_on custody front = (custody front.server.records).is_open
+abbrev pub front_keeper_is_open : {R : Type 0} → (R → Custody) → FrontModel R → Bool
+front_keeper_is_open custody front = (custody front.server.records).is_open
 
 -- whether a call has found memory, by its result
 abbrev pub found_memory : {X : Type 0} → Result X FrontError → Bool

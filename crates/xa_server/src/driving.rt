@@ -33,7 +33,7 @@ fn play_piece<F: Multiplexer>(front: &mut F, conn: Conn, piece: &[u8]) -> Result
         → FeedsOne conn piece.now (F.state front.old) (F.state front.new)
         (F.had_memory front.old) (F.had_memory front.new) result }
     ensures stays_open { KeepsOpen conn (F.state front.old).lines (F.state front.new).lines }
-    ensures said { F.said front.new ≡ F.said front.old }
+    ensures said_open { F.said_open front.new ≡ F.said_open front.old }
     ensures sound { F.is_sound front.new → F.is_sound front.old }
 {
     let outcome = play_one(front, &Event::Piece(conn, piece))?;
@@ -54,14 +54,14 @@ fn read_on<F: Multiplexer, I: Reader, W: Writer, C: Clock>(
     clock: &mut C,
     piece: &mut [u8; PIECE_BYTES],
 ) -> Option<DriveEnd>
-    ensures read { let seen = known_by F.had_memory F.said W.contents W.writes in
+    ensures read { let seen = known_by F.had_memory F.said_open W.contents W.writes in
         F.is_sound front.new → (stream : Stream) → IsOpen conn (F.state front.old).lines stream
         → IsWaiting stream
         → IsRead result conn (F.state front.old) (F.state front.new) stream
         (seen front.old writer.old (I.remaining reader.old) (I.reads reader.old) (C.told clock.old))
         (seen front.new writer.new (I.remaining reader.new) (I.reads reader.new) (C.told clock.new)) }
     ensures stays_open { KeepsOpen conn (F.state front.old).lines (F.state front.new).lines }
-    ensures shut { result ≡ Some drive_end.Shut → F.goes_on front.new ≡ false }
+    ensures shut { result ≡ Some drive_end.Shut → F.keeper_is_open front.new ≡ false }
     ensures sound { F.is_sound front.new → F.is_sound front.old }
 {
     let count = match reader.receive(piece) {
@@ -90,14 +90,14 @@ pub fn drive<F: Multiplexer, I: Reader, W: Writer, C: Clock>(
     writer: &mut W,
     clock: &mut C,
 ) -> DriveEnd
-    ensures connection { let seen = known_by F.had_memory F.said W.contents W.writes in
+    ensures connection { let seen = known_by F.had_memory F.said_open W.contents W.writes in
         F.is_sound front.new
         → IsConnection result (line_at conn (F.state front.old).lines) conn
         (F.state front.old) (F.state front.new)
         (seen front.old writer.old (I.remaining reader.old) (I.reads reader.old) (C.told clock.old))
         (seen front.new writer.new (I.remaining reader.new) (I.reads reader.new) (C.told clock.new)) }
     ensures stays_open { KeepsOpen conn (F.state front.old).lines (F.state front.new).lines }
-    ensures shut { result ≡ drive_end.Shut → F.goes_on front.new ≡ false }
+    ensures shut { result ≡ drive_end.Shut → F.keeper_is_open front.new ≡ false }
     ensures sound { F.is_sound front.new → F.is_sound front.old }
 {
     if let Some(end) = answer_held(front, conn, writer, clock) {

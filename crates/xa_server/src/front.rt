@@ -158,7 +158,7 @@ impl<R: Records> Front<R> {
 
     /// Whether the server's keeper can go on: one that can't answers `Store` to every call, so that every
     /// message that wants it is refused. A message that wants nothing of it may still be answered.
-    pub(crate) fn can_go_on(&self) -> bool
+    pub(crate) fn keeper_is_open(&self) -> bool
         ensures { result ≡ (R.custody self.now.server.records).is_open }
     {
         self.server.is_open()

@@ -4,7 +4,7 @@ ghost use Rattle.std.specs.Prelude.{MatchResult, None, OnErr, IfOk, Option};
 ghost use Rattle.xa_server.specs.Front.{FrontState, IsPlayed, front_state};
 ghost use Rattle.xa_server.specs.Fronting.{PlaysLines};
 ghost use Rattle.xa_server.specs.Lines.{IsLooked, held_at};
-ghost use Rattle.xa_server.specs.Multiplexer.{front_goes_on, front_is_sound};
+ghost use Rattle.xa_server.specs.Multiplexer.{front_is_sound, front_keeper_is_open};
 ghost use Rattle.xa_server.specs.Multiplexer.{found_memory, outcome_found_memory};
 ghost use Rattle.xa_server.specs.Transfers.{Grows};
 
@@ -28,11 +28,11 @@ pub trait Multiplexer {
     /// Whether its calls have found memory, one after another, if that is known.
     ghost had_memory: { Self → Option (List Bool) } = { λ _. None };
 
-    /// Whether its keeper can go on.
-    ghost goes_on: { Self → Bool };
+    /// Whether its keeper is open: whether it can go on.
+    ghost keeper_is_open: { Self → Bool };
 
-    /// What it has said of that, each time that it was asked, if that is known.
-    ghost said: { Self → Option (List Bool) } = { λ _. None };
+    /// Whether it has said that its keeper is open, each time that it was asked, if that is known.
+    ghost said_open: { Self → Option (List Bool) } = { λ _. None };
 
     /// How many bytes the connection holds, if it is open.
     fn held_len(&self, conn: Conn) -> Option<usize>
@@ -45,17 +45,17 @@ pub trait Multiplexer {
         ensures same { state self.new ≡ state self.old }
         ensures sound { is_sound self.new → is_sound self.old }
         ensures memory { Grows (had_memory self.old) (had_memory self.new) (found_memory result ∷ []) }
-        ensures said { said self.new ≡ said self.old };
+        ensures said_open { said_open self.new ≡ said_open self.old };
 
     /// Whether its keeper can go on: one that can't answers `Store` to every call, so that every message
     /// that wants it is refused. A message that wants nothing of it may still be answered, as by a cached
     /// decision. Nothing is changed.
-    fn can_go_on(&mut self) -> bool
-        ensures truth { result ≡ goes_on self.new }
+    fn keeper_is_open(&mut self) -> bool
+        ensures truth { result ≡ keeper_is_open self.new }
         ensures same { state self.new ≡ state self.old }
         ensures sound { is_sound self.new → is_sound self.old }
         ensures memory { had_memory self.new ≡ had_memory self.old }
-        ensures said { Grows (said self.old) (said self.new) (result ∷ []) };
+        ensures said_open { Grows (said_open self.old) (said_open self.new) (result ∷ []) };
 
     /// Plays the events, one after another. Without memory for all outcomes nothing is done.
     fn play(&mut self, events: &[Event<'_>]) -> Result<Vec<Outcome>, AllocError>
@@ -69,7 +69,7 @@ pub trait Multiplexer {
             (λ outcomes.
             Grows (had_memory self.old) (had_memory self.new) (map outcome_found_memory outcomes.items))
             (λ _. Grows (had_memory self.old) (had_memory self.new) (false ∷ [])) }
-        ensures said { said self.new ≡ said self.old };
+        ensures said_open { said_open self.new ≡ said_open self.old };
 }
 
 impl<R: Records> Multiplexer for Front<R> {
@@ -77,7 +77,7 @@ impl<R: Records> Multiplexer for Front<R> {
 
     ghost state = { front_state R.custody };
 
-    ghost goes_on = { front_goes_on R.custody };
+    ghost keeper_is_open = { front_keeper_is_open R.custody };
 
     fn held_len(&self, conn: Conn) -> Option<usize> {
         Front::held_len(self, conn)
@@ -87,8 +87,8 @@ impl<R: Records> Multiplexer for Front<R> {
         Front::look(self, conn)
     }
 
-    fn can_go_on(&mut self) -> bool {
-        Front::can_go_on(self)
+    fn keeper_is_open(&mut self) -> bool {
+        Front::keeper_is_open(self)
     }
 
     fn play(&mut self, events: &[Event<'_>]) -> Result<Vec<Outcome>, AllocError> {

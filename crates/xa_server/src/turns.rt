@@ -46,7 +46,7 @@ pub(crate) fn play_one<F: Multiplexer>(
     ensures lines { MatchResult result
         (λ outcome. DoesLines event.now (F.state front.old).lines outcome (F.state front.new).lines)
         (λ _. (F.state front.new).lines ≡ (F.state front.old).lines) }
-    ensures said { F.said front.new ≡ F.said front.old }
+    ensures said_open { F.said_open front.new ≡ F.said_open front.old }
     ensures sound { F.is_sound front.new → F.is_sound front.old }
 {
     let mut outcomes = front.play(slice::from_ref(event))?;
@@ -67,7 +67,7 @@ fn play_answer<F: Multiplexer>(
         → AnswersOne conn moment (F.state front.old) (F.state front.new)
         (F.had_memory front.old) (F.had_memory front.new) result }
     ensures stays_open { KeepsOpen conn (F.state front.old).lines (F.state front.new).lines }
-    ensures said { F.said front.new ≡ F.said front.old }
+    ensures said_open { F.said_open front.new ≡ F.said_open front.old }
     ensures sound { F.is_sound front.new → F.is_sound front.old }
 {
     let outcome = play_one(front, &Event::Answer(conn, moment))?;
@@ -77,18 +77,18 @@ fn play_answer<F: Multiplexer>(
     answered
 }
 
-/// Whether the keeper behind a front can't go on: that is asked after a message that was refused for want
-/// of storage.
+/// Whether the keeper behind a front is shut: that is asked after a message that was refused for want of
+/// storage.
 #[tactic(auto, using(crate::proofs::SaidLemmas::asked_so))]
-fn is_shut<F: Multiplexer>(front: &mut F, reply: &Reply) -> bool
-    ensures asked { IsAskedAfter true reply.now result (F.said front.old) (F.said front.new) }
-    ensures shut { IsTrue result → F.goes_on front.new ≡ false }
+fn keeper_is_shut<F: Multiplexer>(front: &mut F, reply: &Reply) -> bool
+    ensures asked { IsAskedAfter true reply.now result (F.said_open front.old) (F.said_open front.new) }
+    ensures shut { IsTrue result → F.keeper_is_open front.new ≡ false }
     ensures same { F.state front.new ≡ F.state front.old }
     ensures memory { F.had_memory front.new ≡ F.had_memory front.old }
     ensures sound { F.is_sound front.new → F.is_sound front.old }
 {
     match reply {
-        Reply::Refused(Failure::Store) => !front.can_go_on(),
+        Reply::Refused(Failure::Store) => !front.keeper_is_open(),
         Reply::Refused(Failure::Memory) | Reply::Sent(_) => false,
     }
 }
@@ -96,8 +96,8 @@ fn is_shut<F: Multiplexer>(front: &mut F, reply: &Reply) -> bool
 /// Sends the reply of an answer.
 fn send_answer<F: Multiplexer, W: Writer>(front: &mut F, writer: &mut W, answer: &Answer) -> Turn
     ensures sent { IsSentAs result (Some answer.now) (W.contents writer.old) (W.contents writer.new)
-        (W.writes writer.old) (W.writes writer.new) (F.said front.old) (F.said front.new) }
-    ensures shut { result ≡ turn.Ends drive_end.Shut → F.goes_on front.new ≡ false }
+        (W.writes writer.old) (W.writes writer.new) (F.said_open front.old) (F.said_open front.new) }
+    ensures shut { result ≡ turn.Ends drive_end.Shut → F.keeper_is_open front.new ≡ false }
     ensures same { F.state front.new ≡ F.state front.old }
     ensures memory { F.had_memory front.new ≡ F.had_memory front.old }
     ensures sound { F.is_sound front.new → F.is_sound front.old }
@@ -105,7 +105,7 @@ fn send_answer<F: Multiplexer, W: Writer>(front: &mut F, writer: &mut W, answer:
     if !send_whole(writer, answer.reply.bytes()) {
         return Turn::Ends(DriveEnd::WriteFault);
     }
-    if is_shut(front, &answer.reply) {
+    if keeper_is_shut(front, &answer.reply) {
         return Turn::Ends(DriveEnd::Shut);
     }
     if answer.last {
@@ -122,12 +122,12 @@ fn turn_at<F: Multiplexer, W: Writer>(
     moment: Moment,
     writer: &mut W,
 ) -> Turn
-    ensures answered { let seen = known_by F.had_memory F.said W.contents W.writes in
+    ensures answered { let seen = known_by F.had_memory F.said_open W.contents W.writes in
         F.is_sound front.new
         → IsAnsweredAt result conn moment (F.state front.old) (F.state front.new)
         (seen front.old writer.old None None None) (seen front.new writer.new None None None) }
     ensures stays_open { KeepsOpen conn (F.state front.old).lines (F.state front.new).lines }
-    ensures shut { result ≡ turn.Ends drive_end.Shut → F.goes_on front.new ≡ false }
+    ensures shut { result ≡ turn.Ends drive_end.Shut → F.keeper_is_open front.new ≡ false }
     ensures sound { F.is_sound front.new → F.is_sound front.old }
 {
     match play_answer(front, conn, moment) {
@@ -145,13 +145,13 @@ fn message_turn<F: Multiplexer, W: Writer, C: Clock>(
     writer: &mut W,
     clock: &mut C,
 ) -> Turn
-    ensures answered { let seen = known_by F.had_memory F.said W.contents W.writes in
+    ensures answered { let seen = known_by F.had_memory F.said_open W.contents W.writes in
         F.is_sound front.new
         → IsAnsweredNow result conn (F.state front.old) (F.state front.new)
         (seen front.old writer.old None None (C.told clock.old))
         (seen front.new writer.new None None (C.told clock.new)) }
     ensures stays_open { KeepsOpen conn (F.state front.old).lines (F.state front.new).lines }
-    ensures shut { result ≡ turn.Ends drive_end.Shut → F.goes_on front.new ≡ false }
+    ensures shut { result ≡ turn.Ends drive_end.Shut → F.keeper_is_open front.new ≡ false }
     ensures sound { F.is_sound front.new → F.is_sound front.old }
 {
     let Some(moment) = clock.now() else {
@@ -162,12 +162,12 @@ fn message_turn<F: Multiplexer, W: Writer, C: Clock>(
 
 /// Answers the fault by which the stream of a connection ends, and sends the reply. No moment is in it.
 fn fault_turn<F: Multiplexer, W: Writer>(front: &mut F, conn: Conn, writer: &mut W) -> Turn
-    ensures answered { let seen = known_by F.had_memory F.said W.contents W.writes in
+    ensures answered { let seen = known_by F.had_memory F.said_open W.contents W.writes in
         F.is_sound front.new
         → IsAnsweredAt result conn (pos 0) (F.state front.old) (F.state front.new)
         (seen front.old writer.old None None None) (seen front.new writer.new None None None) }
     ensures stays_open { KeepsOpen conn (F.state front.old).lines (F.state front.new).lines }
-    ensures shut { result ≡ turn.Ends drive_end.Shut → F.goes_on front.new ≡ false }
+    ensures shut { result ≡ turn.Ends drive_end.Shut → F.keeper_is_open front.new ≡ false }
     ensures sound { F.is_sound front.new → F.is_sound front.old }
 {
     let Some(moment) = Moment::new(0) else {
@@ -185,7 +185,7 @@ fn next_turn<F: Multiplexer, W: Writer, C: Clock>(
     writer: &mut W,
     clock: &mut C,
 ) -> Turn
-    ensures turn { let seen = known_by F.had_memory F.said W.contents W.writes in
+    ensures turn { let seen = known_by F.had_memory F.said_open W.contents W.writes in
         F.is_sound front.new
         → (stream : Stream) (left : Option (List ℕ)) (reads : Option (List ReadEnd))
         → IsOpen conn (F.state front.old).lines stream
@@ -193,7 +193,7 @@ fn next_turn<F: Multiplexer, W: Writer, C: Clock>(
         (seen front.old writer.old left reads (C.told clock.old))
         (seen front.new writer.new left reads (C.told clock.new)) }
     ensures stays_open { KeepsOpen conn (F.state front.old).lines (F.state front.new).lines }
-    ensures shut { result ≡ turn.Ends drive_end.Shut → F.goes_on front.new ≡ false }
+    ensures shut { result ≡ turn.Ends drive_end.Shut → F.keeper_is_open front.new ≡ false }
     ensures sound { F.is_sound front.new → F.is_sound front.old }
 {
     // A front looks again when it answers, since an event brings no look along. The head that this one has
@@ -216,14 +216,14 @@ pub(crate) fn answer_held<F: Multiplexer, W: Writer, C: Clock>(
     writer: &mut W,
     clock: &mut C,
 ) -> Option<DriveEnd>
-    ensures held { let seen = known_by F.had_memory F.said W.contents W.writes in
+    ensures held { let seen = known_by F.had_memory F.said_open W.contents W.writes in
         F.is_sound front.new → (left : Option (List ℕ)) (reads : Option (List ReadEnd))
         → IsHeldAnswered result (line_at conn (F.state front.old).lines) conn
         (F.state front.old) (F.state front.new)
         (seen front.old writer.old left reads (C.told clock.old))
         (seen front.new writer.new left reads (C.told clock.new)) }
     ensures stays_open { KeepsOpen conn (F.state front.old).lines (F.state front.new).lines }
-    ensures shut { result ≡ Some drive_end.Shut → F.goes_on front.new ≡ false }
+    ensures shut { result ≡ Some drive_end.Shut → F.keeper_is_open front.new ≡ false }
     ensures sound { F.is_sound front.new → F.is_sound front.old }
 {
     let Some(held) = front.held_len(conn) else {

@@ -20,7 +20,7 @@ use Rattle.xa_server.specs.declared.replies.Reply.{Reply}
 use Rattle.xa_server.specs.declared.replies.Reply.TheVariants.{Refused}
 use Rattle.xa_server.specs.Alone as messages
 use Rattle.xa_server.specs.Connection.{messages_of, moments_of}
-use Rattle.xa_server.specs.Driven.{AreMade, AreSent, Calls, HadMemory, IsDrivenWithin, Known, goes_on_after}
+use Rattle.xa_server.specs.Driven.{AreMade, AreSent, Calls, HadMemory, IsDrivenWithin, Known, said_open_after}
 use Rattle.xa_server.specs.Front.{FrontState, IsAnswered}
 use Rattle.xa_server.specs.Fronting.{DoesEvent}
 use Rattle.xa_server.specs.Lines.{IsOpen, line_at, with_line}
@@ -91,9 +91,9 @@ abbrev pub IsAnsweredAt : Turn → Conn → ℤ → FrontState → FrontState �
 IsAnsweredAt turn conn moment old new before now =
     ((answer : Option Answer) × (given : Next) × IsAnswered conn moment old (Some given) (Ok answer) new
     × Grows before.memory now.memory (true ∷ [])
-    × IsSentAs turn answer before.contents now.contents before.writes now.writes before.said now.said)
+    × IsSentAs turn answer before.contents now.contents before.writes now.writes before.said_open now.said_open)
     ⊎ (((turn ≡ Ends drive_end.Memory) × (new ≡ old) × Grows before.memory now.memory (false ∷ [])
-    × (now.contents ≡ before.contents) × (now.writes ≡ before.writes) × (now.said ≡ before.said))
+    × (now.contents ≡ before.contents) × (now.writes ≡ before.writes) × (now.said_open ≡ before.said_open))
     ⊎ (line_at conn old.lines ≡ None))
 
 -- so it was at the clock's moment, if there was one
@@ -103,7 +103,7 @@ IsAnsweredNow turn conn old new before now =
     × IsAnsweredAt turn conn moment old new before now)
     ⊎ ((turn ≡ Ends drive_end.NoClock) × Grows before.told now.told (None ∷ []) × (new ≡ old)
     × (now.memory ≡ before.memory) × (now.contents ≡ before.contents) × (now.writes ≡ before.writes)
-    × (now.said ≡ before.said))
+    × (now.said_open ≡ before.said_open))
 
 -- ---- messages
 
@@ -112,7 +112,7 @@ abbrev pub IsWaiting : Stream → Type 0
 IsWaiting stream = IsNext stream next.More stream
 
 -- after so many reads the messages of events were answered, each with one whole reply, and the connection goes on
-pub record GoesOn (count : ℕ) (conn : Conn) (old new : FrontState) (stream after : Stream) (before now : Known)
+pub record StaysOpenAfter (count : ℕ) (conn : Conn) (old new : FrontState) (stream after : Stream) (before now : Known)
     : Type 0 where
   pub calls : Calls
   pub events : List messages.Event
@@ -128,14 +128,15 @@ pub record GoesOn (count : ℕ) (conn : Conn) (old new : FrontState) (stream aft
   pub told : calls.told ≡ map Some (moments_of events)
   pub written : AreSent (map bytes_of run) calls.writes
   pub memory : All HadMemory calls.memory
-  pub said : calls.said ≡ goes_on_after run
+  pub said_open : calls.said_open ≡ said_open_after run
 
 -- what became of what a connection holds: a message was answered, or there is none yet, or the connection has ended
 abbrev pub IsTurn : Turn → Conn → FrontState → FrontState → Stream → Known → Known → Type 0
 IsTurn Answered conn old new stream before now =
-    (after : Stream) × GoesOn 0 conn old new stream after before now × (length after.held + 1 < length stream.held)
+    (after : Stream) × StaysOpenAfter 0 conn old new stream after before now
+    × (length after.held + 1 < length stream.held)
 IsTurn Waits conn old new stream before now =
-    (after : Stream) × GoesOn 0 conn old new stream after before now × IsWaiting after
+    (after : Stream) × StaysOpenAfter 0 conn old new stream after before now × IsWaiting after
 IsTurn (Ends end) conn old new stream before now = IsDrivenWithin 0 end conn old new stream before now
 
 -- all that the connection held was answered, and more bytes are wanted; or the connection has ended
@@ -148,11 +149,11 @@ IsHeldAnswered result None conn old new before now = (result ≡ Some drive_end.
 -- bytes were read once and answered, and the connection goes on or has ended
 abbrev pub IsRead : Option DriveEnd → Conn → FrontState → FrontState → Stream → Known → Known → Type 0
 IsRead None conn old new stream before now =
-    (after : Stream) × GoesOn 1 conn old new stream after before now × IsWaiting after
+    (after : Stream) × StaysOpenAfter 1 conn old new stream after before now × IsWaiting after
 IsRead (Some end) conn old new stream before now = IsDrivenWithin 1 end conn old new stream before now
 
 -- after so many reads, and all that was held before, an open connection holds no whole message
 abbrev pub HasRead : ℕ → Conn → FrontState → FrontState → Known → Known → Type 0
 HasRead count conn old new before now =
-    (stream after : Stream) × IsOpen conn old.lines stream × GoesOn count conn old new stream after before now
+    (stream after : Stream) × IsOpen conn old.lines stream × StaysOpenAfter count conn old new stream after before now
     × IsWaiting after

@@ -27,7 +27,7 @@ returns-in-Ok-play_piece-clause-read g c = λ sound stream opens waits.
     let full : length c.receive.new.room ≡ 65536 = omega (arith, c.receive.auto.room, c.told-piece) in
     piece_answered c.answer_held.result c.args.conn _ (g.F.Multiplexer.state c.play_piece.new.front) _ stream _ _ _ _
     (fed_read c.args.conn _ _ stream (length c.receive.new.room) (take c.in-Ok.count c.receive.new.room) _ _ _ _ _ _ _ _ _ _ _ opens full some few c.in-Ok.ensures.bytes.0 c.in-Ok.ensures.read
-    c.play_piece.ensures.said
+    c.play_piece.ensures.said_open
     (c.in-Ok-play_piece.ensures.fed (c.answer_held.ensures.sound sound)))
     (c.answer_held.ensures.held sound _ _)
 
@@ -37,4 +37,4 @@ returns-in-Err-play_piece-clause-read g c = λ sound stream opens waits.
     let few : length (take c.in-Ok.count c.receive.new.room) ≤ length c.receive.new.room = omega (arith, c.in-Ok.ensures.bound) in
     let full : length c.receive.new.room ≡ 65536 = omega (arith, c.receive.auto.room, c.told-piece) in
     not_fed c.in-Err-play_piece.field-0 c.args.conn _ _ stream (length c.receive.new.room) (take c.in-Ok.count c.receive.new.room) _ _ _ _ _ _ _ _ _ _ _ opens waits full some few
-    c.in-Ok.ensures.bytes.0 c.in-Ok.ensures.read c.play_piece.ensures.said (c.in-Err-play_piece.ensures.fed sound)
+    c.in-Ok.ensures.bytes.0 c.in-Ok.ensures.read c.play_piece.ensures.said_open (c.in-Err-play_piece.ensures.fed sound)

@@ -11,6 +11,6 @@ invariant-loop-turn g l = record {
   sound : g.F.Multiplexer.is_sound l.front → g.F.Multiplexer.is_sound l.fn.front;
   shrinks : g.F.Multiplexer.is_sound l.front → (left : Option (List ℕ)) (reads : Option (List ReadEnd)) →
       Shrinks l._turn l.conn (g.F.Multiplexer.state l.fn.front) (g.F.Multiplexer.state l.front)
-      (known (g.F.Multiplexer.had_memory l.fn.front) left reads (g.W.Writer.contents l.fn.writer) (g.W.Writer.writes l.fn.writer) (g.C.Clock.told l.fn.clock) (g.F.Multiplexer.said l.fn.front))
-      (known (g.F.Multiplexer.had_memory l.front) left reads (g.W.Writer.contents l.writer) (g.W.Writer.writes l.writer) (g.C.Clock.told l.clock) (g.F.Multiplexer.said l.front));
+      (known (g.F.Multiplexer.had_memory l.fn.front) left reads (g.W.Writer.contents l.fn.writer) (g.W.Writer.writes l.fn.writer) (g.C.Clock.told l.fn.clock) (g.F.Multiplexer.said_open l.fn.front))
+      (known (g.F.Multiplexer.had_memory l.front) left reads (g.W.Writer.contents l.writer) (g.W.Writer.writes l.writer) (g.C.Clock.told l.clock) (g.F.Multiplexer.said_open l.front));
 }
