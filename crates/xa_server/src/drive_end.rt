@@ -16,7 +16,8 @@ pub enum DriveEnd {
     NoClock,
     /// It was read from 1,000,000 times. All messages that were whole by then are answered.
     TooManyReads,
-    /// There was no memory. Whole messages may be left unanswered.
+    /// There was no memory. Whole messages may be left unanswered. A front that doesn't do what its clauses
+    /// say, and answers more messages than it holds, ends so, too.
     Memory,
     /// A message was refused for want of storage, and its keeper can't go on. Its reply was written;
     /// whole messages may be left unanswered.

@@ -238,6 +238,7 @@ pub(crate) fn answer_held<F: Multiplexer, W: Writer, C: Clock>(
             Turn::Ends(end) => return Some(end),
         }
     }
-    // Not reached: there are more turns than messages in what the connection held.
+    // Not reached over a front that does what its clauses say: there are more turns than messages in what the
+    // connection held. Of any other nothing is known, so this can't be `unreachable!()`.
     Some(DriveEnd::Memory)
 }
