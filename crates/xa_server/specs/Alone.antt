@@ -5,30 +5,30 @@ use Rattle.xa_records.specs.DomainState.{DomainState}
 use Rattle.xa_server.specs.Machine.{step}
 use Rattle.xa_server.specs.Owner.{owner}
 
--- a message, after the moment at which it is answered
+-- an event: a message, after the moment at which it is answered
 abbrev pub Event : Type 0
 Event = ℤ × Message
 
--- the name, if there is one, is the domain's
+-- whether a name, if there is one, is that of the domain
 abbrev pub is_owner : List ℕ → Option (List ℕ) → Bool
 is_owner domain None = false
 is_owner domain (Some name) = bytes_eq name domain
 
--- the message of the event is the domain's own
+-- whether the message of an event is the domain's own
 abbrev pub is_own : List ℕ → Event → Bool
 is_own domain event = is_owner domain (owner event.1)
 
--- the domain's own messages with their moments, in order
+-- the events of a domain: its own messages with their moments, in order
 abbrev pub own_events : List ℕ → List Event → List Event
 own_events domain events = filter (is_own domain) events
 
--- the replies of its machine to those messages, from that state
+-- the replies of a domain's machine to messages, from a state of the domain
 abbrev pub replies_alone : List ℕ → Option DomainState → List Event → List (List ℕ)
 replies_alone operator state [] = []
 replies_alone operator state (event ∷ events) =
     let next = step operator state event.1 event.0 in next.0 ∷ replies_alone operator next.1 events
 
--- the state that they leave
+-- the state of a domain after its machine has answered messages, from a state of the domain
 abbrev pub state_after : List ℕ → Option DomainState → List Event → Option DomainState
 state_after operator state [] = state
 state_after operator state (event ∷ events) = state_after operator (step operator state event.1 event.0).1 events

@@ -6,27 +6,28 @@ use Rattle.xa_http.specs.declared.message.Field.{Field}
 use Rattle.xa_http.specs.Fields.{values_of}
 use Rattle.xa_notation.specs.Tokens.{is_token}
 
--- the text from its first byte that is no space
+-- a text from its first byte that is no space
 abbrev pub after_spaces : List ℕ → List ℕ
 after_spaces [] = []
 after_spaces (c ∷ cs) = if c == 32 then after_spaces cs else c ∷ cs
 
--- what follows the scheme `Bearer`, written in any case (RFC 9110, section 11.1), and at least one space
+-- the credentials: what follows the scheme `Bearer`, written in any case (RFC 9110, section 11.1), and at least one
+-- space
 unfoldable pub credentials_of : List ℕ → Option (List ℕ)
 credentials_of value =
     if str_eq_ignore_ascii_case (take 7 value) (codes "Bearer ") then Some (after_spaces (drop 7 value)) else None
 
--- the one of a list of one
+-- the item of a list of one; nothing of any other
 abbrev pub the_only : {X : Type 0} → List X → Option X
 the_only [] = None
 the_only (x ∷ []) = Some x
 the_only (x ∷ _ ∷ _) = None
 
--- the text itself, if it is a token
+-- a text, if it is a token
 abbrev pub token_if : List ℕ → Option (List ℕ)
 token_if text = if is_token text then Some text else None
 
--- the token that these fields show: that of the one Authorization field
+-- the token that the fields of a message show: that of the one Authorization field
 unfoldable pub token_in : List Field → Option (List ℕ)
 token_in fields =
     option_and_then token_if (option_and_then credentials_of (the_only (values_of (codes "Authorization") fields)))

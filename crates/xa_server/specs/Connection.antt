@@ -16,7 +16,7 @@ abbrev pub StopsBy : Option SessionFault → Stream → Stream → Type 0
 StopsBy (Some fault) last new = IsNext last (next.Fault fault) new
 StopsBy None last new = IsNext last next.More new ⊎ IsNext last next.Ended new
 
--- these are the whole messages that a stream holds, and so it stops after them
+-- the whole messages that a stream holds, after which it stops as `StopsBy` says
 abbrev pub HasMessages : Stream → List Message → Option SessionFault → Stream → Type 0
 HasMessages old messages fault new = (last : Stream) × Cuts old messages last × StopsBy fault last new
 
@@ -24,11 +24,11 @@ HasMessages old messages fault new = (last : Stream) × Cuts old messages last �
 abbrev pub messages_of : List Event → List Message
 messages_of events = map (λ (event : Event). event.1) events
 
--- and their moments
+-- the moments of events
 abbrev pub moments_of : List Event → List ℤ
 moments_of events = map (λ (event : Event). event.0) events
 
--- the reply to the fault, if there is one
+-- the reply to the fault by which a stream ends, if it ends by one
 abbrev pub fault_replies : Option SessionFault → List (List ℕ)
 fault_replies None = []
 fault_replies (Some fault) = error_reply (code_of_session_fault fault) ∷ []

@@ -16,12 +16,13 @@ IsStepMade old left moment message None = ⊥
 IsStepMade old left moment message (Some domain) =
     IsChanged old.kept left domain (step old.operator (state domain old) message moment).1
 
--- whatever became of the message: what a crash might have left before it, or all with that one step made
+-- what a crash may leave after a message, whatever became of it: what it might have left before, or all with that one
+-- step made
 abbrev pub LeavesStep : (Kept → Type 0) → (Kept → Type 0) → World → ℤ → Message → Type 0
 LeavesStep before after old moment message =
     (left : Kept) → after left → before left ⊎ IsStepMade old left moment message (owner message)
 
--- unless the message was refused
+-- the claim holds, unless the message was refused
 abbrev pub IfSent : Reply → Type 0 → Type 0
 IfSent (Sent bytes) claim = claim
 IfSent (Refused failure) claim = Unit {0}

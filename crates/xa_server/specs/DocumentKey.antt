@@ -12,13 +12,14 @@ abbrev pub version_if : Result (List ℕ) VersionError → Option (List ℕ)
 version_if (Ok version) = Some version
 version_if (Err _) = None
 
--- the second step, if the first gave a value
+-- the second step is made with the value of the first, if the first gave one
 infixl 10 ◌>>=◌
 abbrev pub ◌>>=◌ : {A B : Type 0} → Option A → (A → Option B) → Option B
 Some x >>= f = f x
 None >>= f = None
 
--- the key of these parts: another kind, a part that is no text and a version that doesn't read are no document's
+-- the key of a document by the parts of a path: another kind, a part that is no text and a version that doesn't read
+-- are no document's
 unfoldable pub key_of_parts : DocumentParts → Option DocumentKey
 key_of_parts parts = do
   kind ← kind_named parts.kind

@@ -30,8 +30,8 @@ use Rattle.xa_server.specs.Work.{IsWorkOfRun}
 
 -- ---- the calls
 
--- how calls ended, one after another: whether those of the front found memory; the reads; the writes and flushes; what
--- the clock told; and what the front said of its keeper, whether that can go on
+-- how the calls for a connection ended, one after another: whether those of the front found memory; the reads; the
+-- writes and flushes; what the clock told; and whether the front said that its keeper is open
 pub record Calls : Type 0 where
   pub memory : List Bool
   pub reads : List ReadEnd
@@ -39,7 +39,7 @@ pub record Calls : Type 0 where
   pub told : List (Option ℤ)
   pub said_open : List Bool
 
--- what is known of such calls so far, and of the bytes that the reader has left and the writer holds
+-- what is known so far of the calls for a connection, and of the bytes that the reader has left and the writer holds
 pub record Known : Type 0 where
   pub memory : Option (List Bool)
   pub left : Option (List ℕ)
@@ -49,7 +49,7 @@ pub record Known : Type 0 where
   pub told : Option (List (Option ℤ))
   pub said_open : Option (List Bool)
 
--- of these, in this order
+-- a `Known` of its parts, in this order
 abbrev pub known : Option (List Bool) → Option (List ℕ) → Option (List ReadEnd) → Option (List ℕ)
     → Option (List WriteEnd) → Option (List (Option ℤ)) → Option (List Bool) → Known
 known found left reads contents writes told said =
@@ -63,13 +63,13 @@ known found left reads contents writes told said =
       said_open = said;
     }
 
--- the same, by what a front and a writer say of their calls and bytes, and with what is known of a reader and a clock
+-- a `Known` by what a front and a writer say of their calls and bytes, and with what is known of a reader and a clock
 abbrev pub known_by : {F W : Type 0} → (F → Option (List Bool)) → (F → Option (List Bool)) → (W → Option (List ℕ))
     → (W → Option (List WriteEnd)) → F → W → Option (List ℕ) → Option (List ReadEnd) → Option (List (Option ℤ)) → Known
 known_by had_memory said contents writes front writer left reads told =
     known (had_memory front) left reads (contents writer) (writes writer) told (said front)
 
--- these calls came to what was known, and no others
+-- what is known has grown by the calls, and by no others
 pub record AreMade (calls : Calls) (before now : Known) : Type 0 where
   pub memory : Grows before.memory now.memory calls.memory
   pub left : Consumes before.left now.left (bytes_read calls.reads)
@@ -81,8 +81,8 @@ pub record AreMade (calls : Calls) (before now : Known) : Type 0 where
 
 -- ---- what each end of a connection says of them
 
--- the reads: each that gave bytes had room for 65,536. The last gave none if the stream has ended, and failed at a
--- failed read, which no interrupted one is; there were 1,000,000 if those are too many
+-- the reads, by how the connection ended: each that gave bytes had room for 65,536. The last gave none if the stream
+-- has ended, and failed at a failed read, which no interrupted one is; there were 1,000,000 if those are too many
 abbrev pub HaveRead : DriveEnd → List ReadEnd → Stream → Option (List ℕ) → Type 0
 HaveRead Ended reads after left =
     (All IsReadOn reads × (after.ended ≡ true))
@@ -93,8 +93,8 @@ HaveRead ReadFault reads after left =
 HaveRead TooManyReads reads after left = All IsReadOn reads × (length reads ≡ 1_000_000)
 HaveRead _ reads after left = All IsReadOn reads
 
--- the clock told the moments of the messages, and was asked for no others; after them it told none if there was no
--- clock, and maybe one more if memory was wanted
+-- what the clock told, by how the connection ended: the moments of the messages, and no others; after them none if
+-- there was no clock, and maybe one more if memory was wanted
 abbrev pub HasTold : DriveEnd → List ℤ → List (Option ℤ) → Type 0
 HasTold NoClock moments told = told ≡ map Some moments ++ None ∷ []
 HasTold Memory moments told = (told ≡ map Some moments) ⊎ ((moment : ℤ) × (told ≡ map Some moments ++ Some moment ∷ []))
@@ -107,7 +107,7 @@ AreSent [] writes = writes ≡ []
 AreSent (reply ∷ replies) writes =
     (first rest : List WriteEnd) × IsWrittenWhole reply first × AreSent replies rest × (writes ≡ first ++ rest)
 
--- so were all but the last of them, of which a part was written before a write failed
+-- `AreSent`, but for the last reply, of which a part was written before a write failed
 pub record IsCutShort (replies : List (List ℕ)) (writes : List WriteEnd) : Type 0 where
   pub whole : List (List ℕ)
   pub last : List ℕ
@@ -118,7 +118,7 @@ pub record IsCutShort (replies : List (List ℕ)) (writes : List WriteEnd) : Typ
   pub cut : IsBrokenOff last part
   pub in_order : writes ≡ before ++ part
 
--- the replies were written, but for the last if a write failed
+-- the replies were written, by how the connection ended: all of them, or all but the last if a write failed
 abbrev pub AreWritten : DriveEnd → List (List ℕ) → List WriteEnd → Type 0
 AreWritten WriteFault replies writes = IsCutShort replies writes
 AreWritten _ replies writes = AreSent replies writes
@@ -127,19 +127,20 @@ AreWritten _ replies writes = AreSent replies writes
 abbrev pub HadMemory : Bool → Type 0
 HadMemory had = had ≡ true
 
--- each did, but for the last if memory was wanted
+-- each call of the front found memory, but for the last if memory was wanted
 abbrev pub HaveMemory : DriveEnd → List Bool → Type 0
 HaveMemory Memory calls = (before : List Bool) × All HadMemory before × (calls ≡ before ++ false ∷ [])
 HaveMemory _ calls = All HadMemory calls
 
--- that it can go on, once after each message that was refused for want of storage
+-- what a front says if its keeper is open: that it is, once after each message that was refused for want of storage
 abbrev pub said_open_after : List Reply → List Bool
 said_open_after [] = []
 said_open_after (Refused Store ∷ replies) = true ∷ said_open_after replies
 said_open_after (_ ∷ replies) = said_open_after replies
 
--- what the front said: after each such message whose reply was written, that its keeper can go on. At `Shut` it said
--- after the last that it can't, and that ended the connection
+-- what the front said of its keeper, by how the connection ended: after each message that was refused for want of
+-- storage, and whose reply was written, that it is open. At `Shut` it said after the last that it isn't, and that ended
+-- the connection
 abbrev pub HaveSaid : DriveEnd → Option SessionFault → List Reply → List Bool → Type 0
 HaveSaid Shut fault run said =
     (before : List Reply) × (run ≡ before ++ Refused Store ∷ []) × (said ≡ said_open_after before ++ false ∷ [])
@@ -148,8 +149,8 @@ HaveSaid WriteFault None run said =
 HaveSaid _ fault run said = said ≡ said_open_after run
 
 -- why no message after the last is answered: the stream holds none that is whole, or there was no moment for the next,
--- which is whole, or a write failed, or the keeper can't go on, or memory was wanted, maybe for the piece that was
--- read last. `fault` is that to which there is a reply, the last of all
+-- which is whole, or a write failed, or the keeper isn't open, or memory was wanted, maybe for the piece that was read
+-- last. `fault` is that to which there is a reply, the last of all
 abbrev pub StopsAfter : DriveEnd → Option SessionFault → List ReadEnd → Stream → Stream → Type 0
 StopsAfter Ended fault reads last after = StopsBy fault last after
 StopsAfter ReadFault None reads last after = IsNext last next.More after
@@ -167,9 +168,9 @@ StopsAfter _ (Some fault) reads last after = ⊥
 
 -- ---- a connection
 
--- one run of the server answered the messages at the front of what the connection held and was read, each at its
--- moment, and these are the replies that were written; each domain's replies are those of its own machine, used by it
--- alone. No other connection has changed
+-- a connection was driven to its end: one run of the server answered the messages at the front of what the connection
+-- held and was read, each at its moment, and its replies were written; each domain's replies are those of its own
+-- machine, used by it alone. No other connection has changed
 pub record IsDriven (end : DriveEnd) (conn : Conn) (old new : FrontState) (stream : Stream) (before now : Known)
     : Type 0 where
   pub calls : Calls
@@ -192,18 +193,18 @@ pub record IsDriven (end : DriveEnd) (conn : Conn) (old new : FrontState) (strea
   pub memory : HaveMemory end calls.memory
   pub said_open : HaveSaid end fault run calls.said_open
 
--- so it was, with no more reads than `most`
+-- `IsDriven`, with no more reads than `most`
 abbrev pub IsDrivenWithin : ℕ → DriveEnd → Conn → FrontState → FrontState → Stream → Known → Known → Type 0
 IsDrivenWithin most end conn old new stream before now =
     (is : IsDriven end conn old new stream before now) × (length is.calls.reads ≤ most)
 
--- a connection was driven to its end; one that isn't open has ended, and nothing was done
+-- `IsDriven` with at most 1,000,000 reads, of an open connection; one that isn't open has ended, and nothing was done
 abbrev pub IsConnection : DriveEnd → Option Stream → Conn → FrontState → FrontState → Known → Known → Type 0
 IsConnection end (Some stream) conn old new before now =
     IsDrivenWithin 1_000_000 end conn old new stream before now
 IsConnection end None conn old new before now = (end ≡ Ended) × (new ≡ old) × (now ≡ before)
 
--- whatever the keeper does, a connection that is open stays open, and no other changes
+-- a connection that is open stays open, and no other changes, whatever the keeper does
 unfoldable pub KeepsOpen : Conn → Lines → Lines → Type 0
 KeepsOpen conn old new =
     (stream : Stream) → IsOpen conn old stream → (after : Stream) × (new ≡ with_line conn (Some after) old)

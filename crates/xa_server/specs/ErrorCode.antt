@@ -23,10 +23,11 @@ pub record Row : Type 0 where
   pub name : List ℕ
   pub status : ℕ
 
+-- a row of its name and its status
 abbrev pub row : List ℕ → ℕ → Row
 row name status = record { name = name; status = status }
 
--- of a body
+-- the row of a fault of a body
 abbrev pub row_of_body : NotationError → Row
 row_of_body body.NotJson = row (codes "NotJson") 400
 row_of_body (body.MissingMember _) = row (codes "MissingMember") 400
@@ -36,7 +37,7 @@ row_of_body (body.IllTyped _) = row (codes "IllTyped") 400
 row_of_body body.UnknownAlgorithm = row (codes "UnknownAlgorithm") 400
 row_of_body body.TooLarge = row (codes "TooLarge") 400
 
--- of a change or a reading
+-- the row of a refusal by the keeper, of a change or a reading
 abbrev pub row_of_refusal : Refusal → Row
 row_of_refusal refusal.Exists = row (codes "Exists") 409
 row_of_refusal refusal.Absent = row (codes "Absent") 404
@@ -44,13 +45,14 @@ row_of_refusal refusal.Quota = row (codes "Quota") 409
 row_of_refusal refusal.SameVersionOtherText = row (codes "SameVersionOtherText") 409
 row_of_refusal refusal.StillActive = row (codes "StillActive") 409
 
--- of a fault by which a stream ends
+-- the row of a fault by which a stream ends
 abbrev pub row_of_session : SessionFault → Row
 row_of_session session.BadHead = row (codes "BadHead") (http.status_of session.BadHead)
 row_of_session session.BodyTooLarge = row (codes "BodyTooLarge") (http.status_of session.BodyTooLarge)
 row_of_session session.HeadTooLarge = row (codes "HeadTooLarge") (http.status_of session.HeadTooLarge)
 row_of_session session.TransferCoding = row (codes "TransferCoding") (http.status_of session.TransferCoding)
 
+-- the row of an error code
 abbrev pub row_of : ErrorCode → Row
 row_of NoRoute = row (codes "NoRoute") 404
 row_of (BadMethod _) = row (codes "BadMethod") 405
@@ -62,7 +64,8 @@ row_of (Body fault) = row_of_body fault
 row_of (Keeper refusal) = row_of_refusal refusal
 row_of (Session fault) = row_of_session fault
 
--- a 401 names the scheme (RFC 9110, section 11.6.1), and a 405 the methods that the path has (section 10.2.1)
+-- the field of an error answer beside the usual ones: a 401 names the scheme (RFC 9110, section 11.6.1), and a 405 the
+-- methods that the path has (section 10.2.1)
 abbrev pub extra_of : ErrorCode → Extra
 extra_of Unauthorized = Challenge
 extra_of (BadMethod place) = Allow place
@@ -82,6 +85,6 @@ code_of_session_fault fault = Session fault
 unfoldable pub error_body : ErrorCode → List ℕ
 error_body code = codes "{\"Error\":\"" ++ (row_of code).name ++ codes "\"}"
 
--- the reply of an error answer
+-- the bytes of an error answer
 unfoldable pub error_reply : ErrorCode → List ℕ
 error_reply code = http_bytes (row_of code).status Json (extra_of code) (error_body code)

@@ -34,7 +34,7 @@ pub record ServerState : Type 0 where
   pub world : World
   pub decisions : DecisionsModel
 
--- of a server, by what its keeper keeps
+-- the state of a server, by what its keeper keeps
 abbrev pub server_state : {R : Type 0} → (R → Custody) → ServerModel R → ServerState
 server_state custody server = record { world = world custody server; decisions = server.decisions }
 
@@ -43,7 +43,7 @@ pub record FrontState : Type 0 where
   pub server : ServerState
   pub lines : Lines
 
--- of a front, by what its keeper keeps
+-- the state of a front, by what its keeper keeps
 abbrev pub front_state : {R : Type 0} → (R → Custody) → FrontModel R → FrontState
 front_state custody front = record { server = server_state custody front.server; lines = front.lines }
 

@@ -16,7 +16,7 @@ use Rattle.xa_server.specs.declared.replies.Reply.{Reply}
 use Rattle.xa_server.specs.Front.{FrontState, Plays}
 use Rattle.xa_server.specs.Lines.{IsOpen}
 
--- what is done to a connection's session if an event is one of its own
+-- what is done to a connection's session by an event of a connection: the step, if they are the same
 abbrev pub own_step : Conn → Conn → Step → List Step
 own_step conn other step = if nat_eq other.number conn.number then step ∷ [] else []
 
@@ -26,7 +26,7 @@ step_on conn (event.Piece other piece) given (outcome.Held (Ok _)) = own_step co
 step_on conn (event.Answer other moment) (Some given) result = own_step conn other (answers given)
 step_on conn _ given result = []
 
--- what events do to it, one after another
+-- what events do to the connection's session, one after another
 abbrev pub steps_on : Conn → List Event → List (Option Next) → List Outcome → List Step
 steps_on conn (event ∷ events) (given ∷ nexts) (outcome ∷ outcomes) =
     step_on conn event given outcome ++ steps_on conn events nexts outcomes
@@ -44,12 +44,12 @@ exchanges_on conn (event ∷ events) (given ∷ nexts) (outcome ∷ outcomes) =
     exchange_on conn event given outcome ++ exchanges_on conn events nexts outcomes
 exchanges_on conn _ nexts outcomes = []
 
--- the event doesn't close the connection
+-- an event doesn't close the connection
 abbrev pub LeavesOpen : Conn → Event → Type 0
 LeavesOpen conn (event.Finish other) = other.number ≢ conn.number
 LeavesOpen conn _ = Unit {0}
 
--- none of the events does
+-- no event closes the connection
 abbrev pub LeaveOpen : Conn → List Event → Type 0
 LeaveOpen conn [] = Unit {0}
 LeaveOpen conn (event ∷ events) = LeavesOpen conn event × LeaveOpen conn events

@@ -27,7 +27,7 @@ use Rattle.xa_server.specs.World.{World}
 abbrev pub AnswersLine : Conn → ℤ → FrontState → FrontState → Result (Option Answer) FrontError → Type 0
 AnswersLine conn moment old new result = (given : Option Next) × IsAnswered conn moment old given result new
 
--- what a session's next is answered; the reply to a message may be any
+-- what is answered to the next of a session; the reply to a message may be any
 abbrev pub IsNextGiven : Next → Stream → Option Answer → Type 0
 IsNextGiven (next.Message message) after (Some answer) = answer.last ≡ after.ended
 IsNextGiven (next.Fault fault) after (Some answer) =
@@ -41,7 +41,7 @@ abbrev pub TakesNext : Stream → Stream → Result (Option Answer) FrontError �
 TakesNext stream after (Ok answer) = (given : Next) × IsNext stream given after × IsNextGiven given after answer
 TakesNext stream after (Err error) = (error ≡ Memory) × (stream.ended ≡ false) × (after ≡ stream)
 
--- and of the connections
+-- what becomes of the connections by an answer on one of them, whatever the server does
 abbrev pub TakesLine : Conn → Lines → Lines → Result (Option Answer) FrontError → Type 0
 TakesLine conn old new (Ok answer) =
     (stream after : Stream) × IsOpen conn old stream × TakesNext stream after (Ok answer)
@@ -50,7 +50,7 @@ TakesLine conn old new (Err NoSuchConnection) = (line_at conn old ≡ None) × (
 TakesLine conn old new (Err Memory) = (stream : Stream) × IsOpen conn old stream × (stream.ended ≡ false) × (new ≡ old)
 TakesLine conn old new (Err _) = ⊥
 
--- an event did what it does
+-- an event `Does` what it does, whatever its session gave
 abbrev pub DoesEvent : Event → FrontState → Outcome → FrontState → Type 0
 DoesEvent event old outcome new = (given : Option Next) × Does event old given outcome new
 
@@ -62,24 +62,25 @@ DoesLines (event.Answer conn moment) old (outcome.Answered result) new = TakesLi
 DoesLines (event.Finish conn) old (outcome.Finished result) new = IsClosed conn old result new
 DoesLines _ old _ new = ⊥
 
--- what events do to them, one after another
+-- what events do to the connections, one after another
 abbrev pub PlaysLines : List Event → List Outcome → Lines → Lines → Type 0
 PlaysLines [] [] old new = new ≡ old
 PlaysLines (event ∷ events) (outcome ∷ outcomes) old new =
     (mid : Lines) × DoesLines event old outcome mid × PlaysLines events outcomes mid new
 PlaysLines _ _ old new = ⊥
 
--- unless a message was refused
+-- the claim holds, unless the answer is that of a refused message
 abbrev pub IfAnswerSent : Result (Option Answer) FrontError → Type 0 → Type 0
 IfAnswerSent (Ok (Some answer)) claim = IfSent answer.reply claim
 IfAnswerSent _ claim = claim
 
--- the keeper has counted one more failure if a message was refused for want of storage, and else none
+-- how often the keeper has failed by an answer: once more if a message was refused for want of storage, and else no
+-- more
 abbrev pub CountsAnswer : ℕ → ℕ → Result (Option Answer) FrontError → Type 0
 CountsAnswer old new (Ok (Some answer)) = CountsReply old new answer.reply
 CountsAnswer old new _ = new ≡ old
 
--- the message is the first of a stream
+-- a message is the first of a stream that may not be there
 abbrev pub IsFirstOf : Option Stream → Message → Type 0
 IsFirstOf None message = ⊥
 IsFirstOf (Some stream) message = (rest : Stream) × IsFirst stream message rest
@@ -91,21 +92,22 @@ LeavesNext before after old moment line =
     (left : Kept) → after left
     → before left ⊎ ((message : Message) × IsFirstOf line message × IsStepMade old left moment message (owner message))
 
--- unless an event cut off a message that was refused
+-- the claim holds, unless an event cut off a message that was refused
 abbrev pub IfOutcomeSent : Outcome → Type 0 → Type 0
 IfOutcomeSent (outcome.Answered result) claim = IfAnswerSent result claim
 IfOutcomeSent _ claim = claim
 
--- unless one of the events did
+-- the claim holds, unless one of the events cut off a message that was refused
 abbrev pub IfAllSent : List Outcome → Type 0 → Type 0
 IfAllSent [] claim = claim
 IfAllSent (outcome ∷ outcomes) claim = IfOutcomeSent outcome (IfAllSent outcomes claim)
 
--- the keeper has counted one more failure for each message that was refused for want of storage, and else none
+-- how often the keeper has failed by an event: once more if a message was refused for want of storage, and else no more
 abbrev pub CountsOutcome : ℕ → ℕ → Outcome → Type 0
 CountsOutcome old new (outcome.Answered result) = CountsAnswer old new result
 CountsOutcome old new _ = new ≡ old
 
+-- how often the keeper has failed by events: once more for each message that was refused for want of storage
 abbrev pub CountsOutcomes : ℕ → ℕ → List Outcome → Type 0
 CountsOutcomes old new [] = new ≡ old
 CountsOutcomes old new (outcome ∷ outcomes) =

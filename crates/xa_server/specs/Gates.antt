@@ -15,31 +15,31 @@ use Rattle.xa_server.specs.declared.revision.Revision.{Revision}
 abbrev pub revision_by : Gate → Revision
 revision_by gate = record { number = gate.number; epoch = gate.epoch }
 
--- that of the domain of that name, if there is one
+-- the revision of the domain of a name, if there is one
 abbrev pub revision_of : List ℕ → Kept → Option Revision
 revision_of name kept = option_map revision_by (gate_of name kept)
 
--- the role that the token of that digest has, among these
+-- the role that the token of a digest has among these tokens
 abbrev pub role_in : List ℕ → List Token → Option Role
 role_in digest [] = None
 role_in digest (token ∷ tokens) = if bytes_eq token.digest digest then Some token.role else role_in digest tokens
 
--- the revision of a gate's domain, if one of its tokens has that digest
+-- the revision of a gate's domain, if one of its tokens has the digest
 abbrev pub revision_with : List ℕ → Gate → Option Revision
 revision_with digest gate = option_map (λ _. revision_by gate) (role_in digest gate.tokens)
 
--- by the gate that is remembered under that name, if there is one
+-- the revision by the gate that is remembered under a name, if one of its tokens has the digest
 abbrev pub revision_in : List ℕ → List ℕ → List (List ℕ × Gate) → Option Revision
 revision_in name digest gates = option_and_then (revision_with digest) (lookup (bytes_eq name) gates)
 
--- after a use of the gate under that name
+-- the gates after a use of the one under a name
 abbrev pub used : List ℕ → List (List ℕ × Gate) → List (List ℕ × Gate)
 used name gates = promoted (bytes_eq name) gates
 
--- with that gate under that name; of 512 others the one that was not used for longest goes
+-- the gates with one more under a name; of 512 others the one that was not used for longest goes
 abbrev pub with_gate : List ℕ → Gate → List (List ℕ × Gate) → List (List ℕ × Gate)
 with_gate name gate gates = put_entries bytes_eq (lru_cache gates 512) name gate
 
--- with nothing under that name
+-- the gates without the one under a name
 abbrev pub without_gate : List ℕ → List (List ℕ × Gate) → List (List ℕ × Gate)
 without_gate name gates = remove_entry (bytes_eq name) gates

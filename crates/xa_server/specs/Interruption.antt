@@ -24,12 +24,12 @@ module _ {R : Type 0} (custody : R → Custody) where
     pub crash : (custody new.records).clean → (custody old.records).sound
         → LeavesStep (custody old.records).may_leave (custody new.records).may_leave (world custody old) event.0 event.1
 
-  -- after a refusal the keeper is sound still; after another reply it is by itself
+  -- the keeper stays sound after a message: that is asked after a refusal, and follows after any other reply
   abbrev pub StaysSound : ServerModel R → Reply → Type 0
   StaysSound new (Sent bytes) = Unit {0}
   StaysSound new (Refused failure) = (custody new.records).sound
 
-  -- these messages were served one after another, and each time it went on
+  -- messages were served one after another, and after each of them the keeper stayed sound
   abbrev pub ServesAll : ServerModel R → List Event → List Reply → ServerModel R → Type 0
   ServesAll old [] [] new = new ≡ old
   ServesAll old (event ∷ events) (reply ∷ replies) new =
@@ -37,7 +37,7 @@ module _ {R : Type 0} (custody : R → Custody) where
   ServesAll old [] (_ ∷ _) new = ⊥
   ServesAll old (_ ∷ _) [] new = ⊥
 
-  -- these messages were served, and then one more, whatever its reply: in it, or after it, the server crashes
+  -- messages were served, and then one more, whatever its reply: in it, or after it, the server crashes
   pub record IsInterrupted (old new : ServerModel R) (events : List Event) (replies : List Reply) (last : Event)
       (reply : Reply) : Type 0 where
     pub sound : (custody old.records).sound
@@ -46,12 +46,12 @@ module _ {R : Type 0} (custody : R → Custody) where
     pub stopped : Serves mid new last reply
     pub clean : (custody new.records).clean
 
-  -- of messages of which so many were answered
+  -- what a crash leaves of messages of which so many were answered
   pub record LeavesFirst (old new : ServerModel R) (messages : List Event) (answered : ℕ) : Type 0 where
     -- a crash leaves the states after the first k messages, for some k: those that were answered are among them
     pub states : (left : Kept) → (custody new.records).may_leave left
         → (k : ℕ) × (answered ≤ k) × AreStatesAfter (world custody old) (take k messages) left
-    -- and it doesn't leave just anything
+    -- a crash doesn't leave just anything
     pub some : (other : Kept) × ¬ (custody new.records).may_leave other
 
   -- wherever a list of messages is interrupted: those before the last that were refused are as if they had never come

@@ -43,19 +43,19 @@ sent_replies [] = []
 sent_replies (Sent bytes ∷ replies) = Sent bytes ∷ sent_replies replies
 sent_replies (Refused _ ∷ replies) = sent_replies replies
 
--- with refusals: as if the refused messages had never come
+-- the headline, of a run with refusals: as if the refused messages had never come
 abbrev pub IsIsolatedBesideRefusals : World → World → List Event → List Reply → Type 0
 IsIsolatedBesideRefusals old new events replies =
     (domain : List ℕ) → IsAlone old new (answered_events events replies) (sent_replies replies) domain
 
--- two runs: one operator, one state of the domain as they begin, and its own messages the same
+-- two runs agree on a domain: one operator, one state of the domain as they begin, and its own messages the same
 pub record AgreeOn (domain : List ℕ) (first second : World) (first_events second_events : List Event) : Type 0 where
   pub operator : first.operator ≡ second.operator
   pub state : state domain first ≡ state domain second
   pub messages : own_events domain first_events ≡ own_events domain second_events
 
--- the consequence, in two worlds: however the other domains differ, the domain is told the same and is left in one
--- state
+-- the consequence of the headline, in two worlds: however the other domains differ, the domain is told the same and is
+-- left in one state
 abbrev pub TwoWorldsAgree : Type 0
 TwoWorldsAgree =
     (first first_after second second_after : World) (first_events second_events : List Event)

@@ -9,27 +9,27 @@ use Rattle.xa_server.specs.declared.front_error.FrontError.TheVariants.{Memory, 
 use Rattle.xa_server.specs.declared.front_error.FrontError.TheVariants.{Full}
 use Rattle.xa_server.specs.declared.lines.Conn.{Conn}
 
--- the 64 connections by their numbers: the stream of each that is open
+-- the lines: the 64 connections by their numbers, the stream of each that is open
 abbrev pub Lines : Type 0
 Lines = List (Option Stream)
 
--- none is open
+-- the lines of which none is open
 abbrev pub none_open : Lines
 none_open = replicate 64 None
 
--- the stream of a connection, if it is open
+-- the stream of a connection, if that is open
 abbrev pub line_at : Conn → Lines → Option Stream
 line_at conn lines = slice_index_or lines conn.number None
 
--- with another stream in its place, or with none
+-- the lines with another stream at a connection, or with none
 abbrev pub with_line : Conn → Option Stream → Lines → Lines
 with_line conn line lines = slice_set lines conn.number line
 
--- the connection is open, with that stream
+-- a connection is open, with that stream
 abbrev pub IsOpen : Conn → Lines → Stream → Type 0
 IsOpen conn lines stream = line_at conn lines ≡ Some stream
 
--- the least number of which none is open
+-- the least number of which no connection is open
 abbrev pub first_free : Lines → Option ℕ
 first_free [] = None
 first_free (None ∷ lines) = Some 0
@@ -68,13 +68,13 @@ IsClosed conn old (Err _) new = ⊥
 abbrev pub held_at : Conn → Lines → Option ℕ
 held_at conn lines = option_map (λ (stream : Stream). length stream.held) (line_at conn lines)
 
--- what stands at the front of a stream, if there is one
+-- what stands at the front of a stream that may not be there
 abbrev pub IsLookedIn : Option Stream → Result Look FrontError → Type 0
 IsLookedIn line (Ok look) = (stream : Stream) × (line ≡ Some stream) × IsLook stream look
 IsLookedIn line (Err NoSuchConnection) = line ≡ None
 IsLookedIn line (Err Memory) = (stream : Stream) × (line ≡ Some stream) × (stream.ended ≡ false)
 IsLookedIn line (Err _) = ⊥
 
--- and of a connection's
+-- `IsLookedIn` of a connection's stream
 abbrev pub IsLooked : Conn → Lines → Result Look FrontError → Type 0
 IsLooked conn lines result = IsLookedIn (line_at conn lines) result

@@ -44,7 +44,7 @@ use Rattle.xa_server.specs.ErrorCode.{code_of_route_fault, error_reply}
 use Rattle.xa_server.specs.Replies.{created_reply, decision_reply, done_reply, json_reply}
 use Rattle.xa_server.specs.View.{view_of}
 
--- the reply and the domain's state after it, or an error answer, which leaves the state
+-- an answer: the reply and the domain's state after it, or an error answer, which leaves the state
 abbrev pub Answer : Type 0
 Answer = Result (List ℕ × Option DomainState) ErrorCode
 
@@ -60,7 +60,7 @@ route_or_error (Err fault) = Err (code_of_route_fault fault)
 abbrev pub digest_shown : Message → Option (List ℕ)
 digest_shown message = option_map sha256 (token_in message.fields)
 
--- whether that is the operator's
+-- whether a digest, if there is one, is that of the operator's token
 abbrev pub is_operators : List ℕ → Option (List ℕ) → Bool
 is_operators operator None = false
 is_operators operator (Some digest) = bytes_eq digest operator
@@ -151,7 +151,7 @@ by_domain_command domain.ShowSource body state = told (λ kept. Ok (json_reply (
 
 -- ---- what is asked for of one document
 
--- its text
+-- the reply with the text of a document
 abbrev pub text_reply : DocumentKey → DomainState → Result (List ℕ) ErrorCode
 text_reply key kept = ok_or (text_in key kept) (Keeper Absent) >>= (λ text. Ok (json_reply text))
 
@@ -195,7 +195,8 @@ step operator state message moment = reply_and_state state (answer operator stat
 
 -- ---- a message whose path names no domain
 
--- of the domains there are, their names alone are looked at, and only by the operator's list
+-- the answer to a message of no domain: of the domains there are, their names alone are looked at, and only by the
+-- operator's list
 abbrev pub general_by_route : List ℕ → List (List ℕ) → Message → Route → Result (List ℕ) ErrorCode
 general_by_route operator names message to.Domains =
     by_operator operator message >>= (λ _. Ok (json_reply (names_body names)))

@@ -11,7 +11,7 @@ use Rattle.xa_server.specs.Front.{FrontModel}
 abbrev pub front_is_sound : {R : Type 0} → (R → Custody) → FrontModel R → Type 0
 front_is_sound custody front = (custody front.server.records).sound
 
--- and goes on if that can
+-- a front's keeper is open: it can go on
 abbrev pub front_keeper_is_open : {R : Type 0} → (R → Custody) → FrontModel R → Bool
 front_keeper_is_open custody front = (custody front.server.records).is_open
 
@@ -20,7 +20,7 @@ abbrev pub found_memory : {X : Type 0} → Result X FrontError → Bool
 found_memory (Err Memory) = false
 found_memory _ = true
 
--- whether a call that was played has, by its outcome
+-- whether a call that was played has found memory, by its outcome
 abbrev pub outcome_found_memory : Outcome → Bool
 outcome_found_memory (outcome.Begun result) = found_memory result
 outcome_found_memory (outcome.Held result) = found_memory result

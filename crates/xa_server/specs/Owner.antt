@@ -4,7 +4,7 @@ use Rattle.xa_http.specs.declared.message.Message.{Message}
 use Rattle.xa_http.specs.Routes.{address_of, named_part}
 use Rattle.xa_records.specs.DomainName.{is_domain_name}
 
--- the part itself, if it is a domain name
+-- a part of a path, if it is a domain name
 abbrev pub name_if : List ℕ → Option (List ℕ)
 name_if part = if is_domain_name part then Some part else None
 

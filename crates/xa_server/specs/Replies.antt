@@ -6,19 +6,19 @@ use Rattle.xa_http.specs.Reply.{http_bytes}
 use Rattle.xa_server.specs.declared.replies.Reply.{Reply}
 use Rattle.xa_server.specs.declared.replies.Reply.TheVariants.{Sent, Refused}
 
--- what is read of a domain
+-- the reply with what is read of a domain
 unfoldable pub json_reply : List ℕ → List ℕ
 json_reply body = http_bytes 200 Json Nothing body
 
--- a response (JSON Profile of XACML 3.0, section 7)
+-- the reply with a response (JSON Profile of XACML 3.0, section 7)
 unfoldable pub decision_reply : List ℕ → List ℕ
 decision_reply body = http_bytes 200 XacmlJson Nothing body
 
--- a change was made
+-- the reply to a change that was made
 unfoldable pub done_reply : List ℕ
 done_reply = http_bytes 200 Json Nothing (codes "{}")
 
--- what wasn't there is there now
+-- the reply to a change by which something is there that wasn't
 unfoldable pub created_reply : List ℕ
 created_reply = http_bytes 201 Json Nothing (codes "{}")
 
@@ -26,7 +26,7 @@ created_reply = http_bytes 201 Json Nothing (codes "{}")
 unfoldable pub unavailable_reply : List ℕ
 unavailable_reply = http_bytes 503 Json Nothing (codes "{\"Error\":\"Unavailable\"}")
 
--- the bytes that are sent; of a refused message the 503
+-- the bytes of a reply; of a refused message those of the 503
 abbrev pub bytes_of : Reply → List ℕ
 bytes_of (Sent bytes) = bytes
 bytes_of (Refused _) = unavailable_reply

@@ -13,13 +13,13 @@ use Rattle.xa_server.specs.ValidCache.{AreValid}
 use Rattle.xa_server.specs.View.{view_of}
 use Rattle.xa_server.specs.Views.{ViewsModel}
 
--- cached decisions with their counts, cached views, and gates that are remembered
+-- what a server caches: decisions with their counts, views, and gates that are remembered
 pub record ResourcesModel : Type 0 where
   pub decisions : DecisionsModel
   pub views : ViewsModel
   pub gates : List (List ℕ × Gate)
 
--- as a server begins
+-- what is cached as a server begins: nothing
 abbrev pub empty_resources : ResourcesModel
 empty_resources = record {
   decisions = nothing_cached;
@@ -27,35 +27,37 @@ empty_resources = record {
   gates = [];
 }
 
--- the view is that of the domain of that number, if this is still there and at the view's epoch
+-- a cached view is that of the domain of its number, if this is still there and at the view's epoch
 abbrev pub IsReady : Kept → ℕ × Ready → Type 0
 IsReady kept entry = StandsUnder kept entry.0 entry.1.revision.epoch (λ state. view_of state ≡ entry.1.view)
 
+-- all cached views are right
 abbrev pub AreReady : Kept → List (ℕ × Ready) → Type 0
 AreReady kept views = AllByRecursion (IsReady kept) views
 
--- the gate is that of the domain of that name
+-- a remembered gate is that of the domain of its name
 abbrev pub IsGate : Kept → List ℕ × Gate → Type 0
 IsGate kept entry = gate_of entry.0 kept ≡ Some entry.1
 
+-- all remembered gates are right
 abbrev pub AreGates : Kept → List (List ℕ × Gate) → Type 0
 AreGates kept gates = AllByRecursion (IsGate kept) gates
 
--- each cached decision may be given again, each cached view may decide, and each gate that is remembered is its
--- domain's
+-- all that is cached stands: each decision may be given again, each view may decide, and each gate that is remembered
+-- is its domain's
 pub record AllStand (kept : Kept) (resources : ResourcesModel) : Type 0 where
   pub decisions : AreValid kept resources.decisions.cached
   pub views : AreReady kept resources.views.views
   pub gates : AreGates kept resources.gates
 
--- after a use of the gate under that name
+-- what is cached after a use of the gate under a name
 abbrev pub using_gate : List ℕ → ResourcesModel → ResourcesModel
 using_gate name resources = record resources { gates = used name resources.gates }
 
--- with that gate under that name
+-- what is cached with one more gate under a name
 abbrev pub remembering : List ℕ → Gate → ResourcesModel → ResourcesModel
 remembering name gate resources = record resources { gates = with_gate name gate resources.gates }
 
--- with no gate under that name
+-- what is cached without the gate under a name
 abbrev pub forgetting : List ℕ → ResourcesModel → ResourcesModel
 forgetting name resources = record resources { gates = without_gate name resources.gates }

@@ -30,6 +30,7 @@ pub record IsGeneral (old new : World) (message : Message) (bytes : List ℕ) : 
   pub reply : bytes ≡ general_reply old.operator (names_of old.kept) message
   pub same : new ≡ old
 
+-- a message was answered, by whose it is
 abbrev pub IsSent : World → World → ℤ → Message → List ℕ → Option (List ℕ) → Type 0
 IsSent old new moment message bytes None = IsGeneral old new message bytes
 IsSent old new moment message bytes (Some domain) = IsStep old new domain moment message bytes
@@ -39,7 +40,8 @@ abbrev pub IsServed : World → World → ℤ → Message → Reply → Type 0
 IsServed old new moment message (Sent bytes) = IsSent old new moment message bytes (owner message)
 IsServed old new moment message (Refused _) = new ≡ old
 
--- the keeper has counted one more failure if a message was refused for want of storage, and else none
+-- how often the keeper has failed by a reply: once more if the message was refused for want of storage, and else no
+-- more
 abbrev pub CountsReply : ℕ → ℕ → Reply → Type 0
 CountsReply old new (Sent bytes) = new ≡ old
 CountsReply old new (Refused Memory) = new ≡ old

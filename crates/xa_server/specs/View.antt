@@ -15,18 +15,19 @@ use Rattle.xa_records.specs.Readings.{view_of_state}
 abbrev pub active_document : List ℕ → Parsed → Active
 active_document text parsed = record { kind = parsed.kind; id = parsed.id; version = parsed.version; text = text }
 
--- the one that a text is, if it is one
+-- the document that a text is, if it is one, as references may resolve to it
 abbrev pub active_if : List ℕ → Result Parsed NotationError → Option Active
 active_if text (Ok parsed) = Some (active_document text parsed)
 active_if text (Err _) = None
 
--- each active text is read anew
+-- the documents to which references may resolve: each active text is read anew
 abbrev pub active_of : List ActiveText → List Active
 active_of texts = filter_map (λ one. active_if one.text (document_of one.text)) texts
 
+-- what decides in a domain, by the texts, the root and the rows that are kept
 abbrev pub viewed : KeptView → Viewed
 viewed kept = view_by (active_of kept.texts) kept.root kept.source
 
--- what decides in a domain of that state
+-- what decides in a domain, by its state
 abbrev pub view_of : DomainState → Viewed
 view_of domain = viewed (view_of_state domain)

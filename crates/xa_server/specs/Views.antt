@@ -8,44 +8,44 @@ use Rattle.xa_decide.specs.Decision.{Viewed}
 use Rattle.xa_decide.specs.Nodes.{nodes_of_tree}
 use Rattle.xa_server.specs.declared.ready.Ready.{Ready}
 
--- the views, how many of them there may be, and how many bytes they may take together
+-- the cached views, how many of them there may be, and how many bytes they may take together
 pub record ViewsModel : Type 0 where
   pub views : List (ℕ × Ready)
   pub max_count : ℕ
   pub max_bytes : ℕ
 
--- the view, if it is of that epoch
+-- a cached view, if it is of that epoch
 abbrev pub view_if : ℕ → Ready → Option Viewed
 view_if epoch ready = if nat_eq ready.revision.epoch epoch then Some ready.view else None
 
--- the view under that number, if it is of that epoch
+-- the cached view under a number, if it is of that epoch
 abbrev pub view_ready : ℕ → ℕ → List (ℕ × Ready) → Option Viewed
 view_ready number epoch views = option_and_then (view_if epoch) (lookup (nat_eq number) views)
 
--- after a use of the view under that number
+-- the cached views after a use of the one under a number
 abbrev pub touched : ℕ → ViewsModel → ViewsModel
 touched number cached = record cached { views = promoted (nat_eq number) cached.views }
 
--- with nothing under that number
+-- the cached views without the one under a number
 abbrev pub without : ℕ → ViewsModel → ViewsModel
 without number cached = record cached { views = remove_entry (nat_eq number) cached.views }
 
--- how many of the first find room, if there is room for so many views of so many bytes
+-- how many views from the front of a list find room, if there is room for so many of so many bytes
 abbrev pub fitting_count : ℕ → ℕ → List (ℕ × Ready) → ℕ
 fitting_count most bytes [] = 0
 fitting_count most bytes (entry ∷ entries) =
     if nat_lt 0 most && nat_le entry.1.bytes bytes then fitting_count (most - 1) (bytes - entry.1.bytes) entries + 1
     else 0
 
--- that view first, and nothing else under its number
+-- a list of views with one more first, and nothing else under its number
 abbrev pub in_front : ℕ → Ready → List (ℕ × Ready) → List (ℕ × Ready)
 in_front number ready views = (number, ready) ∷ remove_entry (nat_eq number) views
 
--- the first, as many as find room
+-- the views from the front of a list, as many as find room
 abbrev pub shortened : ℕ → ℕ → List (ℕ × Ready) → List (ℕ × Ready)
 shortened most bytes views = take (fitting_count most bytes views) views
 
--- with that view under that number
+-- the cached views with one more under a number
 abbrev pub with_view : ℕ → Ready → ViewsModel → ViewsModel
 with_view number ready cached =
     record cached { views = shortened cached.max_count cached.max_bytes (in_front number ready cached.views) }
@@ -54,14 +54,15 @@ with_view number ready cached =
 abbrev pub added : ℕ → ℕ → ℕ
 added a b = min (a + b) (2 ^ 64 - 1)
 
+-- a product, as far as numbers of 64 bits go
 abbrev pub times : ℕ → ℕ → ℕ
 times a b = min (a * b) (2 ^ 64 - 1)
 
--- by how much memory a view is counted but for its tree: 8 bytes for each byte of the texts that were read for it, 512
+-- the memory by which a view is counted but for its tree: 8 bytes for each byte of the texts that were read for it, 512
 -- for each row, and 524,288 for the rest
 abbrev pub bytes_of_view : ℕ → ℕ → ℕ
 bytes_of_view read rows = added (added (times read 8) (times rows 512)) 524_288
 
--- by how much its tree is: 24 bytes for each node
+-- the memory by which a view's tree is counted: 24 bytes for each node
 abbrev pub bytes_of_tree : Viewed → ℕ
 bytes_of_tree view = times (nodes_of_tree view.tree) 24

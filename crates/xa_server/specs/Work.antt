@@ -28,36 +28,38 @@ use Rattle.xa_server.specs.World.{World}
 
 -- ---- which decision a message asks for
 
+-- the domain, if it has let the message in
 abbrev pub domain_if : Domain → Result (Unit {0}) ErrorCode → Option Domain
 domain_if domain (Ok _) = Some domain
 domain_if domain (Err code) = None
 
--- the domain of that name, if it lets the message ask for decisions
+-- the domain of a name, if it lets the message ask for decisions
 abbrev pub domain_asked : Kept → Message → List ℕ → Option Domain
 domain_asked kept message name =
     option_and_then (λ d. domain_if d (admitted true (Some d.state) message)) (get kept.domains name)
 
--- the domain of which that route asks for a decision
+-- the domain of which a route asks for a decision
 abbrev pub domain_of_route : Kept → Message → Route → Option Domain
 domain_of_route kept message (to.Decide part) = option_and_then (domain_asked kept message) (name_if part)
 domain_of_route kept message _ = None
 
+-- the domain of which a message asks for a decision
 abbrev pub domain_of_message : Kept → Message → Result Route RouteFault → Option Domain
 domain_of_message kept message (Ok route) = domain_of_route kept message route
 domain_of_message kept message (Err fault) = None
 
--- the key under which its decision on that body is cached
+-- the key under which a domain's decision on a body is cached
 abbrev pub cache_key : Domain → List ℕ → Key
 cache_key domain body = record { number = domain.number; epoch = domain.epoch; body = body }
 
--- the body of the response that is evaluated, and whether it is the same at every moment; nothing if the request's body
--- is no JSON
+-- the body of the response that is evaluated by what decides, and whether it is the same at every moment; nothing if
+-- the request's body is no JSON
 unfoldable pub response_of : Viewed → List ℕ → ℤ → Option (List ℕ × Bool)
 response_of view body moment =
     option_map (λ answered. (decision.body_of answered, is_timeless_answer view body))
     (decision.answer view body moment)
 
--- the same, by what decides in a domain of that state
+-- `response_of` what decides in a domain of that state
 abbrev pub evaluated_response : DomainState → List ℕ → ℤ → Option (List ℕ × Bool)
 evaluated_response state body moment = response_of (view_of state) body moment
 
@@ -67,7 +69,7 @@ evaluated_response state body moment = response_of (view_of state) body moment
 abbrev pub cached_body : Key → List ℕ → DecisionsModel → Option (List ℕ)
 cached_body key body decisions = if nat_le (length body) 16_384 then found key decisions.cached else None
 
--- a look-up makes that decision the newest use
+-- the cached decisions after a look-up: it is the newest use of that decision
 abbrev pub looked_up : Key → DecisionsModel → DecisionsModel
 looked_up key decisions = record decisions { cached = looked key decisions.cached }
 
@@ -85,14 +87,14 @@ IsEvaluated key None old new = new ≡ old
 IsEvaluated key (Some (body, timeless)) old new =
     IsOneMore old.evaluations new.evaluations × IsBodyCached (timeless && fits key body) key body old new
 
--- an ask whose decision is cached, or isn't. One that is refused may have done as much, or nothing
+-- the work of an ask whose decision is cached, or isn't. One that is refused may have done as much, or nothing
 abbrev pub IsAskWork : Key → Option (List ℕ) → Option (List ℕ × Bool) → Reply → DecisionsModel → DecisionsModel → Type 0
 IsAskWork key (Some body) worked (Sent _) old new = new ≡ looked_up key old
 IsAskWork key (Some body) worked (Refused _) old new = (new ≡ old) ⊎ (new ≡ looked_up key old)
 IsAskWork key None worked (Sent _) old new = IsEvaluated key worked old new
 IsAskWork key None worked (Refused _) old new = (new ≡ old) ⊎ IsEvaluated key worked old new
 
--- an ask of a domain; any other message moves nothing
+-- the work of an ask of a domain; any other message does none
 abbrev pub IsWorkOf : Option Domain → List ℕ → ℤ → Reply → DecisionsModel → DecisionsModel → Type 0
 IsWorkOf None body moment reply old new = new ≡ old
 IsWorkOf (Some domain) body moment reply old new =
@@ -104,7 +106,7 @@ abbrev pub IsWork : Kept → ℤ → Message → Reply → DecisionsModel → De
 IsWork kept moment message reply old new =
     IsWorkOf (domain_of_message kept message (route_of message)) message.body moment reply old new
 
--- the work of one message after another
+-- the work of the messages of a run, one after another
 abbrev pub IsWorkOfRun : World → DecisionsModel → List Event → List Reply → World → DecisionsModel → Type 0
 IsWorkOfRun old decisions [] [] new left = (new ≡ old) × (left ≡ decisions)
 IsWorkOfRun old decisions (event ∷ events) (reply ∷ replies) new left =

@@ -4,7 +4,7 @@ use Rattle.xa_records.specs.Keeper.{Custody}
 use Rattle.xa_records.specs.Kept.{Kept}
 use Rattle.xa_server.specs.Decisions.{DecisionsModel}
 
--- the digest of the operator's token, and what is kept of all domains
+-- a world: the digest of the operator's token, and what is kept of all domains
 pub record World : Type 0 where
   pub operator : List ℕ
   pub kept : Kept

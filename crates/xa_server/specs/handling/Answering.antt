@@ -16,7 +16,7 @@ use Rattle.xa_server.specs.Front.{IsGiven, ServerState}
 use Rattle.xa_server.specs.Fronting.{CountsAnswer, IfAnswerSent, LeavesNext, TakesNext}
 use Rattle.xa_server.specs.World.{ServerModel, World, world}
 
--- a stream takes a piece, whole or not at all, if there is one
+-- a stream that may not be there takes a piece, whole or not at all
 abbrev pub IsFed : Option Stream → List ℕ → Result (Unit {0}) FrontError → Option Stream → Type 0
 IsFed old piece (Ok _) new =
     (stream : Stream) × (old ≡ Some stream) × (length stream.held + length piece ≤ 1_048_576)
@@ -65,16 +65,17 @@ IsFaultGiven fault stream after (Err error) = (error ≡ Memory) × (after ≡ s
 -- what is told of the keeper after the next of a stream that may not be there was answered
 pub record IsHandedOn (old new : Custody) (before : World) (moment : ℤ) (line : Option Stream)
     (result : Result (Option Answer) FrontError) : Type 0 where
-  -- if it is sound, it was; if the disk has given back what was written, it had before
+  -- if the keeper is sound, it was; if the disk has given back what was written, it had before
   pub sound : new.sound → old.sound
   pub clean : new.clean → old.clean
-  -- then it stays sound, unless a message was refused, and a crash may leave this
+  -- the keeper stays sound, unless a message was refused, and a crash may leave this, if it was sound and the disk has
+  -- given back what was written
   pub stays : new.clean → old.sound → IfAnswerSent result new.sound
   pub crash : new.clean → old.sound → LeavesNext old.may_leave new.may_leave before moment line
-  -- its calls that failed for want of storage are counted
+  -- the keeper's calls that failed for want of storage are counted
   pub counts : CountsAnswer old.faults new.faults result
 
--- the same of the keeper of a server
+-- `IsHandedOn` of the keeper of a server
 abbrev pub HandsOn : {R : Type 0} → (R → Custody) → ServerModel R → ServerModel R → ℤ → Option Stream
     → Result (Option Answer) FrontError → Type 0
 HandsOn custody old new moment line result =

@@ -31,17 +31,17 @@ use Rattle.xa_server.specs.View.{view_of}
 use Rattle.xa_server.specs.Work.{IsEvaluated, cache_key, cached_body, domain_of_message, domain_of_route, looked_up}
 use Rattle.xa_server.specs.Work.{evaluated_response, response_of}
 
--- the body of the response, and whether it is the same at every moment; nothing of an absent domain, or if the
--- request's body is no JSON
+-- what a domain evaluates: the body of the response, and whether it is the same at every moment; nothing of an absent
+-- domain, or if the request's body is no JSON
 abbrev pub evaluated_in : Option DomainState → List ℕ → ℤ → Option (List ℕ × Bool)
 evaluated_in state body moment = option_and_then (λ s. evaluated_response s body moment) state
 
--- the same, or why there is none
+-- `evaluated_in` a domain, or why there is nothing
 abbrev pub response_told : List ℕ → ℤ → Option DomainState → Result (List ℕ × Bool) ErrorCode
 response_told body moment state =
     ok_or state (error.Keeper Absent) >>= (λ s. ok_or (evaluated_response s body moment) (error.Body NotJson))
 
--- what decides in a domain; nothing in an absent one
+-- what decides in a domain, or that it is absent
 abbrev pub view_told : Option DomainState → Result Viewed ErrorCode
 view_told state = ok_or (option_map view_of state) (error.Keeper Absent)
 
@@ -51,19 +51,18 @@ IsResponseReply meant (Ok bytes) = option_map (λ response. decision_reply respo
 IsResponseReply meant (Err (Error code)) = (meant ≡ None) × (code ≡ error.Body NotJson)
 IsResponseReply meant (Err (Failed failure)) = failure ≡ Memory
 
--- what decides was made ready, at that revision; or an error answer says why not, or that failed; and nothing has
--- changed
+-- a view was made ready, at that revision; or an error answer says why not, or it failed; and nothing has changed
 abbrev pub IsMadeReady : Kept → Kept → Revision → Result Ready Unsuccessful → Result Viewed ErrorCode → Type 0
 IsMadeReady old new revision (Ok ready) meant = (meant ≡ Ok ready.view) × (ready.revision ≡ revision) × (new ≡ old)
 IsMadeReady old new revision (Err (Error code)) meant = (meant ≡ Err code) × (new ≡ old)
 IsMadeReady old new revision (Err (Failed failure)) meant = new ≡ old
 
--- the same of the domain that has let an ask in, if the keeper is sound
+-- `IsMadeReady` of the domain that has let an ask in, if the keeper is sound
 abbrev pub MakesReady : Custody → Custody → Ask → Result Ready Unsuccessful → Type 0
 MakesReady old new ask result =
     new.sound → IsMadeReady old.kept new.kept ask.revision result (view_told (state_of ask.name.now old.kept))
 
--- the reply
+-- the reply to a request by the state of a domain
 abbrev pub reply_told : List ℕ → ℤ → Option DomainState → Result (List ℕ) ErrorCode
 reply_told body moment state = response_told body moment state >>= (λ response. Ok (decision_reply response.0))
 
@@ -71,7 +70,7 @@ reply_told body moment state = response_told body moment state >>= (λ response.
 abbrev pub key_of_revision : Revision → List ℕ → Key
 key_of_revision revision body = record { number = revision.number; epoch = revision.epoch; body = body }
 
--- the same, if the body isn't too large: it has at most 16,384 bytes
+-- the key, if its body isn't too large: it has at most 16,384 bytes
 abbrev pub key_within : Key → Option Key
 key_within key = if nat_le (length key.body) 16_384 then Some key else None
 
@@ -81,34 +80,37 @@ IsNoted (Some key) body timeless old new = IsEvaluated key (Some (body, timeless
 IsNoted None body timeless old new =
     IsOneMore old.evaluations new.evaluations × (new.cached ≡ old.cached) × (new.unkept ≡ old.unkept)
 
--- the domain that has let it in is there, at that revision
+-- the domain that has let an ask in is there, at the ask's revision
 abbrev pub IsLetIn : Kept → Ask → Type 0
 IsLetIn kept ask = revision_of ask.name.now kept ≡ Some ask.revision
 
--- this holds if a domain has let it in, if all that the server shares stood before, and if the keeper is sound after
+-- the claim holds if a domain has let the ask in, if all that the server shares stood before, and if the keeper is
+-- sound after
 abbrev pub IfLetIn : Custody → Custody → Ask → ResourcesModel → Type 0 → Type 0
 IfLetIn old new ask before claim = IsLetIn old.kept ask → AllStand old.kept before → new.sound → claim
 
--- the key under which the decision on the body is cached
+-- the key under which the decision of an ask is cached
 abbrev pub key_asked : Ask → List ℕ → Key
 key_asked ask body = key_of_revision ask.revision body
 
--- the key of a read ask is that of its body, if the body isn't too large
+-- a read ask has the key of its body, if the body isn't too large
 abbrev pub HasItsKey : ReadAsk → Type 0
 HasItsKey read = read.key ≡ key_within (key_asked read.ask.now read.body)
 
--- what its response comes to, by what decides; by what decides in its domain; and the reply
+-- what an ask evaluates, by what decides
 abbrev pub response_asked : Viewed → Ask → List ℕ → Option (List ℕ × Bool)
 response_asked view ask body = response_of view body ask.moment
 
+-- what an ask evaluates, by what decides in its domain
 abbrev pub evaluated_asked : Kept → Ask → List ℕ → Option (List ℕ × Bool)
 evaluated_asked kept ask body = evaluated_in (state_of ask.name.now kept) body ask.moment
 
+-- the reply to an ask
 abbrev pub reply_asked : Kept → Ask → List ℕ → Result (List ℕ) ErrorCode
 reply_asked kept ask body = reply_told body ask.moment (state_of ask.name.now kept)
 
--- the decision was evaluated, with success; by an error answer nothing was there to be evaluated, and a failure has
--- left all
+-- a decision was evaluated, with success; by an error answer nothing was there to be evaluated, and a failure has left
+-- all
 abbrev pub IsFresh : Key → Option (List ℕ × Bool) → Result (List ℕ) Unsuccessful → DecisionsModel → DecisionsModel
     → Type 0
 IsFresh key worked (Ok bytes) old new = IsEvaluated key worked old new
@@ -140,7 +142,7 @@ pub record FreshReply (old new : Custody) (ask : Ask) (body : List ℕ) (before 
 
 -- ---- what was done to cached decisions
 
--- by a message, by the domain that it asks
+-- what was done to cached decisions by a message, by the domain that it asks
 abbrev pub WorksOf : Option Domain → List ℕ → ℤ → Result (List ℕ) Unsuccessful → DecisionsModel → DecisionsModel
     → Type 0
 WorksOf None body moment result old new = new ≡ old
@@ -148,22 +150,25 @@ WorksOf (Some domain) body moment result old new =
     IsAsked (cache_key domain body) (cached_body (cache_key domain body) body old)
     (evaluated_response domain.state body moment) result old new
 
+-- `WorksOf` a message of a route
 abbrev pub WorksRoute : Received → Kept → Route → Result (List ℕ) Unsuccessful → DecisionsModel → DecisionsModel
     → Type 0
 WorksRoute received kept route result old new =
     WorksOf (domain_of_route kept received.message.now route) received.message.now.body received.moment result old new
 
+-- `WorksOf` a message
 abbrev pub WorksMessage : Received → Kept → Result (List ℕ) Unsuccessful → DecisionsModel → DecisionsModel → Type 0
 WorksMessage received kept result old new =
     WorksOf (domain_of_message kept received.message.now (route_of received.message.now)) received.message.now.body
     received.moment result old new
 
--- and what is told of all that a server shares, after a message that asks for this, or after a message
+-- `Sharing` after a message of a route
 abbrev pub SharesRoute : Custody → Custody → Received → Route → ResourcesModel → ResourcesModel
     → Result (List ℕ) Unsuccessful → Type 0
 SharesRoute old new received route before after result =
     Sharing old new before after result (WorksRoute received old.kept route result before.decisions after.decisions)
 
+-- `Sharing` after a message
 abbrev pub SharesMessage : Custody → Custody → Received → ResourcesModel → ResourcesModel
     → Result (List ℕ) Unsuccessful → Type 0
 SharesMessage old new received before after result =

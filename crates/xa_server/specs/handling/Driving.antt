@@ -61,14 +61,15 @@ FeedsOne conn piece old new found finding (Err _) =
 
 -- ---- one reply
 
--- by whether it was written whole, whether the keeper can't go on then, and whether it is the last
+-- the turn after a reply, by whether it was written whole, whether the keeper is shut then, and whether the reply is
+-- the last
 abbrev pub turn_after : Bool → Bool → Bool → Turn
 turn_after false shut last = Ends drive_end.WriteFault
 turn_after true true last = Ends drive_end.Shut
 turn_after true false true = Ends drive_end.Ended
 turn_after true false false = Answered
 
--- what the front is asked after a reply that was written whole, and says: whether its keeper can go on, if the message
+-- what the front is asked after a reply that was written whole, and says: whether its keeper is open, if the message
 -- was refused for want of storage
 abbrev pub IsAskedAfter : Bool → Reply → Bool → Option (List Bool) → Option (List Bool) → Type 0
 IsAskedAfter true (Refused Store) true said saying = Grows said saying (false ∷ [])
@@ -96,7 +97,7 @@ IsAnsweredAt turn conn moment old new before now =
     × (now.contents ≡ before.contents) × (now.writes ≡ before.writes) × (now.said_open ≡ before.said_open))
     ⊎ (line_at conn old.lines ≡ None))
 
--- so it was at the clock's moment, if there was one
+-- `IsAnsweredAt` the clock's moment, if there was one
 abbrev pub IsAnsweredNow : Turn → Conn → FrontState → FrontState → Known → Known → Type 0
 IsAnsweredNow turn conn old new before now =
     ((moment : ℤ) × Grows before.told now.told (Some moment ∷ [])
@@ -111,7 +112,7 @@ IsAnsweredNow turn conn old new before now =
 abbrev pub IsWaiting : Stream → Type 0
 IsWaiting stream = IsNext stream next.More stream
 
--- after so many reads the messages of events were answered, each with one whole reply, and the connection goes on
+-- after so many reads the messages of events were answered, each with one whole reply, and the connection stays open
 pub record StaysOpenAfter (count : ℕ) (conn : Conn) (old new : FrontState) (stream after : Stream) (before now : Known)
     : Type 0 where
   pub calls : Calls
@@ -146,7 +147,7 @@ IsHeldAnswered (Some end) (Some stream) conn old new before now =
     IsDrivenWithin 0 end conn old new stream before now
 IsHeldAnswered result None conn old new before now = (result ≡ Some drive_end.Ended) × (new ≡ old) × (now ≡ before)
 
--- bytes were read once and answered, and the connection goes on or has ended
+-- bytes were read once and answered, and the connection stays open or has ended
 abbrev pub IsRead : Option DriveEnd → Conn → FrontState → FrontState → Stream → Known → Known → Type 0
 IsRead None conn old new stream before now =
     (after : Stream) × StaysOpenAfter 1 conn old new stream after before now × IsWaiting after

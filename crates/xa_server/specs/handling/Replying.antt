@@ -36,23 +36,24 @@ Answers old new name (Ok bytes) meant =
 Answers old new name (Err (Error code)) meant = (meant ≡ Err code) × (new ≡ old)
 Answers old new name (Err (Failed failure)) meant = new ≡ old
 
--- a message was answered so, or it failed; and nothing has changed
+-- a message was answered as is meant, or it failed; and nothing has changed
 abbrev pub Shows : {X : Type 0} → Kept → Kept → Result X Unsuccessful → Result X ErrorCode → Type 0
 Shows old new (Ok x) meant = (meant ≡ Ok x) × (new ≡ old)
 Shows old new (Err (Error code)) meant = (meant ≡ Err code) × (new ≡ old)
 Shows old new (Err (Failed failure)) meant = new ≡ old
 
--- the same, if the keeper is sound
+-- `Shows`, if the keeper is sound
 abbrev pub Tells : {X : Type 0} → Custody → Custody → Result X Unsuccessful → Result X ErrorCode → Type 0
 Tells old new result meant = new.sound → Shows old.kept new.kept result meant
 
--- a message was let in: then that is what is there, as the gate of the domain of that name
+-- a message was let in: then the result is what is there, by the gate of a domain; or it wasn't, or it failed; and
+-- nothing has changed
 abbrev pub Opens : {X : Type 0} → Kept → Kept → Option X → Result X Unsuccessful → Result (Unit {0}) ErrorCode → Type 0
 Opens old new there (Ok x) meant = (there ≡ Some x) × (meant ≡ Ok tt) × (new ≡ old)
 Opens old new there (Err (Error code)) meant = (meant ≡ Err code) × (new ≡ old)
 Opens old new there (Err (Failed failure)) meant = new ≡ old
 
--- whether a domain lets a message in that shows a token of that digest
+-- whether a domain lets a message in that shows a token of a digest
 abbrev pub admitted_by : Bool → Option DomainState → Option (List ℕ) → Result (Unit {0}) ErrorCode
 admitted_by for_decisions state shown = do
   domain ← ok_or state error.Unauthorized
@@ -63,7 +64,7 @@ admitted_by for_decisions state shown = do
 abbrev pub domain_named : Route → Option (List ℕ)
 domain_named route = option_and_then name_if (named_by route)
 
--- a message that asks for this was answered, by the domain that its path names, if it names one
+-- a message of a route was answered, by the domain that its path names, if it names one
 abbrev pub AnswersRoute : Received → Kept → Kept → Option (List ℕ) → Route → Result (List ℕ) Unsuccessful → Type 0
 AnswersRoute received old new None route result =
     Shows old new result (general_by_route received.operator (names_of old) received.message.now route)
@@ -71,32 +72,33 @@ AnswersRoute received old new (Some name) route result =
     Answers old new name result
     (by_route received.operator (state_of name old) received.message.now received.moment route)
 
--- a message was answered
+-- a message was answered, by the domain that its path names, if it names one
 abbrev pub AnswersMessage : Received → Kept → Kept → Option (List ℕ) → Result (List ℕ) Unsuccessful → Type 0
 AnswersMessage received old new None result =
     Shows old new result (general_answer received.operator (names_of old) received.message.now)
 AnswersMessage received old new (Some name) result =
     Answers old new name result (answer received.operator (state_of name old) received.message.now received.moment)
 
--- the same, if all that the server shares stood before and the keeper is sound after
+-- `AnswersRoute`, if all that the server shares stood before and the keeper is sound after
 abbrev pub TellsRoute : Custody → Custody → Received → ResourcesModel → Option (List ℕ) → Route
     → Result (List ℕ) Unsuccessful → Type 0
 TellsRoute old new received before name route result =
     AllStand old.kept before → new.sound → AnswersRoute received old.kept new.kept name route result
 
+-- `AnswersMessage`, if all that the server shares stood before and the keeper is sound after
 abbrev pub TellsMessage : Custody → Custody → Received → ResourcesModel → Result (List ℕ) Unsuccessful → Type 0
 TellsMessage old new received before result =
     AllStand old.kept before → new.sound
     → AnswersMessage received old.kept new.kept (owner received.message.now) result
 
--- the keeper has counted one more failure for want of storage, if that is why, and else none
+-- how often the keeper has failed by a result: once more if that is a failure for want of storage, and else no more
 abbrev pub Counts : {X : Type 0} → ℕ → ℕ → Result X Unsuccessful → Type 0
 Counts old new (Ok x) = new ≡ old
 Counts old new (Err (Error code)) = new ≡ old
 Counts old new (Err (Failed Memory)) = new ≡ old
 Counts old new (Err (Failed Store)) = IsOneMore old new
 
--- what goes back for it
+-- the reply that goes back for a result
 abbrev pub IsReplyOf : Result (List ℕ) Unsuccessful → Reply → Type 0
 IsReplyOf (Ok bytes) reply = reply ≡ Sent bytes
 IsReplyOf (Err (Failed failure)) reply = reply ≡ Refused failure
@@ -104,34 +106,35 @@ IsReplyOf (Err (Error code)) reply = (reply ≡ Sent (error_reply code)) ⊎ (re
 
 -- ---- what a crash may leave
 
--- unless the message failed
+-- the claim holds, unless the message failed
 abbrev pub IfTold : {X : Type 0} → Result X Unsuccessful → Type 0 → Type 0
 IfTold (Ok x) claim = claim
 IfTold (Err (Error code)) claim = claim
 IfTold (Err (Failed failure)) claim = Unit {0}
 
--- nothing that it might not have left before
+-- a crash leaves nothing that it might not have left before
 abbrev pub LeavesNoMore : (Kept → Type 0) → (Kept → Type 0) → Type 0
 LeavesNoMore before after = (left : Kept) → after left → before left
 
--- what an answer of the machine changes was made: the domain of that name has gone over into its state, and no other
--- has changed
+-- the change of a machine's answer was made: the domain of that name has gone over into its state, and no other has
+-- changed
 abbrev pub IsAnswerMade : Kept → Kept → List ℕ → Answer → Type 0
 IsAnswerMade old left name (Ok (bytes, after)) = IsChanged old left name after
 IsAnswerMade old left name (Err code) = ⊥
 
--- after a message of the domain of that name: what it might have left before, or all with that made
+-- what a crash may leave after a message of the domain of that name: what it might have left before, or all with the
+-- change made
 abbrev pub LeavesAnswer : (Kept → Type 0) → (Kept → Type 0) → Kept → List ℕ → Answer → Type 0
 LeavesAnswer before after old name meant = (left : Kept) → after left → before left ⊎ IsAnswerMade old left name meant
 
--- after a message that asks for this
+-- what a crash may leave after a message of a route
 abbrev pub LeavesRoute : (Kept → Type 0) → (Kept → Type 0) → Received → Kept → Option (List ℕ) → Route → Type 0
 LeavesRoute before after received old None route = LeavesNoMore before after
 LeavesRoute before after received old (Some name) route =
     LeavesAnswer before after old name
     (by_route received.operator (state_of name old) received.message.now received.moment route)
 
--- after a message
+-- what a crash may leave after a message
 abbrev pub LeavesMessage : (Kept → Type 0) → (Kept → Type 0) → Received → Kept → Option (List ℕ) → Type 0
 LeavesMessage before after received old None = LeavesNoMore before after
 LeavesMessage before after received old (Some name) =
@@ -142,24 +145,25 @@ LeavesMessage before after received old (Some name) =
 
 -- what is told of the keeper after a part of a message was handled; `leaves_so` is what a crash may leave
 pub record Keeping {X : Type 0} (old new : Custody) (result : Result X Unsuccessful) (leaves_so : Type 0) : Type 0 where
-  -- if it is sound, it was; if the disk has given back what was written, it had before
+  -- if the keeper is sound, it was; if the disk has given back what was written, it had before
   pub sound : new.sound → old.sound
   pub clean : new.clean → old.clean
-  -- then it stays sound, unless that failed
+  -- the keeper stays sound, unless the part failed, if it was sound and the disk has given back what was written
   pub stays : new.clean → old.sound → IfTold result new.sound
   pub leaves : new.clean → old.sound → leaves_so
-  -- its calls that failed for want of storage are counted
+  -- the keeper's calls that failed for want of storage are counted
   pub counts : Counts old.faults new.faults result
 
 -- the keeper was asked to read, or wasn't asked: a crash leaves nothing that it might not have left before
 abbrev pub OnlyReads : {X : Type 0} → Custody → Custody → Result X Unsuccessful → Type 0
 OnlyReads old new result = Keeping old new result (LeavesNoMore old.may_leave new.may_leave)
 
--- it was asked for a message that asks for this, or for a message, or wasn't asked
+-- `Keeping` after a message of a route
 abbrev pub KeepsRoute : Custody → Custody → Received → Route → Result (List ℕ) Unsuccessful → Type 0
 KeepsRoute old new received route result =
     Keeping old new result (LeavesRoute old.may_leave new.may_leave received old.kept (domain_named route) route)
 
+-- `Keeping` after a message
 abbrev pub KeepsMessage : Custody → Custody → Received → Result (List ℕ) Unsuccessful → Type 0
 KeepsMessage old new received result =
     Keeping old new result
@@ -173,32 +177,33 @@ pub record Sharing {X : Type 0} (old new : Custody) (before after : ResourcesMod
   pub stands : AllStand old.kept before → new.sound → AllStand new.kept after
   pub views : OnErr result (after.views ≡ before.views)
 
--- of it no more was touched than a gate that was remembered
+-- of all that a server shares no more was touched than a gate that was remembered
 pub record OnlyForgets (old new : Custody) (before after : ResourcesModel) : Type 0 where
   pub stands : AllStand old.kept before → new.sound → AllStand new.kept after
   pub decisions : after.decisions ≡ before.decisions
   pub views : after.views ≡ before.views
 
--- a part of a message was handled: so it was answered, and this a crash may leave, or it failed
+-- a part of a message was handled: it was answered as `is_answered` says, and a crash may leave what `leaves_so` says,
+-- or it failed
 pub record Handles {X : Type 0} (old new : Custody) (result : Result X Unsuccessful) (is_answered leaves_so : Type 0)
     : Type 0 where
   pub answers : new.sound → is_answered
   pub keeper : Keeping old new result leaves_so
 
--- a message that asks for this was handled, which may change the domain that its path names
+-- a message of a route was handled, which may change the domain that its path names
 pub record ChangesRoute (old new : Custody) (received : Received) (route : Route)
     (result : Result (List ℕ) Unsuccessful) : Type 0 where
   pub answers : new.sound → AnswersRoute received old.kept new.kept (domain_named route) route result
   pub keeper : KeepsRoute old new received route result
 
--- as that machine of the domain of that name answers
+-- `Handles` as a machine of the domain of that name answers
 abbrev pub HandlesChange : Custody → Custody → List ℕ → Result (List ℕ) Unsuccessful
     → (Option DomainState → Answer) → Type 0
 HandlesChange old new name result machine =
     Handles old new result (Answers old.kept new.kept name result (machine (state_of name old.kept)))
     (LeavesAnswer old.may_leave new.may_leave old.kept name (machine (state_of name old.kept)))
 
--- as that machine answers, which changes nothing
+-- `Handles` as a machine of the domain of that name answers, which changes nothing
 abbrev pub HandlesReading : Custody → Custody → List ℕ → Result (List ℕ) Unsuccessful
     → (Option DomainState → Answer) → Type 0
 HandlesReading old new name result machine =

@@ -6,7 +6,7 @@ use Rattle.std.specs.declared.io.ErrorKind.{ErrorKind}
 use Rattle.xa_server.specs.Transfers.{Grows, HasFailed, IsBrokenOff, IsWrittenWhole, IsWrittenOn, WriteEnd, bytes_taken}
 use Rattle.xa_server.specs.Transfers.{flushed, unflushed}
 
--- a write after which there is another took so many bytes from the front of these
+-- a write after which there is another took so many bytes from the front of the bytes
 pub record SendsSome (bytes : List ℕ) (count : ℕ) (before now : Option (List ℕ))
     (written writing : Option (List WriteEnd)) : Type 0 where
   pub write : WriteEnd
@@ -23,7 +23,7 @@ pub record SendsNone (before now : Option (List ℕ)) (written writing : Option 
   pub grows : Grows written writing (write ∷ [])
   pub appends : Appends before now []
 
--- so many writes took so many bytes from the front of these
+-- so many writes took so many bytes from the front of the bytes
 pub record SendsPart (bytes : List ℕ) (count tried : ℕ) (before now : Option (List ℕ))
     (written writing : Option (List WriteEnd)) : Type 0 where
   pub tries : List WriteEnd
@@ -38,7 +38,7 @@ abbrev pub IsTaken : Bool → List ℕ → List WriteEnd → Type 0
 IsTaken true bytes writings = IsWrittenWhole bytes writings
 IsTaken false bytes writings = IsBrokenOff bytes writings
 
--- so the bytes went to the writer
+-- the bytes went to the writer as `IsTaken` says
 pub record IsWritten (whole : Bool) (bytes : List ℕ) (before now : Option (List ℕ))
     (written writing : Option (List WriteEnd)) : Type 0 where
   pub writings : List WriteEnd

@@ -11,17 +11,17 @@ use Rattle.xa_server.specs.declared.unsuccessful.Unsuccessful.{Unsuccessful}
 use Rattle.xa_server.specs.declared.unsuccessful.Unsuccessful.TheVariants.{Error, Failed}
 use Rattle.xa_server.specs.ErrorCode.{code_of_route_fault}
 
--- of a change
+-- what a change that wasn't made comes to
 abbrev pub unsuccessful_of_change : ChangeError → Unsuccessful
 unsuccessful_of_change (change.Failed failure) = Failed failure
 unsuccessful_of_change (change.Refused refusal) = Error (Keeper refusal)
 
--- of a body
+-- what a body that wasn't read comes to
 abbrev pub unsuccessful_of_body : OrMemory NotationError → Unsuccessful
 unsuccessful_of_body or_memory.Memory = Failed Memory
 unsuccessful_of_body (or_memory.Error fault) = Error (Body fault)
 
--- of a route
+-- what a route that wasn't found comes to
 abbrev pub unsuccessful_of_route : OrMemory RouteFault → Unsuccessful
 unsuccessful_of_route or_memory.Memory = Failed Memory
 unsuccessful_of_route (or_memory.Error fault) = Error (code_of_route_fault fault)

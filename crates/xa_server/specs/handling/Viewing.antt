@@ -17,7 +17,7 @@ AreKeyed texts = AllByRecursion (λ one. key_in one.text ≡ Some one.key) texts
 abbrev pub active_by_key : ActiveText → Active
 active_by_key one = record { kind = one.key.kind; id = one.key.id; version = one.key.version; text = one.text }
 
--- how many bytes of the texts are read
+-- how many bytes of texts are read for a view
 abbrev pub read_for : KeptView → ℕ
 read_for kept = reading_for (active_of kept.texts) kept.root
 
