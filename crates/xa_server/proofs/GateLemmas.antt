@@ -20,8 +20,8 @@ use Rattle.xa_server.specs.declared.revision.Revision.{Revision}
 use Rattle.xa_server.specs.declared.unsuccessful.Unsuccessful.{Unsuccessful}
 use Rattle.xa_server.specs.declared.unsuccessful.Unsuccessful.TheVariants.{Error, Failed}
 use Rattle.xa_server.specs.Gates.{revision_by, revision_in, revision_of, revision_with, role_in, without_gate}
-use Rattle.xa_server.specs.handling.Replying.{Answers, admitted_by}
-use Rattle.xa_server.specs.Machine.{Answer, admitted, digest_shown, permitted}
+use Rattle.xa_server.specs.handling.Replying.{Answers}
+use Rattle.xa_server.specs.Machine.{Answer, admitted, admitted_by, digest_shown, permitted}
 use Rattle.xa_server.specs.Resources.{AllStand, AreGates, IsGate, ResourcesModel, forgetting, remembering, using_gate}
 use Rattle.xa_server.proofs.AdmissionLemmas.{role_is}
 use Rattle.xa_server.proofs.GrowthLemmas.{grows}

@@ -2,7 +2,7 @@
 -- state, a message and the moment at which it is answered, it gives the bytes of the reply and the state after it.
 use Rattle.std.specs.Prelude.{ℕ, ℤ, Bool, true, false, List, Option, Some, None, option_and_then, option_map, Result}
 use Rattle.std.specs.Prelude.{Ok, Err, bytes_eq, if◌then◌else◌}
-use Rattle.std.specs.FinMap.{FinMap, get}
+use Rattle.std.specs.FinMap.{get}
 use Rattle.std.specs.Option.{ok_or}
 use Rattle.sha2.specs.Sha256.{sha256}
 use Rattle.xa_value.specs.Gives.{◌>>=◌}
@@ -32,7 +32,7 @@ use Rattle.xa_records.specs.declared.upload.Upload.{Upload}
 use Rattle.xa_records.specs.declared.upload.Upload.TheVariants.{New, Same}
 use Rattle.xa_records.specs.Changes.{Change, activity_set, created, deleted, removed, root_set, source_set}
 use Rattle.xa_records.specs.Changes.{token_dropped, token_put, upload_of, uploaded, within}
-use Rattle.xa_records.specs.DomainState.{DomainState, compare_bytes, key_of}
+use Rattle.xa_records.specs.DomainState.{DomainState, key_of}
 use Rattle.xa_records.specs.Listing.{listing_body, names_body}
 use Rattle.xa_records.specs.Readings.{listing_of_state, text_in}
 use Rattle.xa_server.specs.declared.error_code.ErrorCode.{ErrorCode}
@@ -75,16 +75,16 @@ permitted Admin for_decisions = Ok tt
 permitted Ask true = Ok tt
 permitted Ask false = Err Forbidden
 
--- the role that the token which the message shows has, if it is one of these
-abbrev pub role_shown : FinMap compare_bytes Role → Message → Option Role
-role_shown tokens message = option_and_then (get tokens) (digest_shown message)
+-- the domain is there, and the digest that is shown is that of one of its tokens, whose role may ask for that
+abbrev pub admitted_by : Bool → Option DomainState → Option (List ℕ) → Result (Unit {0}) ErrorCode
+admitted_by for_decisions state shown = do
+  domain ← ok_or state Unauthorized
+  role ← ok_or (option_and_then (get domain.tokens) shown) Unauthorized
+  permitted role for_decisions
 
 -- the domain is there, and the message shows one of its tokens, whose role may ask for that
 abbrev pub admitted : Bool → Option DomainState → Message → Result (Unit {0}) ErrorCode
-admitted for_decisions state message = do
-  domain ← ok_or state Unauthorized
-  role ← ok_or (role_shown domain.tokens message) Unauthorized
-  permitted role for_decisions
+admitted for_decisions state message = admitted_by for_decisions state (digest_shown message)
 
 -- ---- 400, then 404 and 409
 

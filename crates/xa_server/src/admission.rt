@@ -3,8 +3,8 @@ ghost use Rattle.std.specs.Prelude.{◌≡◌, true, false, Some};
 ghost use Rattle.xa_records.specs.Kept.{state_of};
 ghost use Rattle.xa_records.specs.Readings.{gate_of};
 ghost use Rattle.xa_server.specs.Gates.{revision_of};
-ghost use Rattle.xa_server.specs.handling.Replying.{OnlyReads, Opens, Tells, admitted_by};
-ghost use Rattle.xa_server.specs.Machine.{admitted, by_operator, digest_shown, permitted};
+ghost use Rattle.xa_server.specs.handling.Replying.{OnlyReads, Opens, Tells};
+ghost use Rattle.xa_server.specs.Machine.{admitted, admitted_by, by_operator, digest_shown, permitted};
 ghost use Rattle.xa_server.specs.Resources.{AllStand};
 
 use crate::authorization::token_in;

@@ -1,7 +1,5 @@
 -- How a message is answered, and what is told of the keeper after a part of it.
-use Rattle.std.specs.Option.{ok_or}
-use Rattle.std.specs.FinMap.{get}
-use Rattle.std.specs.Prelude.{◌≡◌, ◌⊎◌, ℕ, Bool, List, OnErr, Option, Some, None, option_and_then, Result, Ok, Err}
+use Rattle.std.specs.Prelude.{◌≡◌, ◌⊎◌, ℕ, List, OnErr, Option, Some, None, option_and_then, Result, Ok, Err}
 use Rattle.xa_value.specs.Gives.{◌>>=◌}
 use Rattle.xa_notation.specs.declared.notation_error.NotationError.{NotationError}
 use Rattle.xa_http.specs.declared.route.Route.{Route}
@@ -11,7 +9,6 @@ use Rattle.xa_records.specs.DomainState.{DomainState}
 use Rattle.xa_records.specs.Keeper.{Custody, IsOneMore}
 use Rattle.xa_records.specs.Kept.{IsChanged, Kept, names_of, state_of}
 use Rattle.xa_server.specs.declared.error_code.ErrorCode.{ErrorCode}
-use Rattle.xa_server.specs.declared.error_code.ErrorCode.TheVariants as error
 use Rattle.xa_server.specs.declared.received.Received.{Received}
 use Rattle.xa_server.specs.declared.unsuccessful.Unsuccessful.{Unsuccessful}
 use Rattle.xa_server.specs.declared.unsuccessful.Unsuccessful.TheVariants.{Error, Failed}
@@ -20,7 +17,6 @@ use Rattle.xa_server.specs.declared.replies.Reply.TheVariants.{Sent, Refused}
 use Rattle.xa_server.specs.ErrorCode.{error_reply}
 use Rattle.xa_server.specs.Owner.{name_if, owner}
 use Rattle.xa_server.specs.Machine.{Answer, answer, by_route, general_answer, general_by_route, or_body_fault}
-use Rattle.xa_server.specs.Machine.{permitted}
 use Rattle.xa_server.specs.Resources.{AllStand, ResourcesModel}
 
 -- what is made of what a body says, or its fault
@@ -52,13 +48,6 @@ abbrev pub Opens : {X : Type 0} → Kept → Kept → Option X → Result X Unsu
 Opens old new there (Ok x) meant = (there ≡ Some x) × (meant ≡ Ok tt) × (new ≡ old)
 Opens old new there (Err (Error code)) meant = (meant ≡ Err code) × (new ≡ old)
 Opens old new there (Err (Failed failure)) meant = new ≡ old
-
--- whether a domain lets a message in that shows a token of a digest
-abbrev pub admitted_by : Bool → Option DomainState → Option (List ℕ) → Result (Unit {0}) ErrorCode
-admitted_by for_decisions state shown = do
-  domain ← ok_or state error.Unauthorized
-  role ← ok_or (option_and_then (get domain.tokens) shown) error.Unauthorized
-  permitted role for_decisions
 
 -- the domain that a route's path names, if it names one
 abbrev pub domain_named : Route → Option (List ℕ)
