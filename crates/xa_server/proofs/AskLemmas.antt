@@ -25,7 +25,7 @@ use Rattle.xa_server.specs.declared.revision.Revision.{Revision}
 use Rattle.xa_server.specs.declared.unsuccessful.Unsuccessful.{Unsuccessful}
 use Rattle.xa_server.specs.declared.unsuccessful.Unsuccessful.TheVariants.{Error, Failed}
 use Rattle.xa_server.specs.Gates.{revision_by, revision_of}
-use Rattle.xa_server.specs.handling.Asking.{IsFresh, IsNoted, IsResponseReply, evaluated_in, key_of_revision, key_within, reply_told, response_told, view_told}
+use Rattle.xa_server.specs.handling.Asking.{IsFresh, IsNoted, IsResponseReply, evaluated_in, key_within, reply_told, response_told, view_told}
 use Rattle.xa_server.specs.handling.Replying.{Answers, OnlyReads, Shows}
 use Rattle.xa_server.specs.Decisions.{DecisionsModel}
 use Rattle.xa_server.specs.Machine.{response_to, told}
@@ -33,7 +33,7 @@ use Rattle.xa_server.specs.Replies.{decision_reply}
 use Rattle.xa_server.specs.ValidCache.{AreValid, response_body_at}
 use Rattle.xa_server.specs.View.{view_of}
 use Rattle.xa_server.specs.handling.Viewing.{nothing_viewed}
-use Rattle.xa_server.specs.Work.{IsBodyCached, IsEvaluated, cached_body, response_of}
+use Rattle.xa_server.specs.Work.{IsBodyCached, IsEvaluated, cached_body, key_of_revision, response_of}
 use Rattle.xa_server.proofs.GrowthLemmas.{stays}
 use Rattle.xa_server.proofs.ValidLemmas.{found_right}
 use Rattle.xa_server.proofs.WorkLemmas.{domain_of_revision}

@@ -7,9 +7,10 @@ use Rattle.xa_server.specs.declared.revision.Revision.{Revision}
 use Rattle.xa_server.specs.declared.ready.Ready.{Ready}
 use Rattle.xa_server.specs.declared.unsuccessful.Unsuccessful.{Unsuccessful}
 use Rattle.xa_server.specs.Gates.{revision_of}
-use Rattle.xa_server.specs.handling.Asking.{IsFresh, IsLookedUp, evaluated_in, key_of_revision, view_told}
+use Rattle.xa_server.specs.handling.Asking.{IsFresh, IsLookedUp, evaluated_in, view_told}
 use Rattle.xa_server.specs.Resources.{AllStand, AreGates, AreReady, ResourcesModel}
 use Rattle.xa_server.specs.Views.{touched, with_view, without}
+use Rattle.xa_server.specs.Work.{key_of_revision}
 use Rattle.xa_server.proofs.ReadyLemmas.{made_ready, ready_touched, ready_with, ready_without}
 use Rattle.xa_server.proofs.ValidLemmas.{fresh_valid, looked_valid}
 

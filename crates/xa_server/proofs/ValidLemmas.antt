@@ -15,11 +15,11 @@ use Rattle.xa_server.specs.declared.revision.Revision.{Revision}
 use Rattle.xa_server.specs.declared.unsuccessful.Unsuccessful.{Unsuccessful}
 use Rattle.xa_server.specs.declared.unsuccessful.Unsuccessful.TheVariants.{Error, Failed}
 use Rattle.xa_server.specs.Gates.{revision_by, revision_of}
-use Rattle.xa_server.specs.handling.Asking.{IsFresh, IsLookedUp, evaluated_in, key_of_revision}
+use Rattle.xa_server.specs.handling.Asking.{IsFresh, IsLookedUp, evaluated_in}
 use Rattle.xa_server.specs.Decisions.{DecisionsModel}
 use Rattle.xa_server.specs.ValidCache.{AreValid, GivesBody, IsValid, response_body_at}
 use Rattle.xa_server.specs.View.{view_of}
-use Rattle.xa_server.specs.Work.{IsBodyCached, IsEvaluated, cache_key, evaluated_response, response_of}
+use Rattle.xa_server.specs.Work.{IsBodyCached, IsEvaluated, cache_key, evaluated_response, key_of_revision, response_of}
 use Rattle.xa_server.proofs.GrowthLemmas.{HasGrown}
 use Rattle.xa_server.proofs.StandingLemmas.{all_implied, found_holds, made_stands, stands_on}
 use Rattle.xa_server.proofs.WorkLemmas.{domain_of_revision}

@@ -18,6 +18,7 @@ use Rattle.xa_records.specs.Kept.{Domain, Kept}
 use Rattle.xa_server.specs.declared.error_code.ErrorCode.{ErrorCode}
 use Rattle.xa_server.specs.declared.replies.Reply.{Reply}
 use Rattle.xa_server.specs.declared.replies.Reply.TheVariants.{Sent, Refused}
+use Rattle.xa_server.specs.declared.revision.Revision.{Revision}
 use Rattle.xa_server.specs.Alone.{Event}
 use Rattle.xa_server.specs.Decisions.{DecisionsModel}
 use Rattle.xa_server.specs.Machine.{admitted}
@@ -48,9 +49,17 @@ abbrev pub domain_of_message : Kept → Message → Result Route RouteFault → 
 domain_of_message kept message (Ok route) = domain_of_route kept message route
 domain_of_message kept message (Err fault) = None
 
+-- the revision of a domain: its number and its epoch
+abbrev pub domain_revision : Domain → Revision
+domain_revision domain = record { number = domain.number; epoch = domain.epoch }
+
+-- the key under which a decision is cached, by the revision of the domain that lets the message in
+abbrev pub key_of_revision : Revision → List ℕ → Key
+key_of_revision revision body = record { number = revision.number; epoch = revision.epoch; body = body }
+
 -- the key under which a domain's decision on a body is cached
 abbrev pub cache_key : Domain → List ℕ → Key
-cache_key domain body = record { number = domain.number; epoch = domain.epoch; body = body }
+cache_key domain body = key_of_revision (domain_revision domain) body
 
 -- the body of the response that is evaluated by what decides, and whether it is the same at every moment; nothing if
 -- the request's body is no JSON

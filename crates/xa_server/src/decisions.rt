@@ -1,9 +1,9 @@
 //! The cached decisions, with their counts.
 ghost use Rattle.std.specs.Prelude.{◌≡◌, true, option_map, IfOk};
 ghost use Rattle.xa_cache.specs.Bodies.{found};
-ghost use Rattle.xa_server.specs.handling.Asking.{IsLookedUp, IsNoted, key_of_revision, key_within};
+ghost use Rattle.xa_server.specs.handling.Asking.{IsLookedUp, IsNoted, key_within};
 ghost use Rattle.xa_server.specs.Decisions.{nothing_cached};
-ghost use Rattle.xa_server.specs.Work.{IsBodyCached};
+ghost use Rattle.xa_server.specs.Work.{IsBodyCached, key_of_revision};
 ghost use Rattle.xa_server.specs.Replies.{decision_reply};
 
 use crate::replies::decision_reply;

@@ -29,7 +29,7 @@ use Rattle.xa_server.specs.Replies.{decision_reply}
 use Rattle.xa_server.specs.Resources.{AllStand, ResourcesModel}
 use Rattle.xa_server.specs.View.{view_of}
 use Rattle.xa_server.specs.Work.{IsEvaluated, cache_key, cached_body, domain_of_message, domain_of_route, looked_up}
-use Rattle.xa_server.specs.Work.{evaluated_response, response_of}
+use Rattle.xa_server.specs.Work.{evaluated_response, key_of_revision, response_of}
 
 -- what a domain evaluates: the body of the response, and whether it is the same at every moment; nothing of an absent
 -- domain, or if the request's body is no JSON
@@ -65,10 +65,6 @@ MakesReady old new ask result =
 -- the reply to a request by the state of a domain
 abbrev pub reply_told : List ℕ → ℤ → Option DomainState → Result (List ℕ) ErrorCode
 reply_told body moment state = response_told body moment state >>= (λ response. Ok (decision_reply response.0))
-
--- the key under which a decision is cached, by the revision of the domain that lets the message in
-abbrev pub key_of_revision : Revision → List ℕ → Key
-key_of_revision revision body = record { number = revision.number; epoch = revision.epoch; body = body }
 
 -- the key, if its body isn't too large: it has at most 16,384 bytes
 abbrev pub key_within : Key → Option Key

@@ -1,7 +1,7 @@
 use Rattle.std.proofs.Common.{refl, sym, subst}
 use Rattle.xa_records.specs.Kept.{state_of}
-use Rattle.xa_server.specs.handling.Asking.{key_of_revision}
 use Rattle.xa_server.specs.Resources.{AllStand}
+use Rattle.xa_server.specs.Work.{key_of_revision}
 use Rattle.xa_server.proofs.AskLemmas.{works_by}
 use Rattle.xa_server.proofs.ResourcesLemmas.{kept_stands}
 use Rattle.xa_server.proofs.asks.reply_by_new_view.Goals as goal

@@ -5,9 +5,8 @@ use Rattle.std.specs.Prelude.{Bool, Some, option_map}
 use Rattle.xa_notation.specs.declared.notation_error.NotationError.TheVariants.{NotJson}
 use Rattle.xa_server.specs.declared.error_code.ErrorCode.TheVariants as error
 use Rattle.xa_server.specs.declared.unsuccessful.Unsuccessful.TheVariants.{Error}
-use Rattle.xa_server.specs.handling.Asking.{key_of_revision}
 use Rattle.xa_server.specs.Replies.{decision_reply}
-use Rattle.xa_server.specs.Work.{IsEvaluated, response_of}
+use Rattle.xa_server.specs.Work.{IsEvaluated, key_of_revision, response_of}
 use Rattle.xa_server.proofs.AskLemmas.{no_response, noted, response_so}
 use Rattle.xa_server.proofs.asks.reply_by_view.Goals as goal
 

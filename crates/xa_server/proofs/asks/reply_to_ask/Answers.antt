@@ -2,10 +2,10 @@
 use Rattle.std.proofs.Common.{rules, ◌≡◌, refl, sym, ap, subst, ◌∙◌}
 use Rattle.std.specs.Prelude.{Some, option_map}
 use Rattle.xa_cache.specs.Bodies.{found}
-use Rattle.xa_server.specs.handling.Asking.{key_of_revision, key_within}
+use Rattle.xa_server.specs.handling.Asking.{key_within}
 use Rattle.xa_server.specs.Replies.{decision_reply}
 use Rattle.xa_server.specs.Resources.{AllStand}
-use Rattle.xa_server.specs.Work.{cached_body}
+use Rattle.xa_server.specs.Work.{cached_body, key_of_revision}
 use Rattle.xa_server.proofs.AskLemmas.{held_within, hit_reply}
 use Rattle.xa_server.proofs.ResourcesLemmas.{looked_stands}
 use Rattle.xa_server.proofs.asks.reply_to_ask.Goals as goal

@@ -3,9 +3,9 @@
 use Rattle.std.proofs.Common.{rules, ◌≡◌, Ok, Err, false, refl, sym, ap, subst}
 use Rattle.xa_decide.specs.Asked.{asks_policies}
 use Rattle.xa_records.specs.Kept.{state_of}
-use Rattle.xa_server.specs.handling.Asking.{key_of_revision}
 use Rattle.xa_server.specs.Resources.{AllStand, ResourcesModel}
 use Rattle.xa_server.specs.handling.Viewing.{nothing_viewed}
+use Rattle.xa_server.specs.Work.{key_of_revision}
 use Rattle.xa_server.proofs.AskLemmas.{keeper_left, replied, unasked_reply, unasked_works, views_left, works_by}
 use Rattle.xa_server.proofs.ReadyLemmas.{ready_found}
 use Rattle.xa_server.proofs.ResourcesLemmas.{left_stands, touched_stands}
