@@ -2,6 +2,7 @@
 pub mod Answering
 pub mod Asking
 pub mod Driving
+pub mod Lending
 pub mod Replying
 pub mod Sending
 pub mod Unsuccessful

@@ -112,7 +112,7 @@ impl<R: Records> Front<R> {
         ensures counts { CountsAnswer
             (R.custody self.old.server.records).faults (R.custody self.new.server.records).faults result }
     {
-        match self.lines.sessions.get_mut(conn.number) {
+        match self.lines.line_mut(conn) {
             Some(line) => answer_line(self.alloc, &mut self.server, line, moment),
             None => Err(FrontError::NoSuchConnection),
         }

@@ -1,5 +1,6 @@
 //! The connections of a front, each with its stream.
-ghost use Rattle.std.specs.Prelude.{◌≡◌, IfOk};
+ghost use Rattle.std.specs.Prelude.{◌≡◌, option_map, unwrap_or, IfOk, None};
+ghost use Rattle.std.specs.Borrow.{sem};
 ghost use Rattle.xa_server.specs.handling.Answering.{IsFed};
 ghost use Rattle.xa_server.specs.Lines.{IsClosed, IsHeld, IsLooked, IsLookedIn, IsOpened};
 ghost use Rattle.xa_server.specs.Lines.{first_free, held_at, line_at, none_open, with_line};
@@ -30,7 +31,7 @@ pub struct Conn {
 #[derive(Drop)]
 pub(crate) struct Lines {
     /// By number, the session of each connection that is open.
-    pub(crate) sessions: Vec<Option<Session>>,
+    sessions: Vec<Option<Session>>,
 }
 
 impl Model for Lines {
@@ -45,6 +46,8 @@ impl Model for Lines {
 }
 
 impl Lines {
+    ghost use Rattle.xa_server.specs.handling.Lending.{LendsLine};
+
     /// No connection is open.
     pub(crate) fn new(alloc: Global) -> Result<Lines, AllocError>
         ensures { IfOk result (λ lines. lines ≡ none_open) }
@@ -106,6 +109,14 @@ impl Lines {
     {
         let session = self.sessions.get(conn.number)?.as_ref()?;
         Some(session.held_len())
+    }
+
+    /// The place of the connection's session, to write to. `None` stands there, if the connection isn't open.
+    pub(crate) fn line_mut(&mut self, conn: Conn) -> Option<&mut Option<Session>>
+        ensures* writes_back { sem 𝓛 (LendsLine self.entry conn result) }
+        ensures value { unwrap_or (option_map (λ line. line.now) result) None ≡ line_at conn self.old }
+    {
+        self.sessions.get_mut(conn.number)
     }
 
     /// Puts the session there, and gives what was there before.
