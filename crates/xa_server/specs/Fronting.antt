@@ -18,7 +18,7 @@ use Rattle.xa_server.specs.declared.lines.Conn.{Conn}
 use Rattle.xa_server.specs.declared.replies.Reply.TheVariants.{Sent}
 use Rattle.xa_server.specs.ErrorCode.{code_of_session_fault, error_reply}
 use Rattle.xa_server.specs.Front.{Does, FrontState, IsAnswered}
-use Rattle.xa_server.specs.Lines.{IsClosed, IsHeld, IsOpen, IsOpened, Lines, line_at, with_line}
+use Rattle.xa_server.specs.Lines.{IsClosed, IsHeld, IsOpened, Lines, line_at, with_line}
 use Rattle.xa_server.specs.Owner.{owner}
 use Rattle.xa_server.specs.Served.{CountsReply}
 use Rattle.xa_server.specs.World.{World}
@@ -41,14 +41,19 @@ abbrev pub TakesNext : Stream → Stream → Result (Option Answer) FrontError �
 TakesNext stream after (Ok answer) = (given : Next) × IsNext stream given after × IsNextGiven given after answer
 TakesNext stream after (Err error) = (error ≡ Memory) × (stream.ended ≡ false) × (after ≡ stream)
 
+-- what becomes of the stream of a place, which `at` gives and `put` replaces, by an answer, whatever the server does
+abbrev pub TakesAt : {X : Type 0} → (X → Option Stream) → (Option Stream → X → X) → X → X
+    → Result (Option Answer) FrontError → Type 0
+TakesAt at put old new (Ok answer) =
+    (stream after : Stream) × (at old ≡ Some stream) × TakesNext stream after (Ok answer)
+    × (new ≡ put (Some after) old)
+TakesAt at put old new (Err NoSuchConnection) = (at old ≡ None) × (new ≡ old)
+TakesAt at put old new (Err Memory) = (stream : Stream) × (at old ≡ Some stream) × (stream.ended ≡ false) × (new ≡ old)
+TakesAt at put old new (Err _) = ⊥
+
 -- what becomes of the connections by an answer on one of them, whatever the server does
 abbrev pub TakesLine : Conn → Lines → Lines → Result (Option Answer) FrontError → Type 0
-TakesLine conn old new (Ok answer) =
-    (stream after : Stream) × IsOpen conn old stream × TakesNext stream after (Ok answer)
-    × (new ≡ with_line conn (Some after) old)
-TakesLine conn old new (Err NoSuchConnection) = (line_at conn old ≡ None) × (new ≡ old)
-TakesLine conn old new (Err Memory) = (stream : Stream) × IsOpen conn old stream × (stream.ended ≡ false) × (new ≡ old)
-TakesLine conn old new (Err _) = ⊥
+TakesLine conn old new result = TakesAt (line_at conn) (with_line conn) old new result
 
 -- an event `Does` what it does, whatever its session gave
 abbrev pub DoesEvent : Event → FrontState → Outcome → FrontState → Type 0

@@ -45,18 +45,23 @@ IsOpened old (Ok conn) new = (first_free old ≡ Some conn.number) × (new ≡ w
 IsOpened old (Err TooManyConnections) new = (first_free old ≡ None) × (new ≡ old)
 IsOpened old (Err _) new = ⊥
 
--- a piece comes to what the connection holds, whole, if both together are at most 1,048,576 bytes; or nothing of it
--- does
+-- a piece comes to the stream of a place, which `at` gives and `put` replaces: whole, if the stream and the piece have
+-- at most 1,048,576 bytes together; or nothing of it does
+abbrev pub IsFedAt : {X : Type 0} → (X → Option Stream) → (Option Stream → X → X) → List ℕ → X
+    → Result (Unit {0}) FrontError → X → Type 0
+IsFedAt at put piece old (Ok _) new =
+    (stream : Stream) × (at old ≡ Some stream) × (length stream.held + length piece ≤ 1_048_576)
+    × (new ≡ put (Some (fed stream piece)) old)
+IsFedAt at put piece old (Err NoSuchConnection) new = (at old ≡ None) × (new ≡ old)
+IsFedAt at put piece old (Err Full) new =
+    (stream : Stream) × (at old ≡ Some stream) × (1_048_576 < length stream.held + length piece) × (new ≡ old)
+IsFedAt at put piece old (Err Memory) new =
+    (stream : Stream) × (at old ≡ Some stream) × (length stream.held + length piece ≤ 1_048_576) × (new ≡ old)
+IsFedAt at put piece old (Err TooManyConnections) new = ⊥
+
+-- a piece comes to what a connection holds, whole or not at all
 abbrev pub IsHeld : Conn → List ℕ → Lines → Result (Unit {0}) FrontError → Lines → Type 0
-IsHeld conn piece old (Ok _) new =
-    (stream : Stream) × IsOpen conn old stream × (length stream.held + length piece ≤ 1_048_576)
-    × (new ≡ with_line conn (Some (fed stream piece)) old)
-IsHeld conn piece old (Err NoSuchConnection) new = (line_at conn old ≡ None) × (new ≡ old)
-IsHeld conn piece old (Err Full) new =
-    (stream : Stream) × IsOpen conn old stream × (1_048_576 < length stream.held + length piece) × (new ≡ old)
-IsHeld conn piece old (Err Memory) new =
-    (stream : Stream) × IsOpen conn old stream × (length stream.held + length piece ≤ 1_048_576) × (new ≡ old)
-IsHeld conn piece old (Err TooManyConnections) new = ⊥
+IsHeld conn piece old result new = IsFedAt (line_at conn) (with_line conn) piece old result new
 
 -- a connection is closed, and its bytes are gone
 abbrev pub IsClosed : Conn → Lines → Result (Unit {0}) FrontError → Lines → Type 0

@@ -1,32 +1,24 @@
 -- How a connection is fed, and its next is answered.
-use Rattle.std.specs.Prelude.{◌≡◌, ◌+◌, ◌<◌, ◌≤◌, ℕ, ℤ, true, false, List, length, Option, Some, None, Result, Ok, Err}
+use Rattle.std.specs.Prelude.{◌≡◌, ℕ, ℤ, true, false, List, Option, Some, None, Result, Ok, Err}
 use Rattle.xa_http.specs.declared.fault.SessionFault.{SessionFault}
 use Rattle.xa_http.specs.declared.session.Next.{Next}
 use Rattle.xa_http.specs.declared.session.Next.TheVariants as next
 use Rattle.xa_http.specs.Messages.{IsNext}
-use Rattle.xa_http.specs.Stream.{Stream, fed}
+use Rattle.xa_http.specs.Stream.{Stream}
 use Rattle.xa_records.specs.Keeper.{Custody}
 use Rattle.xa_server.specs.declared.event.Answer.{Answer}
 use Rattle.xa_server.specs.declared.front_error.FrontError.{FrontError}
-use Rattle.xa_server.specs.declared.front_error.FrontError.TheVariants.{Memory, NoSuchConnection, TooManyConnections}
-use Rattle.xa_server.specs.declared.front_error.FrontError.TheVariants.{Full}
+use Rattle.xa_server.specs.declared.front_error.FrontError.TheVariants.{Memory, NoSuchConnection}
 use Rattle.xa_server.specs.declared.replies.Reply.TheVariants.{Sent}
 use Rattle.xa_server.specs.ErrorCode.{code_of_session_fault, error_reply}
 use Rattle.xa_server.specs.Front.{IsGiven, ServerState}
-use Rattle.xa_server.specs.Fronting.{CountsAnswer, IfAnswerSent, LeavesNext, TakesNext}
+use Rattle.xa_server.specs.Fronting.{CountsAnswer, IfAnswerSent, LeavesNext, TakesAt}
+use Rattle.xa_server.specs.Lines.{IsFedAt}
 use Rattle.xa_server.specs.World.{ServerModel, World, world}
 
 -- a stream that may not be there takes a piece, whole or not at all
 abbrev pub IsFed : Option Stream → List ℕ → Result (Unit {0}) FrontError → Option Stream → Type 0
-IsFed old piece (Ok _) new =
-    (stream : Stream) × (old ≡ Some stream) × (length stream.held + length piece ≤ 1_048_576)
-    × (new ≡ Some (fed stream piece))
-IsFed old piece (Err NoSuchConnection) new = (old ≡ None) × (new ≡ old)
-IsFed old piece (Err Full) new =
-    (stream : Stream) × (old ≡ Some stream) × (1_048_576 < length stream.held + length piece) × (new ≡ old)
-IsFed old piece (Err Memory) new =
-    (stream : Stream) × (old ≡ Some stream) × (length stream.held + length piece ≤ 1_048_576) × (new ≡ old)
-IsFed old piece (Err TooManyConnections) new = ⊥
+IsFed old piece result new = IsFedAt {X = Option Stream} (λ line. line) (λ line _. line) piece old result new
 
 -- the next of a stream was answered; without memory nothing was done
 abbrev pub AnswersNext : ℤ → ServerState → ServerState → Stream → Stream → Result (Option Answer) FrontError → Type 0
@@ -48,11 +40,7 @@ AnswersIn moment old new line after (Err _) = ⊥
 
 -- what becomes of a stream that may not be there by an answer, whatever the server does
 abbrev pub TakesIn : Option Stream → Option Stream → Result (Option Answer) FrontError → Type 0
-TakesIn old new (Ok answer) =
-    (stream after : Stream) × (old ≡ Some stream) × TakesNext stream after (Ok answer) × (new ≡ Some after)
-TakesIn old new (Err NoSuchConnection) = (old ≡ None) × (new ≡ old)
-TakesIn old new (Err Memory) = (stream : Stream) × (old ≡ Some stream) × (stream.ended ≡ false) × (new ≡ old)
-TakesIn old new (Err _) = ⊥
+TakesIn old new result = TakesAt {X = Option Stream} (λ line. line) (λ line _. line) old new result
 
 -- the fault by which a stream ends was answered; without memory nothing was done
 abbrev pub IsFaultGiven : SessionFault → Stream → Stream → Result (Option Answer) FrontError → Type 0
