@@ -25,13 +25,13 @@ use Rattle.xa_store.specs.declared.schema.checked_table.CheckedTable.TheVariants
 use Rattle.xa_store.specs.declared.schema.checked_table.CheckedTable.TheVariants.{Attributes, Sources}
 use Rattle.xa_store.specs.declared.schema.version.SchemaVersion.{SchemaVersion}
 use Rattle.xa_store.specs.declared.schema.version.SchemaVersion.TheVariants.{Schema1, Schema2}
-use Rattle.xa_store.specs.Opened.{are_counted, as_read, is_left_empty, place_in, sources_in, tree_of, are_rising}
+use Rattle.xa_store.specs.Opened.{are_counted, as_read, is_left_empty, place_in, sources_in, are_rising}
 use Rattle.xa_store.specs.Opened.{int_in, is_number, is_whole_row, row_number, opened, schema_of}
 use Rattle.xa_store.specs.Opening.{AreNewTables, GivesOrFails, IsBlank, IsFailure, IsKnown, IsMigrated}
 use Rattle.xa_store.specs.Opening.{IsRefusal, MayLeaveTables}
 use Rattle.xa_store.specs.Rows.{placed_row, placed_row_in}
 use Rattle.xa_store.specs.Sound.{AreRows, Ours, Rests, RestsIn, SameNow, same_place}
-use Rattle.xa_store.specs.Tables.{first_schema}
+use Rattle.xa_store.specs.Tables.{first_schema, tree_of}
 
 abbrev pub rows_query : CheckedTable → List ℕ
 rows_query Domains = codes "SELECT number, name, epoch FROM domains ORDER BY number"

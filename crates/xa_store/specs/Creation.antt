@@ -4,10 +4,12 @@ use Rattle.std.specs.List.{AllByRecursion}
 use Rattle.sqlite.specs.Change.{created}
 use Rattle.sqlite.specs.Effect.{Database}
 use Rattle.sqlite.specs.Schema.{Schema}
+use Rattle.xa_store.specs.declared.schema.checked_table.CheckedTable.TheVariants.{Domains, Tokens, Documents, Roots}
+use Rattle.xa_store.specs.declared.schema.checked_table.CheckedTable.TheVariants.{Attributes, Sources}
 use Rattle.xa_store.specs.declared.schema.creation.Part.{Part}
 use Rattle.xa_store.specs.declared.schema.creation.Part.TheVariants as part
 use Rattle.xa_store.specs.Opening.{no_tables, AreNewTables}
-use Rattle.xa_store.specs.Tables.{first_schema, our_schema, meta, domains, tokens, policies, roots}
+use Rattle.xa_store.specs.Tables.{first_schema, our_schema, meta, domains, tokens, policies, roots, meta_tree, tree_of}
 use Rattle.xa_store.specs.Texts as text
 
 -- the statement that makes it
@@ -50,13 +52,17 @@ before part.FirstRow = our_schema
 -- the tables that were made before it
 abbrev pub trees_before : Part → List ℕ
 trees_before part.Meta = []
-trees_before part.Domains = 0 ∷ []
-trees_before part.Tokens = 0 ∷ 1 ∷ []
-trees_before part.Policies = 0 ∷ 1 ∷ 3 ∷ []
-trees_before part.Roots = 0 ∷ 1 ∷ 3 ∷ 5 ∷ []
-trees_before part.Attributes = 0 ∷ 1 ∷ 3 ∷ 5 ∷ 7 ∷ []
-trees_before part.Sources = 0 ∷ 1 ∷ 3 ∷ 5 ∷ 7 ∷ 8 ∷ []
-trees_before part.FirstRow = 0 ∷ 1 ∷ 3 ∷ 5 ∷ 7 ∷ 8 ∷ 10 ∷ []
+trees_before part.Domains = meta_tree ∷ []
+trees_before part.Tokens = meta_tree ∷ tree_of Domains ∷ []
+trees_before part.Policies = meta_tree ∷ tree_of Domains ∷ tree_of Tokens ∷ []
+trees_before part.Roots = meta_tree ∷ tree_of Domains ∷ tree_of Tokens ∷ tree_of Documents ∷ []
+trees_before part.Attributes =
+    meta_tree ∷ tree_of Domains ∷ tree_of Tokens ∷ tree_of Documents ∷ tree_of Roots ∷ []
+trees_before part.Sources =
+    meta_tree ∷ tree_of Domains ∷ tree_of Tokens ∷ tree_of Documents ∷ tree_of Roots ∷ tree_of Attributes ∷ []
+trees_before part.FirstRow =
+    meta_tree ∷ tree_of Domains ∷ tree_of Tokens ∷ tree_of Documents ∷ tree_of Roots ∷ tree_of Attributes
+    ∷ tree_of Sources ∷ []
 
 -- these tables are there, without rows
 pub record AreEmpty (under : Schema) (trees : List ℕ) (db : Database) : Type 0 where

@@ -7,12 +7,14 @@ use Rattle.sqlite.specs.Order.{Row, column}
 use Rattle.sqlite.specs.Tree.{Trees}
 use Rattle.sqlite.specs.declared.types.Value.TheVariants.{Int, Null}
 use Rattle.sqlite_catalog.specs.Listing.{IsSound}
+use Rattle.xa_store.specs.declared.schema.checked_table.CheckedTable.TheVariants.{Domains, Tokens, Documents, Roots}
+use Rattle.xa_store.specs.declared.schema.checked_table.CheckedTable.TheVariants.{Attributes, Sources}
 use Rattle.xa_store.specs.declared.schema.migration.Stage.{Stage}
 use Rattle.xa_store.specs.declared.schema.migration.Stage.TheVariants as stage
 use Rattle.xa_store.specs.declared.schema.version.SchemaVersion.TheVariants.{Schema1}
 use Rattle.xa_store.specs.Opened.{opened}
 use Rattle.xa_store.specs.Rows.{meta_row, next_in}
-use Rattle.xa_store.specs.Tables.{first_schema, our_schema}
+use Rattle.xa_store.specs.Tables.{first_schema, meta_tree, our_schema, tree_of}
 use Rattle.xa_store.specs.Texts as text
 
 -- the statement
@@ -40,33 +42,36 @@ pub record IsSoundFirst (first : Trees) : Type 0 where
 
 -- the tables that no stage touches are as they were
 abbrev pub KeepsOthers : Trees → Trees → Type 0
-KeepsOthers first db = AllByRecursion (λ t. db t ≡ first t) (1 ∷ 3 ∷ 5 ∷ 7 ∷ [])
+KeepsOthers first db =
+    AllByRecursion (λ t. db t ≡ first t)
+    (tree_of Domains ∷ tree_of Tokens ∷ tree_of Documents ∷ tree_of Roots ∷ [])
 
 -- under schema 2, whose rules they obey, with these rows in the three tables that the stages touch
 pub record Stands (first : Trees) (first_rows left moved : List Row) (db : Database) : Type 0 where
   pub schema : db.schema ≡ our_schema
   pub database : IsDatabase db
-  pub meta : db.trees 0 ≡ first_rows
-  pub attributes : db.trees 8 ≡ left
-  pub sources : db.trees 10 ≡ moved
+  pub meta : db.trees meta_tree ≡ first_rows
+  pub attributes : db.trees (tree_of Attributes) ≡ left
+  pub sources : db.trees (tree_of Sources) ≡ moved
   pub others : KeepsOthers first db.trees
 
 -- the tables are those of schema 1
 pub record IsFirst (first : Trees) (db : Database) : Type 0 where
   pub schema : db.schema ≡ first_schema
-  pub meta : db.trees 0 ≡ first 0
-  pub attributes : db.trees 8 ≡ first 8
+  pub meta : db.trees meta_tree ≡ first meta_tree
+  pub attributes : db.trees (tree_of Attributes) ≡ first (tree_of Attributes)
   pub others : KeepsOthers first db.trees
 
 abbrev pub IsBefore : Stage → Trees → Database → Type 0
 IsBefore stage.Sources first = IsFirst first
-IsBefore stage.Rows first = Stands first (first 0) (first 8) []
-IsBefore stage.Attributes first = Stands first (first 0) (first 8) (moved_rows 1 (first 8))
-IsBefore stage.Number first = Stands first (first 0) [] (moved_rows 1 (first 8))
+IsBefore stage.Rows first = Stands first (first meta_tree) (first (tree_of Attributes)) []
+IsBefore stage.Attributes first =
+    Stands first (first meta_tree) (first (tree_of Attributes)) (moved_rows 1 (first (tree_of Attributes)))
+IsBefore stage.Number first = Stands first (first meta_tree) [] (moved_rows 1 (first (tree_of Attributes)))
 
 -- all are done
 abbrev pub IsDone : Trees → Database → Type 0
-IsDone first = Stands first (meta_row (next_in (first 0)) ∷ []) [] (moved_rows 1 (first 8))
+IsDone first = Stands first (meta_row (next_in (first meta_tree)) ∷ []) [] (moved_rows 1 (first (tree_of Attributes)))
 
 abbrev pub IsAfter : Stage → Trees → Database → Type 0
 IsAfter stage.Sources = IsBefore stage.Rows

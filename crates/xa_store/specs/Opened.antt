@@ -37,7 +37,7 @@ use Rattle.xa_store.specs.declared.schema.checked_table.CheckedTable.TheVariants
 use Rattle.xa_store.specs.declared.schema.version.SchemaVersion.{SchemaVersion}
 use Rattle.xa_store.specs.declared.schema.version.SchemaVersion.TheVariants.{Schema1, Schema2}
 use Rattle.xa_store.specs.Rows.{nat_of, kind_number}
-use Rattle.xa_store.specs.Tables.{first_schema, our_schema}
+use Rattle.xa_store.specs.Tables.{first_schema, meta_tree, our_schema, tree_of}
 
 -- ---- what one column holds
 
@@ -139,14 +139,6 @@ read_columns Sources = 0 ∷ 1 ∷ 2 ∷ 3 ∷ 4 ∷ 5 ∷ 6 ∷ 7 ∷ 8 ∷ []
 
 abbrev pub as_read : CheckedTable → Row → Row
 as_read table row = map (column row) (read_columns table)
-
-abbrev pub tree_of : CheckedTable → ℕ
-tree_of Domains = 1
-tree_of Tokens = 3
-tree_of Documents = 5
-tree_of Roots = 7
-tree_of Attributes = 8
-tree_of Sources = 10
 
 -- ---- the rows of a table
 
@@ -250,4 +242,4 @@ checked version db (Some next) = if is_sound version db next then Ok tt else Err
 
 -- of tables of that schema: so with the number of the other they are none of a keeper's
 abbrev pub opened : SchemaVersion → Trees → Result (Unit {0}) OpenError
-opened version db = checked version db (known_next version (map read_meta (db 0)))
+opened version db = checked version db (known_next version (map read_meta (db meta_tree)))

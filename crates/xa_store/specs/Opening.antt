@@ -14,10 +14,10 @@ use Rattle.xa_store.specs.declared.schema.checked_table.CheckedTable.{CheckedTab
 use Rattle.xa_store.specs.declared.schema.version.SchemaVersion.{SchemaVersion}
 use Rattle.xa_store.specs.declared.schema.version.SchemaVersion.TheVariants.{Schema1, Schema2}
 use Rattle.xa_store.specs.Keeper.{Keeper}
-use Rattle.xa_store.specs.Opened.{opened, tree_of}
+use Rattle.xa_store.specs.Opened.{opened}
 use Rattle.xa_store.specs.Rows.{meta_row}
 use Rattle.xa_store.specs.Sound.{AreOurs, IsOurDatabase, Rests, RestsIn, SameNow}
-use Rattle.xa_store.specs.Tables.{first_schema}
+use Rattle.xa_store.specs.Tables.{first_schema, meta_tree, tree_of}
 use Rattle.xa_store.specs.World.{first_world_of, world_of}
 
 abbrev pub no_tables : Schema
@@ -48,7 +48,7 @@ pub record IsBlank (s : State) : Type 0 where
 -- the tables as they are made, and no others: without domains, of which the first will have the number 1
 pub record AreNewTables (db : Trees) : Type 0 where
   pub database : IsOurDatabase db
-  pub meta : db 0 ≡ meta_row (pos 1) ∷ []
+  pub meta : db meta_tree ≡ meta_row (pos 1) ∷ []
   pub empty : (table : CheckedTable) → db (tree_of table) ≡ []
 
 -- tables of schema 2 that mean what those of schema 1 meant

@@ -17,12 +17,14 @@ use Rattle.xa_records.specs.DomainName.{is_domain_name}
 use Rattle.xa_records.specs.DomainState.{IsDocumentOf, compare_bytes, new_domain}
 use Rattle.xa_records.specs.Kept.{IsNumbered, Kept}
 use Rattle.xa_store.specs.declared.check.row.SourcePlace.{SourcePlace}
+use Rattle.xa_store.specs.declared.schema.checked_table.CheckedTable.TheVariants.{Domains, Tokens, Documents, Roots}
+use Rattle.xa_store.specs.declared.schema.checked_table.CheckedTable.TheVariants.{Attributes, Sources}
 use Rattle.xa_store.specs.Opened.{count_from, holds_value, is_count, is_digest}
 use Rattle.xa_store.specs.Opened.{is_assigned, is_pattern, is_version, opened, places_of}
 use Rattle.xa_store.specs.Rows.{DomainRow, TokenRow, DocumentRow, RootRow, PlacedRow, meta_row, next_in}
 use Rattle.xa_store.specs.Rows.{domain_row, domain_in, token_row, token_in, document_row, document_in, root_row}
 use Rattle.xa_store.specs.Rows.{root_in, placed_row, placed_row_in, text_at, type_number, value_text}
-use Rattle.xa_store.specs.Tables.{our_schema}
+use Rattle.xa_store.specs.Tables.{meta_tree, our_schema, tree_of}
 use Rattle.xa_store.specs.declared.schema.version.SchemaVersion.TheVariants.{Schema2}
 use Rattle.xa_store.specs.World.{Rows, rows_of, state_at, kept_of, world_of}
 
@@ -49,13 +51,13 @@ pub record AreRows {X : Type 0} (write : X → Row) (read : Row → X) (rowid : 
   pub apart : AreApart same (map read rows)
 
 pub record AreTables (db : Trees) : Type 0 where
-  pub meta : db 0 ≡ meta_row (next_in (db 0)) ∷ []
-  pub domains : AreRows domain_row domain_in (λ d. d.number) same_name (db 1)
-  pub tokens : AreRows token_row token_in (λ t. t.rowid) same_token (db 3)
-  pub documents : AreRows document_row document_in (λ d. d.rowid) same_document (db 5)
-  pub roots : AreRows root_row root_in (λ r. r.number) (λ a b. false) (db 7)
-  pub left_empty : db 8 ≡ []
-  pub sources : AreRows placed_row placed_row_in (λ p. p.rowid) same_place (db 10)
+  pub meta : db meta_tree ≡ meta_row (next_in (db meta_tree)) ∷ []
+  pub domains : AreRows domain_row domain_in (λ d. d.number) same_name (db (tree_of Domains))
+  pub tokens : AreRows token_row token_in (λ t. t.rowid) same_token (db (tree_of Tokens))
+  pub documents : AreRows document_row document_in (λ d. d.rowid) same_document (db (tree_of Documents))
+  pub roots : AreRows root_row root_in (λ r. r.number) (λ a b. false) (db (tree_of Roots))
+  pub left_empty : db (tree_of Attributes) ≡ []
+  pub sources : AreRows placed_row placed_row_in (λ p. p.rowid) same_place (db (tree_of Sources))
 
 -- ---- the domains' numbers
 

@@ -13,6 +13,24 @@ use Rattle.sqlite_schema.specs.declared.schema.Column.{Column}
 use Rattle.sqlite_schema.specs.declared.schema.Index.{Index}
 use Rattle.sqlite_schema.specs.declared.schema.Reference.{Reference}
 use Rattle.sqlite_value.specs.declared.keys.Order.{Order}
+use Rattle.xa_store.specs.declared.schema.checked_table.CheckedTable.{CheckedTable}
+use Rattle.xa_store.specs.declared.schema.checked_table.CheckedTable.TheVariants.{Domains, Tokens, Documents, Roots}
+use Rattle.xa_store.specs.declared.schema.checked_table.CheckedTable.TheVariants.{Attributes, Sources}
+
+-- ---- trees
+
+-- the tree that has the one row of `meta`
+abbrev pub meta_tree : ℕ
+meta_tree = 0
+
+-- the tree that has the rows of the table
+abbrev pub tree_of : CheckedTable → ℕ
+tree_of Domains = 1
+tree_of Tokens = 3
+tree_of Documents = 5
+tree_of Roots = 7
+tree_of Attributes = 8
+tree_of Sources = 10
 
 -- ---- columns
 

@@ -13,8 +13,11 @@ use Rattle.xa_notation.specs.declared.token.Role.{Role}
 use Rattle.xa_decide.specs.declared.source_row.SourceRow.{SourceRow}
 use Rattle.xa_records.specs.DomainState.{DomainState, StoredDocument, compare_bytes}
 use Rattle.xa_records.specs.Kept.{Domain, Kept}
+use Rattle.xa_store.specs.declared.schema.checked_table.CheckedTable.TheVariants.{Domains, Tokens, Documents, Roots}
+use Rattle.xa_store.specs.declared.schema.checked_table.CheckedTable.TheVariants.{Attributes, Sources}
 use Rattle.xa_store.specs.Rows.{DomainRow, TokenRow, DocumentRow, RootRow, PlacedRow, nat_of, next_in}
 use Rattle.xa_store.specs.Rows.{domain_in, token_in, document_in, root_in, placed_row_in, unissued_in, reference_of}
+use Rattle.xa_store.specs.Tables.{meta_tree, tree_of}
 
 -- ---- the rows of all tables
 
@@ -29,12 +32,12 @@ pub record Rows : Type 0 where
 
 abbrev pub rows_of : Trees → Rows
 rows_of db = record {
-  next = next_in (db 0);
-  domains = map domain_in (db 1);
-  tokens = map token_in (db 3);
-  documents = map document_in (db 5);
-  roots = map root_in (db 7);
-  sources = map placed_row_in (db 10);
+  next = next_in (db meta_tree);
+  domains = map domain_in (db (tree_of Domains));
+  tokens = map token_in (db (tree_of Tokens));
+  documents = map document_in (db (tree_of Documents));
+  roots = map root_in (db (tree_of Roots));
+  sources = map placed_row_in (db (tree_of Sources));
 }
 
 -- of the tables that a connection has now
@@ -43,7 +46,7 @@ rows_now store = rows_of store.now.trees
 
 -- in schema 1
 abbrev pub first_rows_of : Trees → Rows
-first_rows_of db = record (rows_of db) { sources = map unissued_in (db 8) }
+first_rows_of db = record (rows_of db) { sources = map unissued_in (db (tree_of Attributes)) }
 
 -- ---- the state of the domain of a number
 

@@ -6,7 +6,8 @@ ghost use Rattle.sqlite.specs.Held.{state};
 ghost use Rattle.xa_store.specs.Check.{AreSources, AsksOver, Checked, CheckedBy, FindsIn, FindsRest};
 ghost use Rattle.xa_store.specs.Check.{GivesNext, Orders, TellsSound, counts, has_table, no_place};
 ghost use Rattle.xa_store.specs.Opened.{are_counted, is_left_empty, is_sound, is_sound_table};
-ghost use Rattle.xa_store.specs.Opened.{known_next, place_in, read_meta, sources_in, tables_in, tree_of};
+ghost use Rattle.xa_store.specs.Opened.{known_next, place_in, read_meta, sources_in, tables_in};
+ghost use Rattle.xa_store.specs.Tables.{meta_tree, tree_of};
 ghost use Rattle.xa_store.specs.declared.schema.checked_table.CheckedTable.TheVariants.{Documents, Domains};
 ghost use Rattle.xa_store.specs.declared.schema.checked_table.CheckedTable.TheVariants.{Roots, Tokens};
 ghost use Rattle.xa_store.specs.declared.schema.version.SchemaVersion.{SchemaVersion as Version};
@@ -208,7 +209,8 @@ fn check_all<S: Alter>(
 fn next_domain<S: Alter>(conn: &mut Connection<S>, version: SchemaVersion) -> Result<i64, OpenError>
     ensures asks { AsksOver S.Store version conn.old conn.new result }
     ensures finds { FindsIn S.Store version conn.old conn.new
-        (GivesNext (known_next version (map read_meta ((state S.Store conn.old).now.trees 0))) result) }
+        (GivesNext
+        (known_next version (map read_meta ((state S.Store conn.old).now.trees meta_tree))) result) }
 {
     let rows = rows_of(conn, sql::META_ROWS)?;
     match known_next(version, rows.as_slice()) {
