@@ -1,9 +1,9 @@
 -- The rows of a sound table are those that a keeper writes: for any table, and for domains, tokens and the rows of sources.
 use Rattle.std.proofs.Common.{◌≡◌, ℕ, ℤ, Bool, true, false, List, [], ◌∷◌, map, drop, refl, subst, ◌∙◌}
-use Rattle.xa_store.proofs.Common.{AllByRecursion, Row, column, Schema, Table, Trees, Int, IsSound, IsKeyedBy, AreApart, all_both, all_from_test, all_of, all_unmap, all_weaker, first_of_both, second_of_both, Datatype, NotNull, Unique, agree, are_present, are_typed, clashes, passes, Eq, at_ints, at_texts, at_blobs, then_term, last_term, CheckedTable, Domains, Tokens, Attributes, Sources, as_read, is_sound_table, is_whole_row, row_number, tree_of, PlacedRow, DomainRow, TokenRow, placed_row_in, placed_row, domain_in, domain_row, token_in, token_row, AreRows, same_name, same_place, same_token, attributes, domains, first_schema, our_schema, rising, sources, tokens}
+use Rattle.xa_store.proofs.Common.{AllByRecursion, Row, column, Schema, Table, Trees, Int, IsSound, IsKeyedBy, AreApart, all_both, all_from_test, all_of, all_unmap, all_weaker, first_of_both, second_of_both, Datatype, NotNull, Unique, agree, are_present, are_typed, clashes, passes, Eq, at_ints, at_texts, at_blobs, then_term, last_term, CheckedTable, Domains, Tokens, Attributes, Sources, as_read, is_sound_table, is_whole_row, row_number, tree_of, PlacedRow, DomainRow, TokenRow, placed_row_in, placed_row, domain_in, domain_row, token_in, token_row, AreRows, same_name, same_place, same_token, attributes, domains, schema_1, schema_2, rising, sources, tokens}
 use Rattle.sqlite_schema.specs.declared.schema.Constraint.{Constraint}
 use Rattle.sqlite_value.specs.Keys.{first_key}
-use Rattle.xa_store.proofs.ShapedLemmas.{apart_from, domain_back, first_source_back, free_of, keyed_from, places_agree, rows_ascend, source_back, token_back, written_from}
+use Rattle.xa_store.proofs.ShapedLemmas.{apart_from, domain_back, source_of_schema_1_back, free_of, keyed_from, places_agree, rows_ascend, source_back, token_back, written_from}
 
 -- ---- any table
 
@@ -64,25 +64,25 @@ digests_agree : (a b : TokenRow) → same_token a b ≡ true → agree rising (1
 unfolding first_key
 digests_agree a b is = then_term (at_ints false Eq a.number b.number ∙ first_of_both _ _ is) (last_term (at_blobs false Eq a.digest b.digest ∙ second_of_both _ _ is))
 
-module _ (db : Trees) (next : ℤ) (sound : IsSound our_schema db) where
+module _ (db : Trees) (next : ℤ) (sound : IsSound schema_2 db) where
   pub domains_are : is_sound_table db next Domains ≡ true → AreRows domain_row domain_in (λ d. d.number) same_name (db 1)
   domains_are h =
-      rows_apart Domains next db h domain_row domain_in (λ (d : DomainRow). d.number) same_name (λ r. refl) our_schema sound domains refl (λ P all. all.1.0) (λ r t p w. domain_back next r t w)
+      rows_apart Domains next db h domain_row domain_in (λ (d : DomainRow). d.number) same_name (λ r. refl) schema_2 sound domains refl (λ P all. all.1.0) (λ r t p w. domain_back next r t w)
       (λ d. refl) (2 ∷ []) names_agree (λ r u. free_of _ (first_of_both _ _ u))
 
   pub tokens_are : is_sound_table db next Tokens ≡ true → AreRows token_row token_in (λ t. t.rowid) same_token (db 3)
   tokens_are h =
-      rows_apart Tokens next db h token_row token_in (λ (t : TokenRow). t.rowid) same_token (λ r. refl) our_schema sound tokens refl (λ P all. all.1.1.0) (λ r t p w. token_back next r t w)
+      rows_apart Tokens next db h token_row token_in (λ (t : TokenRow). t.rowid) same_token (λ r. refl) schema_2 sound tokens refl (λ P all. all.1.1.0) (λ r t p w. token_back next r t w)
       (λ t. refl) (1 ∷ 2 ∷ []) digests_agree (λ r u. free_of _ (first_of_both _ _ u))
 
 -- ---- rows of sources, in both schemas
 
-pub sources_are : (db : Trees) (next : ℤ) → IsSound our_schema db → is_sound_table db next Sources ≡ true → AreRows placed_row placed_row_in (λ a. a.rowid) same_place (db 10)
+pub sources_are : (db : Trees) (next : ℤ) → IsSound schema_2 db → is_sound_table db next Sources ≡ true → AreRows placed_row placed_row_in (λ a. a.rowid) same_place (db 10)
 sources_are db next sound h =
-    rows_apart Sources next db h placed_row placed_row_in (λ (a : PlacedRow). a.rowid) same_place (λ r. refl) our_schema sound sources refl (λ P all. all.1.1.1.1.1.1.0) (source_back next)
+    rows_apart Sources next db h placed_row placed_row_in (λ (a : PlacedRow). a.rowid) same_place (λ r. refl) schema_2 sound sources refl (λ P all. all.1.1.1.1.1.1.0) (source_back next)
     (λ a. refl) (1 ∷ 2 ∷ []) (λ a b is. places_agree a b ∙ is) (λ r u. free_of _ (first_of_both _ _ u))
 
-pub first_sources_are : (db : Trees) (next : ℤ) → IsSound first_schema db → is_sound_table db next Attributes ≡ true → AreRows placed_row placed_row_in (λ a. a.rowid) same_place (db 8)
-first_sources_are db next sound h =
-    rows_apart Attributes next db h placed_row placed_row_in (λ (a : PlacedRow). a.rowid) same_place (λ r. refl) first_schema sound attributes refl (λ P all. all.1.1.1.1.1.0) (first_source_back next)
+pub sources_of_schema_1_are : (db : Trees) (next : ℤ) → IsSound schema_1 db → is_sound_table db next Attributes ≡ true → AreRows placed_row placed_row_in (λ a. a.rowid) same_place (db 8)
+sources_of_schema_1_are db next sound h =
+    rows_apart Attributes next db h placed_row placed_row_in (λ (a : PlacedRow). a.rowid) same_place (λ r. refl) schema_1 sound attributes refl (λ P all. all.1.1.1.1.1.0) (source_of_schema_1_back next)
     (λ a. refl) (1 ∷ 2 ∷ []) (λ a b is. places_agree a b ∙ is) (λ r u. free_of _ (first_of_both _ _ u))

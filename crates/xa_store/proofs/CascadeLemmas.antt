@@ -1,6 +1,6 @@
 -- What the actions of foreign keys take out, when the row of a domain goes.
 use Rattle.std.proofs.Common.{◌≡◌, ◌≢◌, inl, inr, ℕ, zero, suc, ℤ, ◌<ℤ◌, List, [], ◌∷◌, ◌++◌, map, filter, fold, length, Bool, true, false, not, ◌&&◌, ◌||◌, ◌==◌, cond, Option, Some, None, Ok, refl, sym, ap, ap₂, subst, subst₂, ◌∙◌, arith, int_eq, append-nil, length-append}
-use Rattle.xa_store.proofs.Common.{AllByRecursion, list_all, list_any, and_parts, ints, Row, Table, Trees, Value, Int, Enforced, Eq, rowid, Work, action_edit, works, loses, is_child_of, AreChildren, Acts, ActsOn, Leads, IsNoIndex, taken_by, without_all, IsKeyedBy, delete_where, without_key, all_of, filter_all, deletes-map, at_ints, DomainRow, domain_row, our_schema, of_domain, tokens, policies, roots, attributes, sources}
+use Rattle.xa_store.proofs.Common.{AllByRecursion, list_all, list_any, and_parts, ints, Row, Table, Trees, Value, Int, Enforced, Eq, rowid, Work, action_edit, works, loses, is_child_of, AreChildren, Acts, ActsOn, Leads, IsNoIndex, taken_by, without_all, IsKeyedBy, delete_where, without_key, all_of, filter_all, deletes-map, at_ints, DomainRow, domain_row, schema_2, of_domain, tokens, policies, roots, attributes, sources}
 use Rattle.std.specs.List.{flat_map, filter_map}
 use Rattle.sqlite.specs.Ops.{binary}
 use Rattle.sqlite_schema.specs.Names.{same_name}
@@ -52,12 +52,12 @@ loses_its_key : (d : DomainRow) → loses rowids_order (0 ∷ []) (domain_row d,
 unfolding binary first_key
 loses_its_key d = ap (λ x. (x && true) && not (false && true)) (at_ints false Eq d.number d.number ∙ own_number d.number)
 
-works_if : (d : DomainRow) → works our_schema Enforced 0 1 (domain_row d ∷ []) [] ≡ flat_map (λ child. filter_map (work_if (loses rowids_order (0 ∷ []) (domain_row d, []) || false) d child) child.references) our_schema.tables
+works_if : (d : DomainRow) → works schema_2 Enforced 0 1 (domain_row d ∷ []) [] ≡ flat_map (λ child. filter_map (work_if (loses rowids_order (0 ∷ []) (domain_row d, []) || false) d child) child.references) schema_2.tables
 unfolding same_name joined
 works_if d = refl
 
-pub works_of_drop : (d : DomainRow) → works our_schema Enforced 0 1 (domain_row d ∷ []) [] ≡ works_on d all_children
-works_of_drop d = works_if d ∙ ap (λ b. flat_map (λ child. filter_map (work_if (b || false) d child) child.references) our_schema.tables) (loses_its_key d)
+pub works_of_drop : (d : DomainRow) → works schema_2 Enforced 0 1 (domain_row d ∷ []) [] ≡ works_on d all_children
+works_of_drop d = works_if d ∙ ap (λ b. flat_map (λ child. filter_map (work_if (b || false) d child) child.references) schema_2.tables) (loses_its_key d)
 
 -- none of them is that of domains, so nothing refers to them
 abbrev pub AreOthers : List Child → Type 0
@@ -81,7 +81,7 @@ root_child_at d m rest = ap₂ (λ a e. (a && (e && true)) || false) (loses_its_
 -- the rows of these rowids are gone
 pub record Cleared (db mid : Trees) (child : Table) (ids : List ℤ) : Type 0 where
   pub rows : mid child.tree ≡ without_all (db child.tree) ids
-  pub others : (t : ℕ) → t ≢ child.tree → IsNoIndex our_schema t → mid t ≡ db t
+  pub others : (t : ℕ) → t ≢ child.tree → IsNoIndex schema_2 t → mid t ≡ db t
 
 split : {X : Type 0} (xs ys : List X) (x y : X) → xs ++ x ∷ [] ≡ ys ++ y ∷ [] → (xs ≡ ys) × (x ≡ y)
 split [] [] x y e = (refl, cc)
@@ -95,19 +95,19 @@ split (a ∷ xs) (b ∷ ys) x y e =
 
 module _ (next : Trees) where
   abbrev Settle : ℕ → Trees → List Work → Type 0
-  Settle n db stack = Leads our_schema Enforced n db stack (Ok next)
+  Settle n db stack = Leads schema_2 Enforced n db stack (Ok next)
 
-  last_first : (m : ℕ) (db : Trees) (xs : List Work) (x : Work) → Settle m db (xs ++ x ∷ []) → (k : ℕ) × Acts our_schema Enforced (Leads our_schema Enforced k) db x xs (Ok next)
+  last_first : (m : ℕ) (db : Trees) (xs : List Work) (x : Work) → Settle m db (xs ++ x ∷ []) → (k : ℕ) × Acts schema_2 Enforced (Leads schema_2 Enforced k) db x xs (Ok next)
   last_first zero db xs x h = absurd (omega (arith, ap length h.0, length-append xs (x ∷ [])))
   last_first (suc k) db xs x h =
       let same = split xs h.0 x h.1 h.2 in
-      (k, subst₂ (λ w below. Acts our_schema Enforced (Leads our_schema Enforced k) db w below (Ok next)) (sym same.1) (sym same.0) h.3)
+      (k, subst₂ (λ w below. Acts schema_2 Enforced (Leads schema_2 Enforced k) db w below (Ok next)) (sym same.1) (sym same.0) h.3)
 
   pub settled : (m : ℕ) (db : Trees) → Settle m db [] → next ≡ db
   settled zero db h = let e = h.1 in cc
   settled (suc k) db h = absurd (omega (arith, ap length h.2, length-append h.0 (h.1 ∷ [])))
 
-  module _ (d : DomainRow) (child : Table) (ref : Reference) (quiet : (olds : List Row) → works our_schema Enforced 1 child.tree olds [] ≡ []) where
+  module _ (d : DomainRow) (child : Table) (ref : Reference) (quiet : (olds : List Row) → works schema_2 Enforced 1 child.tree olds [] ≡ []) where
     -- the last action is done, and the others wait
     pub record ActedOn (db : Trees) (below : List Work) : Type 0 where
       pub mid : Trees
@@ -120,7 +120,7 @@ module _ (next : Trees) where
     pub acted : (m : ℕ) (db : Trees) (below : List Work) → Settle m db (below ++ work_on d child ref ∷ []) → ActedOn db below
     acted m db below h = let it = last_first m db below (work_on d child ref) h in go it.0 it.1.0 it.1.1 it.1.2
       where
-        go : (k : ℕ) (ids : List ℤ) → AreChildren db (work_on d child ref) ids → ActsOn our_schema Enforced (Leads our_schema Enforced k) db (work_on d child ref) below (Ok next) ids → ActedOn db below
+        go : (k : ℕ) (ids : List ℤ) → AreChildren db (work_on d child ref) ids → ActsOn schema_2 Enforced (Leads schema_2 Enforced k) db (work_on d child ref) below (Ok next) ids → ActedOn db below
         go k [] are h = record { mid = db; ids = []; children = are; cleared = record { rows = refl; others = λ t apart free. refl }; steps = k; later = h }
         go k (id ∷ ids) are (inl refused) = absurd (let e = refused.2 in cc)
         go k (id ∷ ids) are (inr (inl big)) = absurd (let e = big.3 in cc)

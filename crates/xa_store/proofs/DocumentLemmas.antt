@@ -1,6 +1,6 @@
 -- What the queries on documents find.
 use Rattle.std.proofs.Common.{◌≡◌, ℕ, ℤ, pos, List, [], ◌∷◌, map, filter, length, Bool, true, false, ◌&&◌, Ordering, Less, is_eq, int_eq, Option, Some, None, option_map, unwrap_or, find, Ok, refl, sym, ap, subst, ◌∙◌, IsPermutation, IsSorted}
-use Rattle.xa_store.proofs.Common.{IsTotalOrder, get, entries, len, len-entries, length-map, AllByRecursion, on, on_total, IsPermutation-map, IsPermutation-trans, length_permutation, Row, State, Shown, Trees, Int, Text, Blob, IsPlain, understood, Term, col, reads_as, sort_by, all_of, all_weaker, map-map, filter-map, IsPermutation-filter, ascending-map, ascending-filter, sorted_unique, IsPermutation-sort_by, Eq, IsAscending, at_ints, then_term, last_term, DocumentKey, compare_keys, read_version, version_text, StoredDocument, active_text, active_texts, listed_of, listing_of_state, text_in, keys_total, keys_exact, DocumentRow, document_row, document_in, bit, kind_number, AreTables, Ours, same_document, our_schema, Rows, rows_of, state_at, documents_at, document_entry}
+use Rattle.xa_store.proofs.Common.{IsTotalOrder, get, entries, len, len-entries, length-map, AllByRecursion, on, on_total, IsPermutation-map, IsPermutation-trans, length_permutation, Row, State, Shown, Trees, Int, Text, Blob, IsPlain, understood, Term, col, reads_as, sort_by, all_of, all_weaker, map-map, filter-map, IsPermutation-filter, ascending-map, ascending-filter, sorted_unique, IsPermutation-sort_by, Eq, IsAscending, at_ints, then_term, last_term, DocumentKey, compare_keys, read_version, version_text, StoredDocument, active_text, active_texts, listed_of, listing_of_state, text_in, keys_total, keys_exact, DocumentRow, document_row, document_in, bit, kind_number, AreTables, Ours, same_document, schema_2, Rows, rows_of, state_at, documents_at, document_entry}
 use Rattle.xa_records.specs.declared.listed.Listed.{Listed}
 use Rattle.xa_records.specs.declared.active_text.ActiveText.{ActiveText}
 use Rattle.xa_store.specs.declared.query.document_row.DocumentFound.{DocumentFound}
@@ -17,16 +17,16 @@ use Rattle.xa_store.proofs.OrderedLemmas.{all_among, apart_among, apart_then, en
 use Rattle.xa_store.proofs.SqlLemmas.{Answered, answered, hits}
 use Rattle.xa_store.proofs.TextLemmas.{is, is_one, document_shown_is, kinds_shown_is, documents_shown_is, active_shown_is}
 
-pub document_plain : IsPlain (understood our_schema document_shown)
+pub document_plain : IsPlain (understood schema_2 document_shown)
 document_plain = document_shown_is.2
 
-pub kinds_plain : IsPlain (understood our_schema kinds_shown)
+pub kinds_plain : IsPlain (understood schema_2 kinds_shown)
 kinds_plain = kinds_shown_is.2
 
-pub documents_plain : IsPlain (understood our_schema documents_shown)
+pub documents_plain : IsPlain (understood schema_2 documents_shown)
 documents_plain = documents_shown_is.2
 
-pub active_plain : IsPlain (understood our_schema active_shown)
+pub active_plain : IsPlain (understood schema_2 active_shown)
 active_plain = active_shown_is.2
 
 pub reads_as_version : (version : List ℕ) → read_version (version_text version) ≡ Ok version → version_in (version_text version) ≡ version
@@ -56,7 +56,7 @@ module _ (old new : State) (number : ℤ) (key : DocumentKey) (reads : version_i
   answer : Answered 5 tests (col 1 5 ∷ col 1 6 ∷ []) [] db refl given rows
   answer =
       answered 5 tests (col 1 5 ∷ col 1 6 ∷ []) [] db refl given rows
-      (reads_as document_shown given old new our_schema ours.rests.schema _ document_shown_is.0 document_shown_is.2 document_shown_is.1 rows shown).answer
+      (reads_as document_shown given old new schema_2 ours.rests.schema _ document_shown_is.0 document_shown_is.2 document_shown_is.1 rows shown).answer
 
   all_hit : AllByRecursion (λ d. hits 5 tests (col 1 5 ∷ col 1 6 ∷ []) [] db refl given (document_row d) ≡ is_document number key d) (map document_in (db 5))
   all_hit =
@@ -169,7 +169,7 @@ module _ (old new : State) (number : ℤ) (ours : Ours old) where
       → IsPermutation (map (list_row trees number ours.tables) (mine trees number ours.tables)) items
   listing_told rows shown items told =
       let answer = answered 5 (is 1 0 ∷ []) (col 1 2 ∷ col 1 3 ∷ col 1 4 ∷ col 1 6 ∷ []) (2 ∷ 3 ∷ 4 ∷ []) trees refl (Int number ∷ []) rows
-      (reads_as documents_shown (Int number ∷ []) old new our_schema ours.rests.schema _ documents_shown_is.0 documents_shown_is.2 documents_shown_is.1 rows shown).answer in
+      (reads_as documents_shown (Int number ∷ []) old new schema_2 ours.rests.schema _ documents_shown_is.0 documents_shown_is.2 documents_shown_is.1 rows shown).answer in
       let all = found_all 5 (is 1 0 ∷ []) (col 1 2 ∷ col 1 3 ∷ col 1 4 ∷ col 1 6 ∷ []) (2 ∷ 3 ∷ 4 ∷ []) trees refl (Int number ∷ []) document_row document_in ours.tables.documents.written of_number
       (all_of _ (documents_hit number trees) (map document_in (trees 5))) rows answer in
       let each = map-map listed_told list_shown (filter of_number (map document_in (trees 5)))
@@ -183,7 +183,7 @@ module _ (old new : State) (number : ℤ) (ours : Ours old) where
   pub documents_counted : (rows : List Row) → Shown kinds_shown (Int number ∷ []) old new rows → length rows ≡ len (state_at (rows_of trees) number).documents
   documents_counted rows shown =
       let answer = answered 5 (is 1 0 ∷ []) (col 1 2 ∷ []) [] trees refl (Int number ∷ []) rows
-      (reads_as kinds_shown (Int number ∷ []) old new our_schema ours.rests.schema _ kinds_shown_is.0 kinds_shown_is.2 kinds_shown_is.1 rows shown).answer in
+      (reads_as kinds_shown (Int number ∷ []) old new schema_2 ours.rests.schema _ kinds_shown_is.0 kinds_shown_is.2 kinds_shown_is.1 rows shown).answer in
       let all = found_all 5 (is 1 0 ∷ []) (col 1 2 ∷ []) [] trees refl (Int number ∷ []) document_row document_in ours.tables.documents.written of_number
       (all_of _ (kinds_hit number trees) (map document_in (trees 5))) rows answer in
       length_permutation _ rows all ∙ length-map (filter of_number (map document_in (trees 5))) only_kind
@@ -209,7 +209,7 @@ module _ (old new : State) (number : ℤ) (ours : Ours old) where
       → IsPermutation (map (text_row trees number ours.tables) (filter (is_active trees number ours.tables) (mine trees number ours.tables))) items
   texts_told rows shown items told =
       let answer = answered 5 (is 1 0 ∷ is_one 6 ∷ []) (col 1 2 ∷ col 1 3 ∷ col 1 4 ∷ col 1 5 ∷ []) (2 ∷ 3 ∷ 4 ∷ []) trees refl (Int number ∷ []) rows
-      (reads_as active_shown (Int number ∷ []) old new our_schema ours.rests.schema _ active_shown_is.0 active_shown_is.2 active_shown_is.1 rows shown).answer in
+      (reads_as active_shown (Int number ∷ []) old new schema_2 ours.rests.schema _ active_shown_is.0 active_shown_is.2 active_shown_is.1 rows shown).answer in
       let all = found_all 5 (is 1 0 ∷ is_one 6 ∷ []) (col 1 2 ∷ col 1 3 ∷ col 1 4 ∷ col 1 5 ∷ []) (2 ∷ 3 ∷ 4 ∷ []) trees refl (Int number ∷ []) document_row document_in
       ours.tables.documents.written of_number_active (all_of _ active_hit (map document_in (trees 5))) rows answer in
       let each = map-map text_told text_shown (filter of_number_active (map document_in (trees 5)))

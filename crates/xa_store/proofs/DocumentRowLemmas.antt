@@ -1,6 +1,6 @@
 -- Sound rows of the table of documents are rows that the keeper writes.
 use Rattle.std.proofs.Common.{◌≡◌, ◌≤◌, ℕ, ℤ, true, false, List, [], ◌∷◌, length, drop, unwrap_or, int_eq, bytes_eq, None, Result, Ok, Err, refl, sym, ap, subst, ◌∙◌, true≢false, arith}
-use Rattle.xa_store.proofs.Common.{Row, column, Trees, Value, Int, Text, IsSound, same_int, first_of_both, second_of_both, agree, are_typed, Eq, int_of, bytes_of, at_ints, at_texts, then_term, last_term, bytes_eq_refl, DocumentKey, DocumentKind, read_version, version_text, Parsed, document_of, IsDocumentOf, Documents, as_read, holds_key, is_assigned, is_bit, is_sound_table, is_whole_row, DocumentRow, bit, is_set, document_in, document_row, given, kind_in, kind_number, AreRows, same_document, our_schema, policies, rising}
+use Rattle.xa_store.proofs.Common.{Row, column, Trees, Value, Int, Text, IsSound, same_int, first_of_both, second_of_both, agree, are_typed, Eq, int_of, bytes_of, at_ints, at_texts, then_term, last_term, bytes_eq_refl, DocumentKey, DocumentKind, read_version, version_text, Parsed, document_of, IsDocumentOf, Documents, as_read, holds_key, is_assigned, is_bit, is_sound_table, is_whole_row, DocumentRow, bit, is_set, document_in, document_row, given, kind_in, kind_number, AreRows, same_document, schema_2, policies, rising}
 use Rattle.sqlite_value.specs.Keys.{first_key}
 use Rattle.xa_notation.specs.declared.notation_error.NotationError.{NotationError}
 use Rattle.xa_store.specs.Rows.{version_in}
@@ -91,7 +91,7 @@ keys_agree a b h =
     let key = same_key a.key b.key (second_of_both _ _ h) in
     subst (λ (p : ℤ × DocumentKey). agree rising (1 ∷ 2 ∷ 3 ∷ 4 ∷ []) (document_row a) (1 ∷ 2 ∷ 3 ∷ 4 ∷ []) (document_row (with_key b p)) ≡ true) (λ i. (number i, key i)) (key_agrees a b)
 
-pub documents_are : (db : Trees) (next : ℤ) → IsSound our_schema db → is_sound_table db next Documents ≡ true → AreRows document_row document_in (λ d. d.rowid) same_document (db 5)
+pub documents_are : (db : Trees) (next : ℤ) → IsSound schema_2 db → is_sound_table db next Documents ≡ true → AreRows document_row document_in (λ d. d.rowid) same_document (db 5)
 documents_are db next sound h =
-    rows_apart Documents next db h document_row document_in (λ (d : DocumentRow). d.rowid) same_document (λ r. refl) our_schema sound policies refl (λ P all. all.1.1.1.0)
+    rows_apart Documents next db h document_row document_in (λ (d : DocumentRow). d.rowid) same_document (λ r. refl) schema_2 sound policies refl (λ P all. all.1.1.1.0)
     (λ r t p w. document_back next r t w) (λ d. refl) (1 ∷ 2 ∷ 3 ∷ 4 ∷ []) keys_agree (λ r u. free_of _ (first_of_both _ _ u))

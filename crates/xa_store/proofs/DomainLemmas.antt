@@ -1,6 +1,6 @@
 -- What the look for a domain by its name finds.
 use Rattle.std.proofs.Common.{◌≡◌, ℕ, ℤ, pos, negsuc, ◌≤ℤ◌, List, [], ◌∷◌, map, filter, Option, Some, None, Result, Ok, Err, IfOk, refl, sym, ap, ◌∙◌, arith}
-use Rattle.xa_store.proofs.Common.{AllByRecursion, ints, Row, column, State, Shown, Trees, Value, Int, Text, IsPlain, understood, col, reads_as, all_of, Failure, DomainRow, nat_of, domain_row, domain_in, Ours, our_schema, rows_of}
+use Rattle.xa_store.proofs.Common.{AllByRecursion, ints, Row, column, State, Shown, Trees, Value, Int, Text, IsPlain, understood, col, reads_as, all_of, Failure, DomainRow, nat_of, domain_row, domain_in, Ours, schema_2, rows_of}
 use Rattle.xa_store.specs.declared.query.domain.DomainFound.{DomainFound}
 use Rattle.xa_store.specs.Lookup.{FindsDomain, TellDomain}
 use Rattle.xa_store.specs.Steps.{is_named}
@@ -10,7 +10,7 @@ use Rattle.xa_store.proofs.HitLemmas.{name_hit}
 use Rattle.xa_store.proofs.SqlLemmas.{Answered, answered, hits}
 use Rattle.xa_store.proofs.TextLemmas.{is, domain_shown_is}
 
-pub domain_plain : IsPlain (understood our_schema domain_shown)
+pub domain_plain : IsPlain (understood schema_2 domain_shown)
 domain_plain = domain_shown_is.2
 
 pub same_int_value : (a b : ℤ) → ◌≡◌ {A = Value} (Int a) (Int b) → a ≡ b
@@ -27,7 +27,7 @@ module _ (old new : State) (name : List ℕ) (ours : Ours old) (rows : List Row)
   answer : Answered 1 (is 2 0 ∷ []) (col 1 0 ∷ col 1 3 ∷ []) [] db refl (Text name ∷ []) rows
   answer =
       answered 1 (is 2 0 ∷ []) (col 1 0 ∷ col 1 3 ∷ []) [] db refl (Text name ∷ []) rows
-      (reads_as domain_shown (Text name ∷ []) old new our_schema ours.rests.schema _ domain_shown_is.0 domain_shown_is.2 domain_shown_is.1 rows shown).answer
+      (reads_as domain_shown (Text name ∷ []) old new schema_2 ours.rests.schema _ domain_shown_is.0 domain_shown_is.2 domain_shown_is.1 rows shown).answer
 
   all_hit : AllByRecursion (λ x. hits 1 (is 2 0 ∷ []) (col 1 0 ∷ col 1 3 ∷ []) [] db refl (Text name ∷ []) (domain_row x) ≡ is_named name x) (map domain_in (db 1))
   all_hit = all_of _ (name_hit name db) (map domain_in (db 1))

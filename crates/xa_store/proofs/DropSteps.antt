@@ -1,6 +1,6 @@
 -- What the statement that takes a domain out makes of the rows: all that is in it goes too.
 use Rattle.std.proofs.Common.{◌≡◌, ◌≢◌, inl, inr, ℕ, ℤ, List, [], ◌∷◌, map, drop, filter, find, option_map, true, false, cond, Some, unwrap_or, Ok, refl, sym, ap, subst, ◌∙◌, int_eq}
-use Rattle.xa_store.proofs.Common.{edit_of, Row, Given, Edited, State, Executes, col, Trees, Int, Enforced, Eq, has_rowid, value_cmp-Int, works, Leads, ids_of, IsNoIndex, without_all, row_at, delete_where, all_of, same_int, deletes-map, at_ints, last_term, DomainRow, domain_row, domain_in, token_row, token_in, document_row, document_in, root_row, root_in, placed_row, placed_row_in, AreTables, our_schema, domains, tokens, policies, attributes, sources, rows_of}
+use Rattle.xa_store.proofs.Common.{edit_of, Row, Given, Edited, State, Executes, col, Trees, Int, Enforced, Eq, has_rowid, value_cmp-Int, works, Leads, ids_of, IsNoIndex, without_all, row_at, delete_where, all_of, same_int, deletes-map, at_ints, last_term, DomainRow, domain_row, domain_in, token_row, token_in, document_row, document_in, root_row, root_in, placed_row, placed_row_in, AreTables, schema_2, domains, tokens, policies, attributes, sources, rows_of}
 use Rattle.xa_store.specs.declared.step.Step.TheVariants.{DropDomain}
 use Rattle.xa_store.specs.Steps.{without_domain}
 use Rattle.xa_store.specs.Texts as text
@@ -17,7 +17,7 @@ use Rattle.xa_store.proofs.WriteLemmas.{passing_rows}
 -- ---- the rows that are left
 
 module _ (db last : Trees) (was : AreTables db) (d : DomainRow) (first : Trees) (rows : first 1 ≡ without_all (db 1) (d.number ∷ []))
-    (others : (t : ℕ) → t ≢ 1 → IsNoIndex our_schema t → first t ≡ db t) (acted : ActedOnAll last d all_children first) where
+    (others : (t : ℕ) → t ≢ 1 → IsNoIndex schema_2 t → first t ≡ db t) (acted : ActedOnAll last d all_children first) where
   at_first : (t : ℕ) → is_other 1 t ≡ true → first t ≡ db t
   at_first = of_other 1 (λ t. first t ≡ db t) others
 
@@ -67,7 +67,7 @@ found_at n (d ∷ ds) =
     ap (λ b. cond b (Some (domain_row d)) (find (has_rowid n) (map domain_row ds))) (ap Rattle.std.specs.Ordering.is_eq (value_cmp-Int d.number n)) ∙ ap (cond (int_eq d.number n) (Some (domain_row d))) (found_at n ds)
     ∙ elim (int_eq d.number n) as (λ b. cond b (Some (domain_row d)) (option_map domain_row (find (λ d. int_eq d.number n) ds)) ≡ option_map domain_row (cond b (Some d) (find (λ d. int_eq d.number n) ds))) [ true ↦ refl | false ↦ refl ]
 
-module _ (old new : State) (has : old.now.schema ≡ our_schema) (count : ℕ) (was : AreTables old.now.trees) where
+module _ (old new : State) (has : old.now.schema ≡ schema_2) (count : ℕ) (was : AreTables old.now.trees) where
   abbrev db : Trees
   db = old.now.trees
 
@@ -79,7 +79,7 @@ module _ (old new : State) (has : old.now.schema ≡ our_schema) (count : ℕ) (
 
   module _ (d : DomainRow) (one : filter (λ x. int_eq x.number d.number) ds ≡ d ∷ []) where
     abbrev EditedRows : List Row → Type 0
-    EditedRows rows = Edited our_schema Enforced db (edit_of db domains (ids_of rows) Given 0 []) (Ok new.now.trees)
+    EditedRows rows = Edited schema_2 Enforced db (edit_of db domains (ids_of rows) Given 0 []) (Ok new.now.trees)
 
     row_there : row_at (db 1) d.number ≡ domain_row d
     row_there =
@@ -92,7 +92,7 @@ module _ (old new : State) (has : old.now.schema ≡ our_schema) (count : ℕ) (
     all_gone (inr (inr went)) =
         emptied db new.now.trees was d went.0 went.1.rows went.1.others
         (all_acted new.now.trees d all_children (refl, (refl, (refl, (refl, (refl, tt))))) went.2.0 went.0
-        (subst (λ stack. Leads our_schema Enforced went.2.0 went.0 stack (Ok new.now.trees)) (ap (λ r. works our_schema Enforced 0 1 (r ∷ []) []) row_there ∙ works_of_drop d) went.2.1))
+        (subst (λ stack. Leads schema_2 Enforced went.2.0 went.0 stack (Ok new.now.trees)) (ap (λ r. works schema_2 Enforced 0 1 (r ∷ []) []) row_there ∙ works_of_drop d) went.2.1))
 
     pub domain_dropped_stepped : Executes text.domain_dropped (Int d.number ∷ []) old new (Ok count) → Stepped old new (DropDomain d.number)
     domain_dropped_stepped h =

@@ -1,6 +1,6 @@
 -- Tables of which one was written.
 use Rattle.std.proofs.Common.{◌≡◌, ◌≢◌, ℕ, ℤ, List, [], ◌∷◌, ◌++◌, map, Bool, false, true, not, ◌&&◌, ◌==◌, refl, sym, ap, subst, ◌∙◌, eq-eqb, true≢false}
-use Rattle.xa_store.proofs.Common.{AllByRecursion, list_all, and_parts, Row, Trees, IsNoIndex, IsKeyedBy, insert_by, next_key, update_where, delete_where, AreApart, all-filter, IsKeyedBy-delete_where, IsKeyedBy-update_where, apart_delete, apart_update, DomainRow, TokenRow, DocumentRow, RootRow, PlacedRow, meta_row, next_in, domain_row, domain_in, token_row, token_in, document_row, document_in, root_row, root_in, placed_row, placed_row_in, AreRows, AreTables, same_name, same_token, same_document, same_place, our_schema, Rows, rows_of}
+use Rattle.xa_store.proofs.Common.{AllByRecursion, list_all, and_parts, Row, Trees, IsNoIndex, IsKeyedBy, insert_by, next_key, update_where, delete_where, AreApart, all-filter, IsKeyedBy-delete_where, IsKeyedBy-update_where, apart_delete, apart_update, DomainRow, TokenRow, DocumentRow, RootRow, PlacedRow, meta_row, next_in, domain_row, domain_in, token_row, token_in, document_row, document_in, root_row, root_in, placed_row, placed_row_in, AreRows, AreTables, same_name, same_token, same_document, same_place, schema_2, Rows, rows_of}
 use Rattle.sqlite_schema.specs.declared.schema.Index.{Index}
 use Rattle.xa_store.proofs.LastLemmas.{stands_last, keyed_last, all_last, apart_last}
 use Rattle.xa_store.proofs.WriteLemmas.{Wrote}
@@ -9,7 +9,7 @@ use Rattle.xa_store.proofs.WriteLemmas.{Wrote}
 
 -- the tree is another than that one, and no index's
 abbrev pub is_other : ℕ → ℕ → Bool
-is_other tree t = not (t == tree) && list_all (λ (i : Index). not (i.tree == t)) our_schema.indexes
+is_other tree t = not (t == tree) && list_all (λ (i : Index). not (i.tree == t)) schema_2.indexes
 
 apart_by : (a b : ℕ) → not (a == b) ≡ true → a ≢ b
 apart_by a b differs same = true≢false (sym differs ∙ ap not (eq-eqb a b same))
@@ -19,8 +19,8 @@ no_index [] t free = tt
 no_index (i ∷ indexes) t free = let both = and_parts _ _ free in (apart_by i.tree t both.0, no_index indexes t both.1)
 
 -- what holds of each tree but that one and the indexes' holds if the test says so
-pub of_other : (tree : ℕ) (P : ℕ → Type 0) → ((t : ℕ) → t ≢ tree → IsNoIndex our_schema t → P t) → (t : ℕ) → is_other tree t ≡ true → P t
-of_other tree P others t other = let both = and_parts _ _ other in others t (apart_by t tree both.0) (no_index our_schema.indexes t both.1)
+pub of_other : (tree : ℕ) (P : ℕ → Type 0) → ((t : ℕ) → t ≢ tree → IsNoIndex schema_2 t → P t) → (t : ℕ) → is_other tree t ≡ true → P t
+of_other tree P others t other = let both = and_parts _ _ other in others t (apart_by t tree both.0) (no_index schema_2.indexes t both.1)
 
 pub kept : {old new : Trees} {tree : ℕ} {content : List Row} → Wrote old new tree content → (t : ℕ) → is_other tree t ≡ true → new t ≡ old t
 kept {old} {new} {tree} w t other = of_other tree (λ t. new t ≡ old t) w.others t other

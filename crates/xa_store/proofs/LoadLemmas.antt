@@ -3,7 +3,7 @@ use Rattle.std.proofs.Common.{◌≡◌, ℤ, Bool, true, false, ◌&&◌, cond,
 use Rattle.xa_store.proofs.Common.{list_all, Database, IsDatabase, State, HasCleanDisk, Trees, IsSound, all_from_test, CheckedTable, Domains, Tokens, Documents, Roots, SchemaVersion, Schema1, Schema2, OpenError, NotThisSchema, Damaged, Store, Memory, are_counted, are_rising, as_read, is_count, is_left_empty, is_sound, is_sound_table, checked, tables_in, known_next, opened, place_in, read_meta, row_number, schema_of, sources_in, tree_of, RestsIn}
 use Rattle.xa_store.specs.Check.{has_table, AreSources, Asks, Checked, FindsRest, GivesAs, GivesNext, CheckedBy, TellsSound, Orders, Walked, Walks}
 use Rattle.xa_store.specs.Opening.{IsFailure}
-use Rattle.xa_store.proofs.AreRowsLemmas.{first_sources_are, sources_are}
+use Rattle.xa_store.proofs.AreRowsLemmas.{sources_of_schema_1_are, sources_are}
 use Rattle.xa_store.proofs.AskedLemmas.{as_failed, asks_then, rests_before, same_before}
 use Rattle.xa_store.proofs.ReadLemmas.{stopped_checks, walked_checks}
 use Rattle.xa_store.proofs.StreamLemmas.{same_weaker}
@@ -102,7 +102,7 @@ module _ (next : ℤ) (old new : State) (r : Result (Unit {0}) OpenError) where
   }
 
 are_sources : (version : SchemaVersion) (db : Trees) (next : ℤ) → IsSound (schema_of version) db → is_sound_table db next (sources_in version) ≡ true → AreSources version db
-are_sources Schema1 = first_sources_are
+are_sources Schema1 = sources_of_schema_1_are
 are_sources Schema2 = sources_are
 
 sources_sound : (version : SchemaVersion) (db : Trees) (next : ℤ) → list_all (is_sound_table db next) (tables_in version) ≡ true → is_sound_table db next (sources_in version) ≡ true

@@ -5,7 +5,7 @@ use Rattle.sqlite.specs.Steps.{FailsToCommit}
 use Rattle.xa_store.specs.declared.schema.creation.Part.TheVariants as parts
 use Rattle.xa_store.specs.Check.{IsSoundIn, MakesTables, MigratesTables}
 use Rattle.xa_store.specs.Creation.{AreMade, IsBefore}
-use Rattle.xa_store.specs.Migration.{IsDone, IsFirst, IsSoundFirst}
+use Rattle.xa_store.specs.Migration.{IsDone, HasSchema1, IsSoundSchema1}
 use Rattle.xa_store.specs.Opening.{AreNewTables, IsBlank, IsFailure, IsMigrated}
 use Rattle.xa_store.proofs.MigratedLemmas.{is_migrated}
 
@@ -77,11 +77,11 @@ module _ {S : Type 0} (g : Ghosts S) (old mid last : Held S) where
 
     -- ---- tables of schema 1 in schema 2
 
-    module _ (moves : HasCleanDisk (state g mid) → IsTrue begun.in_transaction → (first : Trees) → IsSoundFirst first → IsFirst first begun.now → IsDone first (state g mid).now) where
+    module _ (moves : HasCleanDisk (state g mid) → IsTrue begun.in_transaction → (first : Trees) → IsSoundSchema1 first → HasSchema1 first begun.now → IsDone first (state g mid).now) where
       abbrev first : Trees
       first = (state g old).now.trees
 
-      sound_first : IsSoundIn Schema1 (state g old) → IsSoundFirst first
+      sound_first : IsSoundIn Schema1 (state g old) → IsSoundSchema1 first
       sound_first sound = record { database = subst (λ schema. IsSound schema first) sound.rests.schema sound.database; opens = sound.opens }
 
       from_first : HasCleanDisk (state g mid) → IsTrue begun.in_transaction → IsSoundIn Schema1 (state g old) → IsDone first (state g mid).now

@@ -1,13 +1,13 @@
 -- The texts that make the tables.
 use Rattle.std.proofs.Common.{◌≡◌, ℕ, pos, List, [], ◌∷◌, Ok, refl}
 use Rattle.std.specs.Fmt.{digits}
-use Rattle.xa_store.proofs.Common.{Schema, Table, CreateTable, Insert, Values, Term, lit, Null, Int, command_of, statement_of, first_schema, our_schema, meta, domains, tokens, policies, roots, attributes, sources}
+use Rattle.xa_store.proofs.Common.{Schema, Table, CreateTable, Insert, Values, Term, lit, Null, Int, command_of, statement_of, schema_1, schema_2, meta, domains, tokens, policies, roots, attributes, sources}
 use Rattle.sqlite.specs.Compile.{table_defined_by}
 use Rattle.sqlite.specs.Listing.{understood}
 use Rattle.sqlite.specs.Change.{created}
 use Rattle.sqlite.proofs.Callers.{IsPlain}
 use Rattle.sqlite_tied.specs.Compute.{everything}
-use Rattle.xa_store.specs.Creation.{first, second, third, fourth, fifth}
+use Rattle.xa_store.specs.Creation.{with_meta, with_domains, with_tokens, with_policies, with_roots}
 use Rattle.xa_store.specs.Opening.{no_tables}
 use Rattle.xa_store.specs.Texts.{meta_made, domains_made, tokens_made, policies_made, roots_made, attributes_made, sources_made, meta_begun}
 use Rattle.xa_store.proofs.TextLemmas.{IsChange}
@@ -18,11 +18,11 @@ pub record IsMaking (schema : Schema) (sql : List ℕ) (table : Table) : Type 0 
   pub plain : IsPlain (understood schema sql)
   pub defined : table_defined_by (statement_of sql (understood schema sql)) ≡ Ok (record table { tree = 0 })
 
-pub first_made : created fifth attributes ≡ first_schema
+pub schema_1_made : created with_roots attributes ≡ schema_1
 unfolding digits
-first_made = refl
+schema_1_made = refl
 
-pub all_made : created first_schema sources ≡ our_schema
+pub all_made : created schema_1 sources ≡ schema_2
 unfolding digits
 all_made = refl
 
@@ -30,27 +30,27 @@ pub meta_is : IsMaking no_tables meta_made meta
 unfolding understood everything
 meta_is = record { command = refl; plain = (refl, refl); defined = refl }
 
-pub domains_is : IsMaking first domains_made domains
+pub domains_is : IsMaking with_meta domains_made domains
 unfolding understood everything
 domains_is = record { command = refl; plain = (refl, refl); defined = refl }
 
-pub tokens_is : IsMaking second tokens_made tokens
+pub tokens_is : IsMaking with_domains tokens_made tokens
 unfolding understood everything
 tokens_is = record { command = refl; plain = (refl, refl); defined = refl }
 
-pub policies_is : IsMaking third policies_made policies
+pub policies_is : IsMaking with_tokens policies_made policies
 unfolding understood everything
 policies_is = record { command = refl; plain = (refl, refl); defined = refl }
 
-pub roots_is : IsMaking fourth roots_made roots
+pub roots_is : IsMaking with_policies roots_made roots
 unfolding understood everything
 roots_is = record { command = refl; plain = (refl, refl); defined = refl }
 
-pub attributes_is : IsMaking fifth attributes_made attributes
+pub attributes_is : IsMaking with_roots attributes_made attributes
 unfolding understood everything
 attributes_is = record { command = refl; plain = (refl, refl); defined = refl }
 
-pub sources_is : IsMaking first_schema sources_made sources
+pub sources_is : IsMaking schema_1 sources_made sources
 unfolding understood everything
 sources_is = record { command = refl; plain = (refl, refl); defined = refl }
 

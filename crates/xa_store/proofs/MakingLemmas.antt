@@ -1,16 +1,16 @@
 -- What the statements make by which the tables are made.
 use Rattle.std.proofs.Common.{◌≡◌, ℕ, zero, suc, ◌+◌, ◌<◌, pos, true, false, MatchBool, List, [], ◌∷◌, ◌++◌, map, get_or, drop, Ok, Err, Result, OnOk, IsTrue, refl, sym, ap, subst, ◌∙◌, drop-cons, arith}
-use Rattle.xa_store.proofs.Common.{AllByRecursion, Database, IsDatabase, understood, Gives, Chosen, Schema, State, HasCleanDisk, Executes, Failure, survives_then, mode_of, Table, Trees, CreateTable, Null, Int, statement_of, runs_as, cast_row, with_rowid, all-append, CheckedTable, Domains, Tokens, Documents, Roots, Attributes, Sources, tree_of, meta_row, first_schema, our_schema, meta, domains, tokens, policies, roots, attributes, sources}
+use Rattle.xa_store.proofs.Common.{AllByRecursion, Database, IsDatabase, understood, Gives, Chosen, Schema, State, HasCleanDisk, Executes, Failure, survives_then, mode_of, Table, Trees, CreateTable, Null, Int, statement_of, runs_as, cast_row, with_rowid, all-append, CheckedTable, Domains, Tokens, Documents, Roots, Attributes, Sources, tree_of, meta_row, schema_1, schema_2, meta, domains, tokens, policies, roots, attributes, sources}
 use Rattle.sqlite.specs.Change.{created, next_tree}
 use Rattle.sqlite.specs.Does.{Tally, Does, MakesSequence, MakesTable, lacks_sequence, sequence_text}
 use Rattle.sqlite_catalog.specs.Change.{KeepsRows}
 use Rattle.xa_store.specs.declared.schema.creation.Part.{Part}
 use Rattle.xa_store.specs.declared.schema.creation.Part.TheVariants as parts
-use Rattle.xa_store.specs.Creation.{AreEmpty, AreMade, part_statement, first, second, third, fourth, fifth, IsBefore, IsAfter}
+use Rattle.xa_store.specs.Creation.{AreEmpty, AreMade, part_statement, with_meta, with_domains, with_tokens, with_policies, with_roots, IsBefore, IsAfter}
 use Rattle.xa_store.specs.Execution.{StaysInside}
 use Rattle.xa_store.specs.Opening.{no_tables}
 use Rattle.xa_store.specs.Texts as texts
-use Rattle.xa_store.proofs.MadeTexts.{IsMaking, first_made, all_made, meta_is, domains_is, tokens_is, policies_is, roots_is, attributes_is, sources_is, first_row, first_row_is}
+use Rattle.xa_store.proofs.MadeTexts.{IsMaking, schema_1_made, all_made, meta_is, domains_is, tokens_is, policies_is, roots_is, attributes_is, sources_is, first_row, first_row_is}
 use Rattle.xa_store.proofs.ApartLemmas.{survives_still}
 use Rattle.xa_store.proofs.HoldLemmas.{is_other, kept}
 use Rattle.xa_store.proofs.StepLemmas.{meta_cast}
@@ -77,13 +77,13 @@ still old new stays empty Sources = stays 10 refl ∙ empty.1.1.1.1.1.1.0
 
 -- a part that was made is there, and those before it still are
 pub taken : (part : Part) (old new : State) (count : ℕ) → IsBefore part old.now → Executes (part_statement part) [] old new (Ok count) → IsAfter part new.now
-taken parts.Meta old new count before h = grown no_tables texts.meta_made meta meta_is refl old new before.schema count h first refl before.empty
-taken parts.Domains old new count before h = grown first texts.domains_made domains domains_is refl old new before.schema count h second refl before.empty
-taken parts.Tokens old new count before h = grown second texts.tokens_made tokens tokens_is refl old new before.schema count h third refl before.empty
-taken parts.Policies old new count before h = grown third texts.policies_made policies policies_is refl old new before.schema count h fourth refl before.empty
-taken parts.Roots old new count before h = grown fourth texts.roots_made roots roots_is refl old new before.schema count h fifth refl before.empty
-taken parts.Attributes old new count before h = grown fifth texts.attributes_made attributes attributes_is refl old new before.schema count h first_schema first_made before.empty
-taken parts.Sources old new count before h = grown first_schema texts.sources_made sources sources_is refl old new before.schema count h our_schema all_made before.empty
+taken parts.Meta old new count before h = grown no_tables texts.meta_made meta meta_is refl old new before.schema count h with_meta refl before.empty
+taken parts.Domains old new count before h = grown with_meta texts.domains_made domains domains_is refl old new before.schema count h with_domains refl before.empty
+taken parts.Tokens old new count before h = grown with_domains texts.tokens_made tokens tokens_is refl old new before.schema count h with_tokens refl before.empty
+taken parts.Policies old new count before h = grown with_tokens texts.policies_made policies policies_is refl old new before.schema count h with_policies refl before.empty
+taken parts.Roots old new count before h = grown with_policies texts.roots_made roots roots_is refl old new before.schema count h with_roots refl before.empty
+taken parts.Attributes old new count before h = grown with_roots texts.attributes_made attributes attributes_is refl old new before.schema count h schema_1 schema_1_made before.empty
+taken parts.Sources old new count before h = grown schema_1 texts.sources_made sources sources_is refl old new before.schema count h schema_2 all_made before.empty
 taken parts.FirstRow old new count before h =
     let adds = inserts texts.meta_begun [] old new before.schema 0 meta refl count first_row 4 refl refl first_row_is h in
     let row = Int (pos 1) ∷ Null ∷ Int (pos 2) ∷ Int (pos 1) ∷ [] in

@@ -1,7 +1,7 @@
 -- Tables that were brought into schema 2 are sound, and mean what those of schema 1 meant.
 use Rattle.std.proofs.Common.{◌≡◌, ℕ, ◌+◌, ◌<◌, ℤ, pos, true, ◌&&◌, cond, List, [], ◌∷◌, map, filter, int_cmp, int_eq, int_lt, Ok, Err, refl, sym, ap, subst, ◌∙◌, arith}
-use Rattle.xa_store.proofs.Common.{from_entries, list_all, on, ints, Database, Row, Trees, IsSound, sort_by, filter-map, map-map, map_same, first_of_both, second_of_both, sort_by-map, SourceRow, Damaged, CheckedTable, Domains, Tokens, Documents, Roots, Attributes, Sources, Schema1, Schema2, are_counted, are_rising, are_sound_rows, as_read, is_count, is_empty, is_left_empty, is_sound, is_sound_row, is_sound_table, is_whole_row, checked, tables_in, known_next, opened, place_in, read_meta, row_number, PlacedRow, DomainRow, placed_row_in, document_in, domain_in, meta_row, nat_of, next_in, root_in, token_in, unissued_in, sources_at, documents_at, domain_entry, first_rows_of, first_world_of, library_of, roles_of, root_at, rows_of, source_of, state_at, tokens_at, world_of}
-use Rattle.xa_store.specs.Migration.{IsDone, IsSoundFirst, moved_row, moved_rows}
+use Rattle.xa_store.proofs.Common.{from_entries, list_all, on, ints, Database, Row, Trees, IsSound, sort_by, filter-map, map-map, map_same, first_of_both, second_of_both, sort_by-map, SourceRow, Damaged, CheckedTable, Domains, Tokens, Documents, Roots, Attributes, Sources, Schema1, Schema2, are_counted, are_rising, are_sound_rows, as_read, is_count, is_empty, is_left_empty, is_sound, is_sound_row, is_sound_table, is_whole_row, checked, tables_in, known_next, opened, place_in, read_meta, row_number, PlacedRow, DomainRow, placed_row_in, document_in, domain_in, meta_row, nat_of, next_in, root_in, token_in, unissued_in, sources_at, documents_at, domain_entry, rows_of_schema_1, world_of_schema_1, library_of, roles_of, root_at, rows_of, source_of, state_at, tokens_at, world_of}
+use Rattle.xa_store.specs.Migration.{IsDone, IsSoundSchema1, moved_row, moved_rows}
 use Rattle.xa_store.specs.Opening.{IsMigrated}
 use Rattle.xa_store.proofs.MigratingLemmas.{its_meta}
 use Rattle.xa_store.proofs.OursLemmas.{found, in_kind, next_counts, places_counted}
@@ -60,7 +60,7 @@ source_same rows n = sym (by_core (map placed_row_in (moved_rows 1 rows)) n) ∙
 
 -- ---- all tables
 
-module _ (first : Trees) (sound : IsSoundFirst first) (d : Database) (done : IsDone first d) where
+module _ (first : Trees) (sound : IsSoundSchema1 first) (d : Database) (done : IsDone first d) where
   abbrev db : Trees
   db = d.trees
 
@@ -103,7 +103,7 @@ module _ (first : Trees) (sound : IsSoundFirst first) (d : Database) (done : IsD
   opens : opened Schema2 db ≡ Ok tt
   opens = ap (λ rows. checked Schema2 db (known_next Schema2 (map read_meta rows))) meta ∙ ap (λ b. cond b (Ok tt) (Err Damaged)) is_sound_now
 
-  states : (n : ℤ) → state_at (rows_of db) n ≡ state_at (first_rows_of first) n
+  states : (n : ℤ) → state_at (rows_of db) n ≡ state_at (rows_of_schema_1 first) n
   states n = λ i. record {
     tokens = roles_of (tokens_at (map token_in (done.others.1.0 i)) n);
     documents = library_of (documents_at (map document_in (done.others.1.1.0 i)) n);
@@ -111,12 +111,12 @@ module _ (first : Trees) (sound : IsSoundFirst first) (d : Database) (done : IsD
     source = (ap (λ rows. source_of (sources_at (map placed_row_in rows) n)) done.sources ∙ source_same (first 8) n) i;
   }
 
-  entries : map (domain_entry (rows_of db)) (map domain_in (db 1)) ≡ map (domain_entry (first_rows_of first)) (map domain_in (first 1))
+  entries : map (domain_entry (rows_of db)) (map domain_in (db 1)) ≡ map (domain_entry (rows_of_schema_1 first)) (map domain_in (first 1))
   entries =
-      map_same (domain_entry (rows_of db)) (domain_entry (first_rows_of first)) (λ (it : DomainRow). λ i. (it.name, record { number = nat_of it.number; epoch = nat_of it.epoch; state = states it.number i })) (map domain_in (db 1))
-      ∙ ap (λ rows. map (domain_entry (first_rows_of first)) (map domain_in rows)) done.others.0
+      map_same (domain_entry (rows_of db)) (domain_entry (rows_of_schema_1 first)) (λ (it : DomainRow). λ i. (it.name, record { number = nat_of it.number; epoch = nat_of it.epoch; state = states it.number i })) (map domain_in (db 1))
+      ∙ ap (λ rows. map (domain_entry (rows_of_schema_1 first)) (map domain_in rows)) done.others.0
 
-  world_same : world_of db ≡ first_world_of first
+  world_same : world_of db ≡ world_of_schema_1 first
   world_same = λ i. record { domains = from_entries (entries i); next = nat_of (ap next_in done.meta i) }
 
   pub is_migrated : IsMigrated first db

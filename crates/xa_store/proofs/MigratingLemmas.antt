@@ -1,15 +1,15 @@
 -- What the statements make that bring schema 1 into schema 2.
 use Rattle.std.proofs.Common.{◌≡◌, ℕ, ◌+◌, ℤ, pos, ◌+ℤ◌, List, [], ◌∷◌, ◌++◌, map, true, false, Less, None, Ok, refl, sym, ap, subst, ◌∙◌, append-nil, append_assoc, arith, IsPermutation}
-use Rattle.xa_store.proofs.Common.{AllByRecursion, Row, column, overlay, Output, output_cmp, Chosen, State, Executes, col, Trees, Null, Int, Text, one_step, IsSound, Datatype, Enforced, IsSureAnswer, Eq, output_cmp_total, put_row, cast_row, numbered, put_all, with_rowid, IsKeyedBy, next_key, all_map, all_of, ascending-map, filter_none, map-map, second_of_both, sorted_unique, puts-map, at_ints, last_term, Attributes, Schema1, are_rising, is_number, row_number, PlacedRow, placed_row_in, placed_row, meta_row, meta_row_of, next_in, type_number, value_text, AreRows, same_place, attributes, first_schema, meta, our_schema, sources}
+use Rattle.xa_store.proofs.Common.{AllByRecursion, Row, column, overlay, Output, output_cmp, Chosen, State, Executes, col, Trees, Null, Int, Text, one_step, IsSound, Datatype, Enforced, IsSureAnswer, Eq, output_cmp_total, put_row, cast_row, numbered, put_all, with_rowid, IsKeyedBy, next_key, all_map, all_of, ascending-map, filter_none, map-map, second_of_both, sorted_unique, puts-map, at_ints, last_term, Attributes, Schema1, are_rising, is_number, row_number, PlacedRow, placed_row_in, placed_row, meta_row, meta_row_of, next_in, type_number, value_text, AreRows, same_place, attributes, schema_1, meta, schema_2, sources}
 use Rattle.std.proofs.lemmas.List.Sums.{fold-append}
 use Rattle.sqlite_rules.specs.Edit.{edit_of}
 use Rattle.xa_store.specs.declared.schema.migration.Stage.{Stage}
 use Rattle.xa_store.specs.declared.schema.migration.Stage.TheVariants as stages
 use Rattle.xa_store.specs.Check.{HasNumbers}
-use Rattle.xa_store.specs.Migration.{IsAfter, IsBefore, IsSoundFirst, moved_rows, stage_statement}
+use Rattle.xa_store.specs.Migration.{IsAfter, IsBefore, IsSoundSchema1, moved_rows, stage_statement}
 use Rattle.xa_store.specs.Texts as text
 use Rattle.xa_store.proofs.ActionLemmas.{works_of_coming}
-use Rattle.xa_store.proofs.AreRowsLemmas.{first_sources_are}
+use Rattle.xa_store.proofs.AreRowsLemmas.{sources_of_schema_1_are}
 use Rattle.xa_store.proofs.HoldLemmas.{of_other}
 use Rattle.xa_store.proofs.LastLemmas.{keyed_last, stands_last}
 use Rattle.xa_store.proofs.MadeTexts.{all_made, sources_is}
@@ -30,15 +30,15 @@ use Rattle.xa_store.proofs.WriteLemmas.{next_rowid_is, row_updated, rows_removed
 abbrev rowid_of : PlacedRow → ℤ
 rowid_of a = a.rowid
 
-module _ (first : Trees) (sound : IsSoundFirst first) where
+module _ (first : Trees) (sound : IsSoundSchema1 first) where
   abbrev next : ℤ
   next = (found Schema1 first sound.opens).0
 
   pub its_meta : first 0 ≡ meta_row_of (pos 1) next ∷ []
-  its_meta = meta_is Schema1 next first_schema first (sound.database.obeys.rules Datatype).0 (found Schema1 first sound.opens).1
+  its_meta = meta_is Schema1 next schema_1 first (sound.database.obeys.rules Datatype).0 (found Schema1 first sound.opens).1
 
   pub its_rows : AreRows placed_row placed_row_in rowid_of same_place (first 8)
-  its_rows = first_sources_are first next sound.database (in_kind Schema1 first next (found Schema1 first sound.opens).2).1.1.1.1.0
+  its_rows = sources_of_schema_1_are first next sound.database (in_kind Schema1 first next (found Schema1 first sound.opens).2).1.1.1.1.0
 
   numbers : HasNumbers Attributes first
   numbers =
@@ -113,7 +113,7 @@ all_put (a ∷ rest) done k rise free =
 
 -- ---- the stages
 
-module _ (first : Trees) (sound : IsSoundFirst first) (old new : State) (count : ℕ) where
+module _ (first : Trees) (sound : IsSoundSchema1 first) (old new : State) (count : ℕ) where
   abbrev db : Trees
   db = old.now.trees
 
@@ -135,7 +135,7 @@ module _ (first : Trees) (sound : IsSoundFirst first) (old new : State) (count :
       let adds = inserts_from text.sources_filled [] old new before.schema 6 sources refl count _ refl refl sources_filled_is h in
       let rows = rows_given before.attributes adds.0 adds.1.answer in
       let edit = edit_of db sources [] Chosen 0 adds.0 in
-      let it = one_step our_schema Enforced db new.now.trees edit (works_of_coming 10 edit.news) adds.2.edited in
+      let it = one_step schema_2 Enforced db new.now.trees edit (works_of_coming 10 edit.news) adds.2.edited in
       let news : edit.news ≡ map placed_row (all_moved 1 xs) =
       ap (λ l. numbered Chosen (db 10) (map (cast_row sources) l)) rows ∙ ap (numbered Chosen (db 10)) (map-map (cast_row sources) given (map placed_row xs))
       ∙ ap (λ l. numbered Chosen l (map (λ r. cast_row sources (given r)) (map placed_row xs))) before.sources ∙ all_numbered xs [] 1 tt refl in
@@ -189,7 +189,7 @@ module _ (first : Trees) (sound : IsSoundFirst first) (old new : State) (count :
 
   added : IsBefore stages.Sources first old.now → Executes text.sources_made [] old new (Ok count) → IsAfter stages.Sources first new.now
   added before h =
-      let it = came first_schema text.sources_made sources sources_is refl old new before.schema count h in
+      let it = came schema_1 text.sources_made sources sources_is refl old new before.schema count h in
       record {
         schema = it.schema_is ∙ all_made;
         database = it.sound;
@@ -199,7 +199,7 @@ module _ (first : Trees) (sound : IsSoundFirst first) (old new : State) (count :
         others = (it.others.1.0 ∙ before.others.0, (it.others.1.1.0 ∙ before.others.1.0, (it.others.1.1.1.0 ∙ before.others.1.1.0, (it.others.1.1.1.1.0 ∙ before.others.1.1.1.0, tt))));
       }
 
-pub taken : (stage : Stage) (first : Trees) → IsSoundFirst first → (old new : State) (count : ℕ) → IsBefore stage first old.now → Executes (stage_statement stage) [] old new (Ok count) → IsAfter stage first new.now
+pub taken : (stage : Stage) (first : Trees) → IsSoundSchema1 first → (old new : State) (count : ℕ) → IsBefore stage first old.now → Executes (stage_statement stage) [] old new (Ok count) → IsAfter stage first new.now
 taken stages.Sources first sound old new count before h = added first sound old new count before h
 taken stages.Rows first sound old new count before h = filled first sound old new count before h
 taken stages.Attributes first sound old new count before h = emptied first sound old new count before h

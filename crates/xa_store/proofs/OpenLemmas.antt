@@ -1,6 +1,6 @@
 -- From the parts of opening to what it answers.
 use Rattle.std.proofs.Common.{◌≡◌, ◌⊎◌, inl, inr, Bool, true, false, cond, codes, Result, Ok, Err, IsTrue, IfOk, IfErr, OnOk, refl, sym, ap, subst, ◌∙◌, true≢false, arith}
-use Rattle.xa_store.proofs.Common.{Database, IsDatabase, Held, state, State, HasCleanDisk, Survives, Ghosts, Trees, clean_if_open, survives_then, survives_weaker, second_of_both, OpenError, Store, SchemaVersion, Schema1, Schema2, opened, schema_of, Ours, Rests, RestsIn, SameNow, first_schema, world_of}
+use Rattle.xa_store.proofs.Common.{Database, IsDatabase, Held, state, State, HasCleanDisk, Survives, Ghosts, Trees, clean_if_open, survives_then, survives_weaker, second_of_both, OpenError, Store, SchemaVersion, Schema1, Schema2, opened, schema_of, Ours, Rests, RestsIn, SameNow, schema_1, world_of}
 use Rattle.sqlite_schema.specs.Names.{same_name}
 use Rattle.sqlite_catalog.specs.Listing.{IsSound as IsSoundUnder}
 use Rattle.xa_store.specs.Check.{Checked, IsIdle, IsSoundIn, Loads, MakesTables, MigratesTables, Tested}
@@ -38,11 +38,11 @@ module _ (a : State) where
   not_second : schema_version_in a.now.schema ≡ Schema1 → ¬ Rests a
   not_second first rests = absurd (let e : Schema1 ≡ Schema2 = sym first ∙ ap schema_version_in rests.schema ∙ version_told Schema2 in cc)
 
-  not_first : schema_version_in a.now.schema ≡ Schema2 → ¬ RestsIn first_schema a
+  not_first : schema_version_in a.now.schema ≡ Schema2 → ¬ RestsIn schema_1 a
   not_first second rests = absurd (let e : Schema2 ≡ Schema1 = sym second ∙ ap schema_version_in rests.schema ∙ version_told Schema1 in cc)
 
 -- what is left of tables that are known to be none of them
-nothing_known : (a : State) {P : Type 0} → ¬ Rests a → ¬ RestsIn first_schema a → (IsBlank a → P) → IsKnown a → P
+nothing_known : (a : State) {P : Type 0} → ¬ Rests a → ¬ RestsIn schema_1 a → (IsBlank a → P) → IsKnown a → P
 nothing_known a second first blank (inl h) = absurd (second h)
 nothing_known a second first blank (inr (inl h)) = absurd (first h)
 nothing_known a second first blank (inr (inr h)) = blank h
@@ -200,7 +200,7 @@ module _ (a b : State) (full : has_room a.now.schema ≡ false) (first : schema_
       go true is = is
       go false is = absurd (let e : Schema2 ≡ Schema1 = sym (ap (λ b. cond b Schema1 Schema2) is) ∙ first in cc)
 
-  first_known : {P : Type 0} → (RestsIn first_schema a → P) → IsKnown a → P
+  first_known : {P : Type 0} → (RestsIn schema_1 a → P) → IsKnown a → P
   first_known at (inl rests) = absurd (not_second a first rests)
   first_known at (inr (inl rests)) = at rests
   first_known at (inr (inr blank)) = absurd (not_blank a full blank)
@@ -219,11 +219,11 @@ module _ (a b : State) (full : has_room a.now.schema ≡ false) (first : schema_
   }
 
   module _ (c : State) (own : Bool) (test : Tested Schema1 a b (Ok own)) where
-    first_same : HasCleanDisk b → RestsIn first_schema a → SameNow a b
+    first_same : HasCleanDisk b → RestsIn schema_1 a → SameNow a b
     first_same clean rests = test.same clean rests (test.stays clean rests)
 
     -- what is known of the tables that the migration begins with
-    sound : HasCleanDisk b → RestsIn first_schema a → IsSoundIn Schema1 b
+    sound : HasCleanDisk b → RestsIn schema_1 a → IsSoundIn Schema1 b
     sound clean rests = test.sound clean (test.known rests)
 
     module _ (r : Result (Unit {0}) OpenError) (moved : MigratesTables b c r) where
@@ -304,7 +304,7 @@ module _ {S : Type 0} (g : Ghosts S) (shut : (s : S) → (g.view s).is_clean ≡
       let same = it.2 (loads.stays clean (inl rests)) in
       (it.0, same, record { ours = it.1; is_open = refl; faults = refl }, ap (λ (d : Database). world_of d.trees) (same.now ∙ rests.settled))
 
-  pub migrates_keeper : (ours : Bool) → Loads old (state g last) (Ok ours) → RestsIn first_schema old → Migrates g old (Ok (keeper ours))
+  pub migrates_keeper : (ours : Bool) → Loads old (state g last) (Ok ours) → RestsIn schema_1 old → Migrates g old (Ok (keeper ours))
   migrates_keeper ours loads rests clean =
       let it = loads.migrates clean rests in
       (it.0, record { ours = it.1; is_open = refl; faults = refl }, it.2)
@@ -323,7 +323,7 @@ module _ {S : Type 0} (g : Ghosts S) (shut : (s : S) → (g.view s).is_clean ≡
   pub opens_refused : (e : OpenError) → Loads old (state g last) (Err e) → Rests old → Opens g old (Err (e, last))
   opens_refused e loads rests clean = let it = loads.opens clean rests in (it.0, it.2)
 
-  pub migrates_refused : (e : OpenError) → Loads old (state g last) (Err e) → RestsIn first_schema old → Migrates g old (Err (e, last))
+  pub migrates_refused : (e : OpenError) → Loads old (state g last) (Err e) → RestsIn schema_1 old → Migrates g old (Err (e, last))
   migrates_refused e loads rests clean = let it = loads.migrates clean rests in (it.0, it.1)
 
   pub makes_refused : (e : OpenError) → Loads old (state g last) (Err e) → IsBlank old → Makes g old (Err (e, last))

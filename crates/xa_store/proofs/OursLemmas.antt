@@ -1,6 +1,6 @@
 -- Tables that opening finds sound are those of a keeper, and tables as they are made are sound.
 use Rattle.std.proofs.Common.{◌≡◌, ℕ, ℤ, pos, Bool, true, false, ◌&&◌, cond, List, [], ◌∷◌, map, Option, Some, None, Result, Ok, Err, refl, sym, ap, subst, ◌∙◌, true≢false}
-use Rattle.xa_store.proofs.Common.{from_entries, AllByRecursion, list_all, IsDatabase, Row, column, State, Trees, IsSound, all_from_test, all_map, all_weaker, map-map, first_of_both, second_of_both, Datatype, int_of, is_domain_name, IsDocumentOf, nothing_kept, OpenError, Damaged, CheckedTable, Domains, Tokens, Documents, Roots, Sources, SchemaVersion, Schema2, are_counted, as_read, count_from, holds_int, is_assigned, is_count, is_digest, is_empty, is_left_empty, is_sound, is_sound_table, is_whole_row, checked, tables_in, known_next, opened, place_in, places_of, read_meta, sources_in, tree_of, placed_row_in, document_in, domain_in, meta_row, nat_of, next_in, root_in, token_in, AreDocuments, AreNumbered, AreTables, AreWhole, Ours, Rests, place_of, our_schema, domain_entry, rows_of, world_of}
+use Rattle.xa_store.proofs.Common.{from_entries, AllByRecursion, list_all, IsDatabase, Row, column, State, Trees, IsSound, all_from_test, all_map, all_weaker, map-map, first_of_both, second_of_both, Datatype, int_of, is_domain_name, IsDocumentOf, nothing_kept, OpenError, Damaged, CheckedTable, Domains, Tokens, Documents, Roots, Sources, SchemaVersion, Schema2, are_counted, as_read, count_from, holds_int, is_assigned, is_count, is_digest, is_empty, is_left_empty, is_sound, is_sound_table, is_whole_row, checked, tables_in, known_next, opened, place_in, places_of, read_meta, sources_in, tree_of, placed_row_in, document_in, domain_in, meta_row, nat_of, next_in, root_in, token_in, AreDocuments, AreNumbered, AreTables, AreWhole, Ours, Rests, place_of, schema_2, domain_entry, rows_of, world_of}
 use Rattle.xa_store.specs.Opening.{AreNewTables}
 use Rattle.xa_store.proofs.AreRowsLemmas.{domains_are, sources_are, tokens_are, whole}
 use Rattle.xa_store.proofs.ColumnLemmas.{root_texts, source_texts}
@@ -55,7 +55,7 @@ empty_from (row ∷ rows) h = absurd (true≢false (sym h))
 
 -- ---- of each table
 
-module _ (db : Trees) (next : ℤ) (live : IsSound our_schema db) (known : known_next Schema2 (map read_meta (db 0)) ≡ Some next) (sound : is_sound Schema2 db next ≡ true) where
+module _ (db : Trees) (next : ℤ) (live : IsSound schema_2 db) (known : known_next Schema2 (map read_meta (db 0)) ≡ Some next) (sound : is_sound Schema2 db next ≡ true) where
   abbrev test : CheckedTable → Bool
   test = is_sound_table db next
 
@@ -63,7 +63,7 @@ module _ (db : Trees) (next : ℤ) (live : IsSound our_schema db) (known : known
   all = in_kind Schema2 db next sound
 
   meta : db 0 ≡ meta_row next ∷ []
-  meta = meta_is Schema2 next our_schema db (live.obeys.rules Datatype).0 known
+  meta = meta_is Schema2 next schema_2 db (live.obeys.rules Datatype).0 known
 
   next_is : next ≡ next_in (db 0)
   next_is = sym (ap next_in meta)
@@ -137,7 +137,7 @@ module _ (db : Trees) (next : ℤ) (live : IsSound our_schema db) (known : known
 pub opened_ours : (s : State) → Rests s → IsDatabase s.now → opened Schema2 s.now.trees ≡ Ok tt → Ours s
 opened_ours s rests live h =
     let is = found Schema2 s.now.trees h in
-    let sound : IsSound our_schema s.now.trees = subst (λ schema. IsSound schema s.now.trees) rests.schema live in
+    let sound : IsSound schema_2 s.now.trees = subst (λ schema. IsSound schema s.now.trees) rests.schema live in
     record { rests = rests; database = sound; tables = tables s.now.trees is.0 sound is.1 is.2; domains = numbers s.now.trees is.0 sound is.1 is.2; documents = documents s.now.trees is.0 sound is.1 is.2; whole = columns s.now.trees is.0 sound is.1 is.2 }
 
 -- ---- tables as they are made

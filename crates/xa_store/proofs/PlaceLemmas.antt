@@ -1,6 +1,6 @@
 -- What the query for the places of the rows of sources tells, and the query of the first table.
 use Rattle.std.proofs.Common.{◌≡◌, ℕ, Bool, true, false, ◌&&◌, List, [], ◌∷◌, map, filter, length, Ordering, is_eq, int_cmp, refl, sym, ap, subst, ◌∙◌, arith, IsPermutation}
-use Rattle.xa_store.proofs.Common.{nil_from_length, length_permutation, IsPermutation-map, IsPlain, understood, Row, Output, State, Shown, col, Trees, Int, reads_as, one_permutation, sort_by, all_of, ascending-map, ascending_weaker, filter_all, map-map, sort_by-map, IsAscending, then_key, last_key, value_cmp-Int, SchemaVersion, Schema1, Schema2, SourcePlace, are_counted, is_empty, is_left_empty, known_next, place_in, read_meta, schema_of, sources_in, tree_of, PlacedRow, placed_row_in, placed_row, AreRows, Rests, RestsIn, same_place, our_schema}
+use Rattle.xa_store.proofs.Common.{nil_from_length, length_permutation, IsPermutation-map, IsPlain, understood, Row, Output, State, Shown, col, Trees, Int, reads_as, one_permutation, sort_by, all_of, ascending-map, ascending_weaker, filter_all, map-map, sort_by-map, IsAscending, then_key, last_key, value_cmp-Int, SchemaVersion, Schema1, Schema2, SourcePlace, are_counted, is_empty, is_left_empty, known_next, place_in, read_meta, schema_of, sources_in, tree_of, PlacedRow, placed_row_in, placed_row, AreRows, Rests, RestsIn, same_place, schema_2}
 use Rattle.xa_store.specs.Check.{counts, counts_on, no_place, places_query}
 use Rattle.xa_store.specs.Texts.{meta_shown}
 use Rattle.xa_store.proofs.CountedLemmas.{count_on, place_cmp, walk_counts}
@@ -15,7 +15,7 @@ use Rattle.xa_store.proofs.SqlLemmas.{Answered, answered, count_is, out}
 pub places_plain : (version : SchemaVersion) → IsPlain (understood (schema_of version) (places_query version))
 places_plain version = (places_is version).2
 
-pub left_plain : IsPlain (understood our_schema (places_query Schema1))
+pub left_plain : IsPlain (understood schema_2 (places_query Schema1))
 left_plain = left_is.2
 
 pub meta_plain : (version : SchemaVersion) → IsPlain (understood (schema_of version) meta_shown)
@@ -83,7 +83,7 @@ module _ (old new : State) (rests : Rests old) (rows : List Row) (shown : Shown 
   as_many =
       count_is 8 [] (col 1 1 ∷ col 1 2 ∷ []) (1 ∷ 2 ∷ []) old.now.trees refl [] rows
       (answered 8 [] (col 1 1 ∷ col 1 2 ∷ []) (1 ∷ 2 ∷ []) old.now.trees refl [] rows
-      (reads_as (places_query Schema1) [] old new our_schema rests.schema _ left_is.0 left_is.2 left_is.1 rows shown).answer)
+      (reads_as (places_query Schema1) [] old new schema_2 rests.schema _ left_is.0 left_is.2 left_is.1 rows shown).answer)
       ∙ ap length (filter_all (λ r. true) left (all_of _ (λ r. refl) left))
 
   pub none_left : rows ≡ [] → is_left_empty Schema2 old.now.trees ≡ true

@@ -1,6 +1,6 @@
 -- What a crash has left is our tables, if it doesn't leave just anything.
 use Rattle.std.proofs.Common.{◌≡◌, ◌↔◌, Bool, true, false, Result, Ok, Err, IsTrue, refl, sym, ap, ◌∙◌}
-use Rattle.xa_store.proofs.Common.{Database, state, State, IsLive, Ghosts, Trees, OpenError, Schema2, opened, AreOurs, our_schema, world_of}
+use Rattle.xa_store.proofs.Common.{Database, state, State, IsLive, Ghosts, Trees, OpenError, Schema2, opened, AreOurs, schema_2, world_of}
 use Rattle.sqlite_catalog.proofs.ReadLemmas.{lists_once}
 use Rattle.sqlite_trees.specs.Objects.{catalog_tree}
 use Rattle.xa_store.specs.Keeper.{Keeper, IsKeeper, IsSound}
@@ -16,12 +16,12 @@ module _ (stopped new : State) (live : IsLive new) (over : IsOverRest stopped ne
   ours others = limited.1 (left, over.left, λ are. absurd (others are))
 
   -- one list of tables is that of one schema
-  schema_of : AreOurs left → new.now.schema ≡ our_schema
+  schema_of : AreOurs left → new.now.schema ≡ schema_2
   schema_of are =
       ap (λ (d : Database). d.schema) over.fresh.clean
-      ∙ lists_once (left catalog_tree) new.committed.schema our_schema (live over.fresh.is_open).1.lists are.database.lists
+      ∙ lists_once (left catalog_tree) new.committed.schema schema_2 (live over.fresh.is_open).1.lists are.database.lists
 
-  schema : (is : Bool) → (IsTrue is ↔ (new.now.schema ≡ our_schema)) → new.now.schema ≡ our_schema
+  schema : (is : Bool) → (IsTrue is ↔ (new.now.schema ≡ schema_2)) → new.now.schema ≡ schema_2
   schema true tells = tells.0 refl
   schema false tells = absurd (ours (λ are. let h : false ≡ true = tells.1 (schema_of are) in absurd cc))
 
@@ -29,7 +29,7 @@ module _ (stopped new : State) (live : IsLive new) (over : IsOverRest stopped ne
   found_sound (Ok x) is = refl
   found_sound (Err e) is = absurd (ours (λ are. let h = sym is ∙ are.opens in absurd cc))
 
-pub reopens : (stopped new : State) → IsLive new → (is : Bool) → (IsTrue is ↔ (new.now.schema ≡ our_schema)) → Reopens stopped new
+pub reopens : (stopped new : State) → IsLive new → (is : Bool) → (IsTrue is ↔ (new.now.schema ≡ schema_2)) → Reopens stopped new
 reopens stopped new live is tells over limited = record {
   rests = record { schema = schema stopped new live over limited is tells; settled = over.fresh.clean; idle = over.fresh.autocommit };
   opens = ap (λ (d : Database). opened Schema2 d.trees) over.fresh.clean ∙ found_sound stopped new live over limited (opened Schema2 new.committed.trees) refl;

@@ -1,6 +1,6 @@
 -- What the query for a root finds.
 use Rattle.std.proofs.Common.{◌≡◌, ℕ, zero, suc, ℤ, List, [], ◌∷◌, map, Bool, int_eq, Option, option_and_then, refl, sym}
-use Rattle.xa_store.proofs.Common.{Row, column, State, Shown, Trees, Int, Text, IsPlain, understood, Term, col, reads_as, all_of, bytes_of, or_null, unless_null, null_back, DocumentKind, Reference, read_pattern, read_version, RootRow, root_row, root_in, given, kind_number, text_at, Ours, our_schema, rows_of, state_at}
+use Rattle.xa_store.proofs.Common.{Row, column, State, Shown, Trees, Int, Text, IsPlain, understood, Term, col, reads_as, all_of, bytes_of, or_null, unless_null, null_back, DocumentKind, Reference, read_pattern, read_version, RootRow, root_row, root_in, given, kind_number, text_at, Ours, schema_2, rows_of, state_at}
 use Rattle.xa_store.specs.Lookup.{FindsOne}
 use Rattle.xa_store.specs.Rows.{reference_of}
 use Rattle.xa_store.specs.Columns.{TellsOne, root_told}
@@ -11,7 +11,7 @@ use Rattle.xa_store.proofs.SqlLemmas.{Answered, answered}
 use Rattle.xa_store.proofs.ColumnNumbers.{of_kind}
 use Rattle.xa_store.proofs.TextLemmas.{is, root_shown_is}
 
-pub root_plain : IsPlain (understood our_schema root_shown)
+pub root_plain : IsPlain (understood schema_2 root_shown)
 root_plain = root_shown_is.2
 
 text_back : (text : Option (List ℕ)) → unless_null bytes_of (or_null Text text) ≡ text
@@ -53,7 +53,7 @@ module _ (old new : State) (number : ℤ) (ours : Ours old) (rows : List Row) (s
   answer : Answered 7 (is 0 0 ∷ []) columns [] db refl (Int number ∷ []) rows
   answer =
       answered 7 (is 0 0 ∷ []) columns [] db refl (Int number ∷ []) rows
-      (reads_as root_shown (Int number ∷ []) old new our_schema ours.rests.schema _ root_shown_is.0 root_shown_is.2 root_shown_is.1 rows shown).answer
+      (reads_as root_shown (Int number ∷ []) old new schema_2 ours.rests.schema _ root_shown_is.0 root_shown_is.2 root_shown_is.1 rows shown).answer
 
   pub root_found : (o : Option Reference) → TellsOne root_told rows o → FindsOne of_number reference_of (rows_of db).roots o
   root_found =

@@ -1,6 +1,6 @@
 -- Sound rows of the table of roots, and of the first table, are rows that the keeper writes.
 use Rattle.std.proofs.Common.{◌≡◌, ◌≤◌, ℤ, pos, Bool, true, false, ◌&&◌, cond, codes, List, [], ◌∷◌, map, length, drop, int_eq, Some, None, refl, sym, ap, ◌∙◌, arith}
-use Rattle.xa_store.proofs.Common.{AllByRecursion, is_utf8, Row, column, Schema, Trees, Value, Null, Int, Real, Text, Blob, IsSound, same_int, all_weaker, first_of_both, second_of_both, Datatype, are_typed, passes, int_of, bytes_of, or_null, unless_null, Roots, SchemaVersion, as_read, holds_int, int_in, is_assigned, is_bit, is_pattern, is_version, is_sound_table, is_whole_row, known_next, next_of, number_of, read_meta, RootRow, kind_in, kind_number, meta_row_of, root_in, root_row, AreRows, meta, needed, our_schema, own_key, roots, text_if_any}
+use Rattle.xa_store.proofs.Common.{AllByRecursion, is_utf8, Row, column, Schema, Trees, Value, Null, Int, Real, Text, Blob, IsSound, same_int, all_weaker, first_of_both, second_of_both, Datatype, are_typed, passes, int_of, bytes_of, or_null, unless_null, Roots, SchemaVersion, as_read, holds_int, int_in, is_assigned, is_bit, is_pattern, is_version, is_sound_table, is_whole_row, known_next, next_of, number_of, read_meta, RootRow, kind_in, kind_number, meta_row_of, root_in, root_row, AreRows, meta, needed, schema_2, own_key, roots, text_if_any}
 use Rattle.sqlite.specs.Kind.TheVariants as kinds
 use Rattle.xa_store.proofs.AreRowsLemmas.{rows_alone}
 use Rattle.xa_store.proofs.ColumnNumbers.{from_bit}
@@ -42,9 +42,9 @@ root_back next row typed whole =
     root_cells row more less pattern earliest latest
     ∙ (λ i. number.0 i ∷ null i ∷ (kind.0 ∙ ap Int (from_bit kind_number kind_in refl refl _ kind.1)) i ∷ id.0 i ∷ map (or_null Text) (map (unless_null bytes_of) (drop 4 row)))
 
-pub roots_are : (db : Trees) (next : ℤ) → IsSound our_schema db → is_sound_table db next Roots ≡ true → AreRows root_row root_in (λ r. r.number) (λ a b. false) (db 7)
+pub roots_are : (db : Trees) (next : ℤ) → IsSound schema_2 db → is_sound_table db next Roots ≡ true → AreRows root_row root_in (λ r. r.number) (λ a b. false) (db 7)
 roots_are db next sound h =
-    rows_alone Roots next db h root_row root_in (λ (r : RootRow). r.number) (λ a b. false) (λ r. refl) our_schema sound roots refl (λ P all. all.1.1.1.1.0) (λ r t p w. root_back next r t w)
+    rows_alone Roots next db h root_row root_in (λ (r : RootRow). r.number) (λ a b. false) (λ r. refl) schema_2 sound roots refl (λ P all. all.1.1.1.1.0) (λ r t p w. root_back next r t w)
     (λ a b. refl)
 
 -- ---- the one row of the first table

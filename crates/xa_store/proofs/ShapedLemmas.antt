@@ -194,8 +194,8 @@ module _ (next : ℤ) (row : Row) where
       by_last 8 row more less ∙ (λ i. rowid i ∷ number.0 i ∷ place i ∷ category.0 i ∷ entity.0 i ∷ attribute.0 i ∷ (type.0 ∙ value.0) i ∷ (text.0 ∙ value.1) i ∷ issuer i)
 
   -- of schema 1, where it has no issuer
-  pub first_source_back : are_typed None 0 attributes.columns (drop 1 row) ≡ true → are_present None 0 attributes.columns row ≡ true → is_whole_row Attributes next (as_read Attributes row) ≡ true → row ≡ placed_row (placed_row_in row)
-  first_source_back typed present whole =
+  pub source_of_schema_1_back : are_typed None 0 attributes.columns (drop 1 row) ≡ true → are_present None 0 attributes.columns row ≡ true → is_whole_row Attributes next (as_read Attributes row) ≡ true → row ≡ placed_row (placed_row_in row)
+  source_of_schema_1_back typed present whole =
       let less : length row ≤ 8 = row_short None attributes.columns row typed in
       let none = column_past 8 row less in
       row_from whole (λ more. place_from (drop 2 attributes.columns) row (omega (arith, more)) typed present) (omega (arith, less)) (none ∙ ap (λ v. or_null Text (unless_null bytes_of v)) (sym none))

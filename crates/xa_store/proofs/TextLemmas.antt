@@ -1,6 +1,6 @@
 -- What the statements are.
 use Rattle.std.proofs.Common.{◌≡◌, ℕ, pos, negsuc, List, [], ◌∷◌, map, codes, false, None, refl}
-use Rattle.xa_store.proofs.Common.{Binary, Command, Select, Update, Delete, Insert, reads_listing, Query, inner, end, Schema, Values, Term, lit, col, op2, Null, Int, command_of, Compare, Eq, our_schema}
+use Rattle.xa_store.proofs.Common.{Binary, Command, Select, Update, Delete, Insert, reads_listing, Query, inner, end, Schema, Values, Term, lit, col, op2, Null, Int, command_of, Compare, Eq, schema_2}
 use Rattle.sqlite.specs.Listing.{understood}
 use Rattle.sqlite.proofs.Callers.{IsPlain}
 use Rattle.sqlite_tied.specs.Compute.{everything}
@@ -41,14 +41,14 @@ delete at query = Delete at (record { lets = []; body = query })
 
 -- what a statement of a change is
 abbrev pub IsChange : List ℕ → Command → Type 0
-IsChange sql command = (command_of (understood our_schema sql) ≡ command) × IsPlain (understood our_schema sql)
+IsChange sql command = (command_of (understood schema_2 sql) ≡ command) × IsPlain (understood schema_2 sql)
 
 -- what a query of tables of a schema is
 abbrev pub IsQueryIn : Schema → List ℕ → Command → Type 0
 IsQueryIn schema sql command = (command_of (understood schema sql) ≡ command) × (reads_listing schema sql ≡ false) × IsPlain (understood schema sql)
 
 abbrev pub IsQuery : List ℕ → Command → Type 0
-IsQuery = IsQueryIn our_schema
+IsQuery = IsQueryIn schema_2
 
 -- ---- readings
 

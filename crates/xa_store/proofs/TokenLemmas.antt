@@ -1,6 +1,6 @@
 -- What the queries on tokens find.
 use Rattle.std.proofs.Common.{◌≡◌, ℕ, ℤ, List, [], ◌∷◌, map, length, false, Ordering, is_eq, int_eq, Option, refl, sym, ap, ◌∙◌}
-use Rattle.xa_store.proofs.Common.{entries, len, len-entries, length-map, Row, State, Shown, Trees, Int, Blob, IsPlain, understood, col, reads_as, sort_by, all_of, map-map, map_same, IsAscending, last_key, value_cmp-Blob, Role, compare_bytes, token_of, bytes_total, TokenRow, token_row, token_in, role_number, Ours, same_token, our_schema, rows_of, state_at, tokens_at, token_entry}
+use Rattle.xa_store.proofs.Common.{entries, len, len-entries, length-map, Row, State, Shown, Trees, Int, Blob, IsPlain, understood, col, reads_as, sort_by, all_of, map-map, map_same, IsAscending, last_key, value_cmp-Blob, Role, compare_bytes, token_of, bytes_total, TokenRow, token_row, token_in, role_number, Ours, same_token, schema_2, rows_of, state_at, tokens_at, token_entry}
 use Rattle.xa_records.specs.declared.gate.Token.{Token}
 use Rattle.xa_store.specs.Lookup.{FindsRole}
 use Rattle.xa_store.specs.Columns.{TellsOne, role_told, token_told}
@@ -13,10 +13,10 @@ use Rattle.xa_store.proofs.SqlLemmas.{Answered, answered}
 use Rattle.xa_store.proofs.ColumnNumbers.{of_role}
 use Rattle.xa_store.proofs.TextLemmas.{is, role_shown_is, tokens_shown_is}
 
-pub role_plain : IsPlain (understood our_schema role_shown)
+pub role_plain : IsPlain (understood schema_2 role_shown)
 role_plain = role_shown_is.2
 
-pub tokens_plain : IsPlain (understood our_schema tokens_shown)
+pub tokens_plain : IsPlain (understood schema_2 tokens_shown)
 tokens_plain = tokens_shown_is.2
 
 -- ---- the role of one
@@ -31,7 +31,7 @@ module _ (old new : State) (number : ℤ) (digest : List ℕ) (ours : Ours old) 
   answer : Answered 3 (is 1 0 ∷ is 2 1 ∷ []) (col 1 3 ∷ []) [] db refl given rows
   answer =
       answered 3 (is 1 0 ∷ is 2 1 ∷ []) (col 1 3 ∷ []) [] db refl given rows
-      (reads_as role_shown given old new our_schema ours.rests.schema _ role_shown_is.0 role_shown_is.2 role_shown_is.1 rows shown).answer
+      (reads_as role_shown given old new schema_2 ours.rests.schema _ role_shown_is.0 role_shown_is.2 role_shown_is.1 rows shown).answer
 
   pub role_found : (o : Option Role) → TellsOne role_told rows o → FindsRole number digest (rows_of db) o
   role_found =
@@ -58,7 +58,7 @@ module _ (old new : State) (number : ℤ) (ours : Ours old) (rows : List Row) (s
   all : Answered 3 (is 1 0 ∷ []) (col 1 2 ∷ col 1 3 ∷ []) (2 ∷ []) trees refl (Int number ∷ []) rows
   all =
       answered 3 (is 1 0 ∷ []) (col 1 2 ∷ col 1 3 ∷ []) (2 ∷ []) trees refl (Int number ∷ []) rows
-      (reads_as tokens_shown (Int number ∷ []) old new our_schema ours.rests.schema _ tokens_shown_is.0 tokens_shown_is.2 tokens_shown_is.1 rows shown).answer
+      (reads_as tokens_shown (Int number ∷ []) old new schema_2 ours.rests.schema _ tokens_shown_is.0 tokens_shown_is.2 tokens_shown_is.1 rows shown).answer
 
   abbrev show_token : TokenRow → Row
   show_token t = Blob t.digest ∷ Int (role_number t.role) ∷ []

@@ -1,6 +1,6 @@
 -- What one statement makes of the rows of its table.
 use Rattle.std.proofs.Common.{◌≡◌, ◌≢◌, ℕ, ◌≤◌, ℤ, pos, ◌+ℤ◌, List, [], ◌∷◌, map, filter, fold, length, Bool, false, ◌==◌, Ok, refl, sym, ap, subst, ◌∙◌, arith}
-use Rattle.xa_store.proofs.Common.{AllByRecursion, IsPermutation-map, edit_of, Row, overlay, Output, Chosen, Given, Edited, Table, Term, Trees, Int, one_step, Enforced, rowid, ids_of, cast_row, IsNoIndex, put_all, without_all, with_rowid, next_rowid, id_in, row_at, taken_by, IsKeyedBy, insert_by, next_key, update_where, delete_where, without_key, filter-map, map-map, map_same, puts-map, deletes-map, our_schema}
+use Rattle.xa_store.proofs.Common.{AllByRecursion, IsPermutation-map, edit_of, Row, overlay, Output, Chosen, Given, Edited, Table, Term, Trees, Int, one_step, Enforced, rowid, ids_of, cast_row, IsNoIndex, put_all, without_all, with_rowid, next_rowid, id_in, row_at, taken_by, IsKeyedBy, insert_by, next_key, update_where, delete_where, without_key, filter-map, map-map, map_same, puts-map, deletes-map, schema_2}
 use Rattle.std.specs.List.Sorted.{IsPermutation}
 use Rattle.xa_store.proofs.ActionLemmas.{works_of_changing, works_of_coming, works_of_going}
 use Rattle.xa_store.proofs.FilterLemmas.{filter_alike}
@@ -10,7 +10,7 @@ use Rattle.xa_store.proofs.SqlLemmas.{Answered, hits, show, out, one_hit, no_hit
 -- one tree has these rows now, and each other but the indexes is as it was
 pub record Wrote (old new : Trees) (tree : ℕ) (content : List Row) : Type 0 where
   pub rows : new tree ≡ content
-  pub others : (t : ℕ) → t ≢ tree → IsNoIndex our_schema t → new t ≡ old t
+  pub others : (t : ℕ) → t ≢ tree → IsNoIndex schema_2 t → new t ≡ old t
 
 module _ {X : Type 0} (to_row : X → Row) (key : X → ℤ) (keyed : (x : X) → rowid (to_row x) ≡ Int (key x)) where
   next_is : (a : ℤ) (xs : List X) → fold (λ _ r. id_in (rowid r) +ℤ pos 1) a (map to_row xs) ≡ fold (λ _ x. key x +ℤ pos 1) a xs
@@ -28,10 +28,10 @@ module _ {X : Type 0} (to_row : X → Row) (key : X → ℤ) (keyed : (x : X) �
     -- ---- a row is added
 
     pub row_added : (new : X) (row : Row) → with_rowid Chosen (db table.tree) (cast_row table row) ≡ to_row new
-        → Edited our_schema Enforced db (edit_of db table [] Chosen 0 (row ∷ [])) (Ok next) → WroteRows (insert_by key xs new)
+        → Edited schema_2 Enforced db (edit_of db table [] Chosen 0 (row ∷ [])) (Ok next) → WroteRows (insert_by key xs new)
     row_added new row is edit =
         let given = edit_of db table [] Chosen 0 (row ∷ []) in
-        let it = one_step our_schema Enforced db next given (works_of_coming table.tree given.news) edit in
+        let it = one_step schema_2 Enforced db next given (works_of_coming table.tree given.news) edit in
         record {
           rows = it.rows ∙ ap (λ r. put_all (db table.tree) (r ∷ [])) is ∙ ap (λ rows. put_all rows (to_row new ∷ [])) are ∙ puts-map key to_row keyed (new ∷ []) xs;
           others = it.others;
@@ -53,7 +53,7 @@ module _ {X : Type 0} (to_row : X → Row) (key : X → ℤ) (keyed : (x : X) �
       -- ---- one row at most is another
 
       abbrev EditedRows : List Row → Type 0
-      EditedRows rows = Edited our_schema Enforced db (edit_of db table (ids_of rows) Given 1 rows) (Ok next)
+      EditedRows rows = Edited schema_2 Enforced db (edit_of db table (ids_of rows) Given 1 rows) (Ok next)
 
       pub row_updated : (f : X → X) (rest : X → Row) → ((x : X) → shows (to_row x) ≡ Int (key x) ∷ rest x) → ((x : X) → cast_row table (rest x) ≡ to_row (f x)) → ((x : X) → key (f x) ≡ key x)
           → length (filter p xs) ≤ 1 → (rows : List Row) → AnsweredHere rows → EditedRows rows → WroteRows (update_where p f xs)
@@ -62,11 +62,11 @@ module _ {X : Type 0} (to_row : X → Row) (key : X → ℤ) (keyed : (x : X) �
           go : (fs : List X) → filter p xs ≡ fs → WroteRows (update_where p f xs)
           go [] is =
               let no : rows ≡ [] = no_hit table.tree tests shown [] db plain params rows (passing_rows ∙ ap (map to_row) is) answer in
-              let it = one_step our_schema Enforced db next (edit_of db table [] Given 1 []) (works_of_coming table.tree []) (subst EditedRows no edit) in
+              let it = one_step schema_2 Enforced db next (edit_of db table [] Given 1 []) (works_of_coming table.tree []) (subst EditedRows no edit) in
               record { rows = it.rows ∙ are ∙ ap (map to_row) (sym (untouched key p f xs is)); others = it.others }
           go (x ∷ []) is =
               let alone : rows ≡ (Int (key x) ∷ rest x) ∷ [] = one_hit table.tree tests shown [] db plain params rows (to_row x) (passing_rows ∙ ap (map to_row) is) answer ∙ ap (λ r. r ∷ []) (look x) in
-              let it = one_step our_schema Enforced db next (edit_of db table (key x ∷ []) Given 1 ((Int (key x) ∷ rest x) ∷ [])) (works_of_changing table.tree (row_at (db table.tree) (key x) ∷ []) (cast_row table (rest x))) (subst EditedRows alone edit) in
+              let it = one_step schema_2 Enforced db next (edit_of db table (key x ∷ []) Given 1 ((Int (key x) ∷ rest x) ∷ [])) (works_of_changing table.tree (row_at (db table.tree) (key x) ∷ []) (cast_row table (rest x))) (subst EditedRows alone edit) in
               record {
                 rows =
                     it.rows ∙ ap (λ rs. put_all (without_all rs (key x ∷ [])) (cast_row table (rest x) ∷ [])) are
@@ -81,9 +81,9 @@ module _ {X : Type 0} (to_row : X → Row) (key : X → ℤ) (keyed : (x : X) �
       -- ---- rows are taken out
 
       pub rows_removed : ((x : X) → shows (to_row x) ≡ Int (key x) ∷ []) → (1 == table.tree) ≡ false
-          → (rows : List Row) → AnsweredHere rows → Edited our_schema Enforced db (edit_of db table (ids_of rows) Given 0 []) (Ok next) → WroteRows (delete_where p xs)
+          → (rows : List Row) → AnsweredHere rows → Edited schema_2 Enforced db (edit_of db table (ids_of rows) Given 0 []) (Ok next) → WroteRows (delete_where p xs)
       rows_removed look other rows answer edit =
-          let it = one_step our_schema Enforced db next (edit_of db table (ids_of rows) Given 0 []) (works_of_going table.tree other 0 (taken_by db (edit_of db table (ids_of rows) Given 0 []))) edit in
+          let it = one_step schema_2 Enforced db next (edit_of db table (ids_of rows) Given 0 []) (works_of_going table.tree other 0 (taken_by db (edit_of db table (ids_of rows) Given 0 []))) edit in
           record {
             rows =
                 it.rows ∙ ap (λ rs. without_all rs (ids_of rows)) are ∙ deletes-map key to_row keyed (ids_of rows) xs

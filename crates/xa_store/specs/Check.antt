@@ -31,7 +31,7 @@ use Rattle.xa_store.specs.Opening.{AreNewTables, GivesOrFails, IsBlank, IsFailur
 use Rattle.xa_store.specs.Opening.{IsRefusal, MayLeaveTables}
 use Rattle.xa_store.specs.Rows.{placed_row, placed_row_in}
 use Rattle.xa_store.specs.Sound.{AreRows, Ours, Rests, RestsIn, SameNow, same_place}
-use Rattle.xa_store.specs.Tables.{first_schema, tree_of}
+use Rattle.xa_store.specs.Tables.{schema_1, tree_of}
 
 abbrev pub rows_query : CheckedTable → List ℕ
 rows_query Domains = codes "SELECT number, name, epoch FROM domains ORDER BY number"
@@ -331,7 +331,7 @@ pub record MigratesTables {X : Type 0} (old new : State) (result : Result X Open
   pub survives : Survives old new (λ db. IsSoundIn Schema1 old → IsMigrated old.committed.trees db)
   pub migrated : HasCleanDisk new → IsSoundIn Schema1 old
       → OnOk result (IsTrue new.is_open × Rests new × IsMigrated old.committed.trees new.now.trees)
-  pub same : HasCleanDisk new → RestsIn first_schema old → IsTrue new.is_open → OnErr result (SameNow old new)
+  pub same : HasCleanDisk new → RestsIn schema_1 old → IsTrue new.is_open → OnErr result (SameNow old new)
   pub fails : IfErr result IsFailure
 
 abbrev pub OpensAs : State → State → Result Bool OpenError → Type 0
@@ -353,7 +353,7 @@ pub record Loads (old new : State) (result : Result Bool OpenError) : Type 0 whe
   pub left : IfErr result (λ e. IsRefusal e → Survives old new (λ _. ⊥))
   pub refused : HasCleanDisk new → IsTrue new.is_open → IfErr result (λ e. IsRefusal e → SameNow old new)
   pub opens : HasCleanDisk new → Rests old → OpensAs old new result
-  pub migrates : HasCleanDisk new → RestsIn first_schema old → MigratesAs old new result
+  pub migrates : HasCleanDisk new → RestsIn schema_1 old → MigratesAs old new result
   pub makes : HasCleanDisk new → IsBlank old → MakesAs old new result
   pub fails : IsBlank old → IfErr result IsFailure
   pub ours : HasCleanDisk new → IfOk result (λ ours. IsTrue ours → Ours new)

@@ -9,7 +9,7 @@ use Rattle.xa_store.specs.declared.schema.checked_table.CheckedTable.TheVariants
 use Rattle.xa_store.specs.declared.schema.creation.Part.{Part}
 use Rattle.xa_store.specs.declared.schema.creation.Part.TheVariants as part
 use Rattle.xa_store.specs.Opening.{no_tables, AreNewTables}
-use Rattle.xa_store.specs.Tables.{first_schema, our_schema, meta, domains, tokens, policies, roots, meta_tree, tree_of}
+use Rattle.xa_store.specs.Tables.{meta, domains, tokens, policies, roots, schema_1, schema_2, meta_tree, tree_of}
 use Rattle.xa_store.specs.Texts as text
 
 -- the statement that makes it
@@ -23,31 +23,35 @@ part_statement part.Attributes = text.attributes_made
 part_statement part.Sources = text.sources_made
 part_statement part.FirstRow = text.meta_begun
 
-abbrev pub first : Schema
-first = created no_tables meta
+-- ---- the schemas in the making: each has one table more than the one before
 
-abbrev pub second : Schema
-second = created first domains
+abbrev pub with_meta : Schema
+with_meta = created no_tables meta
 
-abbrev pub third : Schema
-third = created second tokens
+abbrev pub with_domains : Schema
+with_domains = created with_meta domains
 
-abbrev pub fourth : Schema
-fourth = created third policies
+abbrev pub with_tokens : Schema
+with_tokens = created with_domains tokens
 
-abbrev pub fifth : Schema
-fifth = created fourth roots
+abbrev pub with_policies : Schema
+with_policies = created with_tokens policies
+
+abbrev pub with_roots : Schema
+with_roots = created with_policies roots
+
+-- ---- what stands before a part is made, and after it
 
 -- the schema under which it is made
 abbrev pub before : Part → Schema
 before part.Meta = no_tables
-before part.Domains = first
-before part.Tokens = second
-before part.Policies = third
-before part.Roots = fourth
-before part.Attributes = fifth
-before part.Sources = first_schema
-before part.FirstRow = our_schema
+before part.Domains = with_meta
+before part.Tokens = with_domains
+before part.Policies = with_tokens
+before part.Roots = with_policies
+before part.Attributes = with_roots
+before part.Sources = schema_1
+before part.FirstRow = schema_2
 
 -- the tables that were made before it
 abbrev pub trees_before : Part → List ℕ
@@ -74,7 +78,7 @@ IsBefore part = AreEmpty (before part) (trees_before part)
 
 -- all are there
 pub record AreMade (db : Database) : Type 0 where
-  pub schema : db.schema ≡ our_schema
+  pub schema : db.schema ≡ schema_2
   pub made : AreNewTables db.trees
 
 abbrev pub IsAfter : Part → Database → Type 0

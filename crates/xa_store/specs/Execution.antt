@@ -14,7 +14,7 @@ use Rattle.xa_records.specs.declared.refusal.Failure.{Failure}
 use Rattle.xa_store.specs.declared.step.Step.{Step}
 use Rattle.xa_store.specs.Sound.{AreTables, IsOurDatabase, Ours, Rests, SameNow}
 use Rattle.xa_store.specs.Steps.{Allows, AllowsAll, after_all}
-use Rattle.xa_store.specs.Tables.{our_schema}
+use Rattle.xa_store.specs.Tables.{schema_2}
 use Rattle.xa_store.specs.World.{Rows, rows_of}
 
 -- a text as a column holds it
@@ -24,7 +24,7 @@ text_column = or_null Text
 -- a transaction over our tables
 pub record IsInside (s : State) : Type 0 where
   pub inside : IsTrue s.in_transaction
-  pub schema : s.now.schema ≡ our_schema
+  pub schema : s.now.schema ≡ schema_2
   pub database : IsOurDatabase s.now.trees
   pub tables : AreTables s.now.trees
 

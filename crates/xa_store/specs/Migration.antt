@@ -6,7 +6,7 @@ use Rattle.sqlite.specs.Effect.{Database, IsDatabase}
 use Rattle.sqlite.specs.Order.{Row, column}
 use Rattle.sqlite.specs.Tree.{Trees}
 use Rattle.sqlite.specs.declared.types.Value.TheVariants.{Int, Null}
-use Rattle.sqlite_catalog.specs.Listing.{IsSound}
+use Rattle.sqlite_catalog.specs.Listing.{IsSound as ObeysRules}
 use Rattle.xa_store.specs.declared.schema.checked_table.CheckedTable.TheVariants.{Domains, Tokens, Documents, Roots}
 use Rattle.xa_store.specs.declared.schema.checked_table.CheckedTable.TheVariants.{Attributes, Sources}
 use Rattle.xa_store.specs.declared.schema.migration.Stage.{Stage}
@@ -14,7 +14,7 @@ use Rattle.xa_store.specs.declared.schema.migration.Stage.TheVariants as stage
 use Rattle.xa_store.specs.declared.schema.version.SchemaVersion.TheVariants.{Schema1}
 use Rattle.xa_store.specs.Opened.{opened}
 use Rattle.xa_store.specs.Rows.{meta_row, next_in}
-use Rattle.xa_store.specs.Tables.{first_schema, meta_tree, our_schema, tree_of}
+use Rattle.xa_store.specs.Tables.{meta_tree, schema_1, schema_2, tree_of}
 use Rattle.xa_store.specs.Texts as text
 
 -- the statement
@@ -36,8 +36,8 @@ moved_rows rowid [] = []
 moved_rows rowid (row ∷ rows) = moved_row (pos rowid) row ∷ moved_rows (rowid + 1) rows
 
 -- the tables of schema 1 and no others, whose rows obey the rules of these tables, and opening finds them sound
-pub record IsSoundFirst (first : Trees) : Type 0 where
-  pub database : IsSound first_schema first
+pub record IsSoundSchema1 (first : Trees) : Type 0 where
+  pub database : ObeysRules schema_1 first
   pub opens : opened Schema1 first ≡ Ok tt
 
 -- the tables that no stage touches are as they were
@@ -48,7 +48,7 @@ KeepsOthers first db =
 
 -- under schema 2, whose rules they obey, with these rows in the three tables that the stages touch
 pub record Stands (first : Trees) (first_rows left moved : List Row) (db : Database) : Type 0 where
-  pub schema : db.schema ≡ our_schema
+  pub schema : db.schema ≡ schema_2
   pub database : IsDatabase db
   pub meta : db.trees meta_tree ≡ first_rows
   pub attributes : db.trees (tree_of Attributes) ≡ left
@@ -56,14 +56,14 @@ pub record Stands (first : Trees) (first_rows left moved : List Row) (db : Datab
   pub others : KeepsOthers first db.trees
 
 -- the tables are those of schema 1
-pub record IsFirst (first : Trees) (db : Database) : Type 0 where
-  pub schema : db.schema ≡ first_schema
+pub record HasSchema1 (first : Trees) (db : Database) : Type 0 where
+  pub schema : db.schema ≡ schema_1
   pub meta : db.trees meta_tree ≡ first meta_tree
   pub attributes : db.trees (tree_of Attributes) ≡ first (tree_of Attributes)
   pub others : KeepsOthers first db.trees
 
 abbrev pub IsBefore : Stage → Trees → Database → Type 0
-IsBefore stage.Sources first = IsFirst first
+IsBefore stage.Sources first = HasSchema1 first
 IsBefore stage.Rows first = Stands first (first meta_tree) (first (tree_of Attributes)) []
 IsBefore stage.Attributes first =
     Stands first (first meta_tree) (first (tree_of Attributes)) (moved_rows 1 (first (tree_of Attributes)))

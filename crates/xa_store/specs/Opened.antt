@@ -37,7 +37,7 @@ use Rattle.xa_store.specs.declared.schema.checked_table.CheckedTable.TheVariants
 use Rattle.xa_store.specs.declared.schema.version.SchemaVersion.{SchemaVersion}
 use Rattle.xa_store.specs.declared.schema.version.SchemaVersion.TheVariants.{Schema1, Schema2}
 use Rattle.xa_store.specs.Rows.{nat_of, kind_number}
-use Rattle.xa_store.specs.Tables.{first_schema, meta_tree, our_schema, tree_of}
+use Rattle.xa_store.specs.Tables.{meta_tree, schema_1, schema_2, tree_of}
 
 -- ---- what one column holds
 
@@ -183,8 +183,8 @@ are_counted places = list_all (λ place. count_from (pos 0) (places_of places pl
 -- ---- the two schemas
 
 abbrev pub schema_of : SchemaVersion → Schema
-schema_of Schema1 = first_schema
-schema_of Schema2 = our_schema
+schema_of Schema1 = schema_1
+schema_of Schema2 = schema_2
 
 -- the number that `meta` has for it
 abbrev pub number_of : SchemaVersion → ℤ

@@ -17,8 +17,8 @@ use Rattle.xa_store.specs.Keeper.{Keeper}
 use Rattle.xa_store.specs.Opened.{opened}
 use Rattle.xa_store.specs.Rows.{meta_row}
 use Rattle.xa_store.specs.Sound.{AreOurs, IsOurDatabase, Rests, RestsIn, SameNow}
-use Rattle.xa_store.specs.Tables.{first_schema, meta_tree, tree_of}
-use Rattle.xa_store.specs.World.{first_world_of, world_of}
+use Rattle.xa_store.specs.Tables.{meta_tree, schema_1, tree_of}
+use Rattle.xa_store.specs.World.{world_of, world_of_schema_1}
 
 abbrev pub no_tables : Schema
 no_tables = record { tables = []; indexes = []; views = [] }
@@ -35,7 +35,7 @@ has_room schema =
     && is_free schema (codes "policies") && is_free schema (codes "roots") && is_free schema (codes "attributes")
     && is_free schema (codes "sources")
 
--- which schema it is, if it has a keeper's tables: in the first there is none of the name that the second has more
+-- which schema it is, if it has a keeper's tables: schema 1 has nothing named `sources`, and schema 2 has that table
 abbrev pub schema_version_in : Schema → SchemaVersion
 schema_version_in schema = if is_free schema (codes "sources") then Schema1 else Schema2
 
@@ -54,11 +54,11 @@ pub record AreNewTables (db : Trees) : Type 0 where
 -- tables of schema 2 that mean what those of schema 1 meant
 pub record IsMigrated (first db : Trees) : Type 0 where
   pub ours : AreOurs db
-  pub kept : world_of db ≡ first_world_of first
+  pub kept : world_of db ≡ world_of_schema_1 first
 
 -- the connection holds a keeper's tables, of either schema, or none
 abbrev pub IsKnown : State → Type 0
-IsKnown s = Rests s ⊎ (RestsIn first_schema s ⊎ IsBlank s)
+IsKnown s = Rests s ⊎ (RestsIn schema_1 s ⊎ IsBlank s)
 
 -- an answer as the definition gives it, or want of memory or a failure of the store
 abbrev pub GivesOrFails : Result (Unit {0}) OpenError → Result (Unit {0}) OpenError → Type 0
@@ -125,7 +125,7 @@ pub record LeavesAlone (old new : State) : Type 0 where
 abbrev pub MayLeaveTables : State → Trees → Type 0
 MayLeaveTables old db =
     IsTrue (is_free old.now.schema (codes "sources")) × (IsBlank old → AreNewTables db)
-    × (RestsIn first_schema old → IsMigrated old.committed.trees db)
+    × (RestsIn schema_1 old → IsMigrated old.committed.trees db)
 
 -- a crash after it leaves what the keeper holds, in our tables
 abbrev pub Settles : {S : Type 0} → Ghosts S → Keeper S → Type 0

@@ -8,7 +8,7 @@ use Rattle.sqlite.specs.Order.{Row}
 use Rattle.sqlite.specs.Schema.{Schema}
 use Rattle.sqlite.specs.State.{State}
 use Rattle.sqlite.specs.Tree.{Trees}
-use Rattle.sqlite_catalog.specs.Listing.{IsSound}
+use Rattle.sqlite_catalog.specs.Listing.{IsSound as ObeysRules}
 use Rattle.sqlite_keyed.specs.Keyed.{IsKeyedBy}
 use Rattle.sqlite_keyed.specs.Rules.{AreApart}
 use Rattle.xa_policy.specs.DocumentKey.{compare_keys}
@@ -24,7 +24,7 @@ use Rattle.xa_store.specs.Opened.{is_assigned, is_pattern, is_version, opened, p
 use Rattle.xa_store.specs.Rows.{DomainRow, TokenRow, DocumentRow, RootRow, PlacedRow, meta_row, next_in}
 use Rattle.xa_store.specs.Rows.{domain_row, domain_in, token_row, token_in, document_row, document_in, root_row}
 use Rattle.xa_store.specs.Rows.{root_in, placed_row, placed_row_in, text_at, type_number, value_text}
-use Rattle.xa_store.specs.Tables.{meta_tree, our_schema, tree_of}
+use Rattle.xa_store.specs.Tables.{meta_tree, schema_2, tree_of}
 use Rattle.xa_store.specs.declared.schema.version.SchemaVersion.TheVariants.{Schema2}
 use Rattle.xa_store.specs.World.{Rows, rows_of, state_at, kept_of, world_of}
 
@@ -110,7 +110,7 @@ pub record AreWhole (rows : Rows) : Type 0 where
 
 -- our tables and no others, as the store itself lists them, whose rows obey the rules of these tables
 abbrev pub IsOurDatabase : Trees → Type 0
-IsOurDatabase = IsSound our_schema
+IsOurDatabase = ObeysRules schema_2
 
 -- and opening finds them sound
 pub record AreOurs (db : Trees) : Type 0 where
@@ -127,7 +127,7 @@ pub record RestsIn (under : Schema) (s : State) : Type 0 where
 
 -- its tables are ours
 abbrev pub Rests : State → Type 0
-Rests = RestsIn our_schema
+Rests = RestsIn schema_2
 
 -- it holds what it held
 pub record SameNow (old new : State) : Type 0 where

@@ -150,33 +150,33 @@ abbrev pub index_of : List ℕ → ℕ → ℕ → List ℕ → Index
 index_of name tree table columns =
     record { name = name; tree = tree; table = table; columns = columns; order = rising; is_unique = true }
 
-abbrev pub first_indexes : List Index
-first_indexes =
+abbrev pub indexes_of_schema_1 : List Index
+indexes_of_schema_1 =
     index_of (codes "sqlite_autoindex_domains_1") 2 1 (2 ∷ [])
     ∷ index_of (codes "sqlite_autoindex_tokens_1") 4 3 (1 ∷ 2 ∷ [])
     ∷ index_of (codes "sqlite_autoindex_policies_1") 6 5 (1 ∷ 2 ∷ 3 ∷ 4 ∷ [])
     ∷ index_of (codes "sqlite_autoindex_attributes_1") 9 8 (1 ∷ 2 ∷ [])
     ∷ []
 
-abbrev pub our_indexes : List Index
-our_indexes = first_indexes ++ index_of (codes "sqlite_autoindex_sources_1") 11 10 (1 ∷ 2 ∷ []) ∷ []
+abbrev pub indexes_of_schema_2 : List Index
+indexes_of_schema_2 = indexes_of_schema_1 ++ index_of (codes "sqlite_autoindex_sources_1") 11 10 (1 ∷ 2 ∷ []) ∷ []
 
 -- ---- the schemas
 
 -- schema 1, which is only read, and brought into schema 2
-abbrev pub first_schema : Schema
-first_schema =
+abbrev pub schema_1 : Schema
+schema_1 =
     record {
       tables = meta ∷ domains ∷ tokens ∷ policies ∷ roots ∷ attributes ∷ [];
-      indexes = first_indexes;
+      indexes = indexes_of_schema_1;
       views = [];
     }
 
 -- schema 2, that of a keeper
-abbrev pub our_schema : Schema
-our_schema =
+abbrev pub schema_2 : Schema
+schema_2 =
     record {
       tables = meta ∷ domains ∷ tokens ∷ policies ∷ roots ∷ attributes ∷ sources ∷ [];
-      indexes = our_indexes;
+      indexes = indexes_of_schema_2;
       views = [];
     }

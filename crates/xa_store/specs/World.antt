@@ -45,8 +45,8 @@ abbrev pub rows_now : State → Rows
 rows_now store = rows_of store.now.trees
 
 -- in schema 1
-abbrev pub first_rows_of : Trees → Rows
-first_rows_of db = record (rows_of db) { sources = map unissued_in (db (tree_of Attributes)) }
+abbrev pub rows_of_schema_1 : Trees → Rows
+rows_of_schema_1 db = record (rows_of db) { sources = map unissued_in (db (tree_of Attributes)) }
 
 -- ---- the state of the domain of a number
 
@@ -101,5 +101,5 @@ abbrev pub world_of : Trees → Kept
 world_of db = kept_of (rows_of db)
 
 -- in schema 1
-abbrev pub first_world_of : Trees → Kept
-first_world_of db = kept_of (first_rows_of db)
+abbrev pub world_of_schema_1 : Trees → Kept
+world_of_schema_1 db = kept_of (rows_of_schema_1 db)

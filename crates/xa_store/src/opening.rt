@@ -11,7 +11,7 @@ ghost use Rattle.xa_store.specs.Opening.{LeavesAlone, Makes, MayLeaveTables, Mig
 ghost use Rattle.xa_store.specs.declared.error.OpenError.TheVariants.{Store};
 ghost use Rattle.xa_store.specs.declared.schema.version.SchemaVersion.TheVariants.{Schema1};
 ghost use Rattle.xa_store.specs.Sound.{Rests, RestsIn};
-ghost use Rattle.xa_store.specs.Tables.{first_schema};
+ghost use Rattle.xa_store.specs.Tables.{schema_1};
 
 use crate::check::rollback::check_in_undone_transaction;
 use crate::check::tables::check;
@@ -36,7 +36,7 @@ impl<S: Alter> SqlRecords<S> {
         mut conn: Connection<S>,
     ) -> Result<SqlRecords<S>, (OpenError, Connection<S>)>
         ensures opens { Rests (state S.Store conn) → Opens S.Store (state S.Store conn) result }
-        ensures migrates { RestsIn first_schema (state S.Store conn)
+        ensures migrates { RestsIn schema_1 (state S.Store conn)
             → Migrates S.Store (state S.Store conn) result }
         ensures makes { IsBlank (state S.Store conn) → Makes S.Store (state S.Store conn) result }
         ensures refused { IfErr result (λ e.

@@ -12,7 +12,7 @@ ghost use Rattle.sqlite.specs.declared.error.Error.TheVariants.{SqliteFailure};
 ghost use Rattle.sqlite.specs.declared.error.ErrorCode.TheVariants.{OutOfMemory};
 ghost use Rattle.xa_records.specs.declared.refusal.Failure.TheVariants.{Memory};
 ghost use Rattle.xa_store.specs.Quiet.{FailsToQueryOver, OnlyReadsOver, ShownOver};
-ghost use Rattle.xa_store.specs.Tables.{our_schema};
+ghost use Rattle.xa_store.specs.Tables.{schema_2};
 
 pub(crate) mod cell;
 pub(crate) mod columns;
@@ -40,7 +40,7 @@ fn rows_shown<S: Alter>(
     sql: &str,
     given: &[ValueRef<'_>],
 ) -> Result<Vec<Row>, Error>
-    requires { IsPlain (understood our_schema sql.now) }
+    requires { IsPlain (understood schema_2 sql.now) }
     ensures only_reads { OnlyReadsOver S.Store conn.old conn.new result }
     ensures fails { HasCleanDisk (state S.Store conn.new)
         → IfErr result (FailsToQueryOver S.Store sql.now (bound given.now) conn.old conn.new) }
@@ -57,7 +57,7 @@ pub(crate) fn query_rows<S: Alter>(
     sql: &str,
     given: &[ValueRef<'_>],
 ) -> Result<Vec<Row>, Failure>
-    requires { IsPlain (understood our_schema sql.now) }
+    requires { IsPlain (understood schema_2 sql.now) }
     ensures only_reads { OnlyReadsOver S.Store conn.old conn.new result }
     ensures wants { HasCleanDisk (state S.Store conn.new) → IsErrOf result Memory
         → FailsToQueryOver S.Store sql.now (bound given.now) conn.old conn.new (SqliteFailure OutOfMemory) }

@@ -165,7 +165,7 @@ fn check_attributes<S: Alter>(conn: &mut Connection<S>) -> Result<(), OpenError>
 }
 
 /// Checks the places of the rows of sources in schema 2, and whether none of these stands in `attributes`.
-fn check_second_sources<S: Alter>(conn: &mut Connection<S>) -> Result<(), OpenError>
+fn check_sources_of_schema_2<S: Alter>(conn: &mut Connection<S>) -> Result<(), OpenError>
     ensures asks { AsksOver S.Store Schema2 conn.old conn.new result }
     ensures finds { FindsRest Schema2 (state S.Store conn.old) (state S.Store conn.new) result }
 {
@@ -183,7 +183,7 @@ fn check_sources<S: Alter>(
 {
     match version {
         SchemaVersion::Schema1 => check_places(conn, version),
-        SchemaVersion::Schema2 => check_second_sources(conn),
+        SchemaVersion::Schema2 => check_sources_of_schema_2(conn),
     }
 }
 

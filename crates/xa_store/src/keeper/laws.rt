@@ -8,7 +8,7 @@ ghost use Rattle.xa_store.specs.Reopening.{Reopens};
 ghost use Rattle.xa_store.specs.declared.schema.version.SchemaVersion.TheVariants.{Schema2};
 
 use crate::keeper::SqlRecords;
-use crate::schema::shape::is_ours;
+use crate::schema::shape::is_schema_2;
 use sqlite::{Alter, Connection};
 
 impl<S: Alter> SqlRecords<S> {
@@ -33,7 +33,7 @@ impl<S: Alter> SqlRecords<S> {
     pub fn reopens<T: Alter>(&self, conn: &Connection<T>)
         ensures { Reopens (state S.Store self.now.conn) (state T.Store conn.now) }
     {
-        // for the proof: an open store holds a database, and its schema is ours or isn't
-        let _is_ours = is_ours(conn.schema());
+        // for the proof: an open store holds a database, and its schema is schema 2 or isn't
+        let _is_schema_2 = is_schema_2(conn.schema());
     }
 }

@@ -4,7 +4,7 @@ ghost use Rattle.sqlite.specs.Held.{state};
 ghost use Rattle.sqlite.specs.State.{HasCleanDisk};
 ghost use Rattle.sqlite.specs.Tree.{Trees};
 ghost use Rattle.xa_store.specs.Check.{MigratesTables};
-ghost use Rattle.xa_store.specs.Migration.{stage_statement, IsAfter, IsBefore, IsDone, IsSoundFirst};
+ghost use Rattle.xa_store.specs.Migration.{stage_statement, IsAfter, IsBefore, IsDone, IsSoundSchema1};
 ghost use Rattle.xa_store.specs.Execution.{StaysInside};
 ghost use Rattle.xa_store.specs.declared.schema.migration.Stage.TheVariants as stages;
 
@@ -49,7 +49,7 @@ fn take<S: Alter>(tx: &mut Transaction<'_, S>, stage: Stage) -> Result<(), Failu
     ensures same_reference { tx.new.conn.ghost_name ≡ tx.old.conn.ghost_name }
     ensures stays { StaysInside (state S.Store tx.old.conn.now) (state S.Store tx.new.conn.now) result }
     ensures moves { HasCleanDisk (state S.Store tx.new.conn.now)
-        → IsTrue (state S.Store tx.old.conn.now).in_transaction → (first : Trees) → IsSoundFirst first
+        → IsTrue (state S.Store tx.old.conn.now).in_transaction → (first : Trees) → IsSoundSchema1 first
         → IsBefore stage first (state S.Store tx.old.conn.now).now
         → OnOk result (IsAfter stage first (state S.Store tx.new.conn.now).now) }
 {
@@ -61,7 +61,7 @@ fn take_all<S: Alter>(tx: &mut Transaction<'_, S>) -> Result<(), Failure>
     ensures same_reference { tx.new.conn.ghost_name ≡ tx.old.conn.ghost_name }
     ensures stays { StaysInside (state S.Store tx.old.conn.now) (state S.Store tx.new.conn.now) result }
     ensures moves { HasCleanDisk (state S.Store tx.new.conn.now)
-        → IsTrue (state S.Store tx.old.conn.now).in_transaction → (first : Trees) → IsSoundFirst first
+        → IsTrue (state S.Store tx.old.conn.now).in_transaction → (first : Trees) → IsSoundSchema1 first
         → IsBefore stages.Sources first (state S.Store tx.old.conn.now).now
         → OnOk result (IsDone first (state S.Store tx.new.conn.now).now) }
 {

@@ -5,9 +5,9 @@
 ghost use Rattle.std.specs.Prelude.{◌≡◌, ◌↔◌, false, [], ◌∷◌, None, Some, IsTrue, codes};
 ghost use Rattle.xa_store.specs.Opened.{schema_of};
 ghost use Rattle.xa_store.specs.Opening.{has_room, is_free, schema_version_in};
-ghost use Rattle.xa_store.specs.Tables.{attributes, domains, first_indexes, first_schema};
-ghost use Rattle.xa_store.specs.Tables.{index_of, meta, of_domain, our_indexes, our_schema};
-ghost use Rattle.xa_store.specs.Tables.{policies, rising, roots, sources, tokens};
+ghost use Rattle.xa_store.specs.Tables.{attributes, domains, index_of, indexes_of_schema_1};
+ghost use Rattle.xa_store.specs.Tables.{indexes_of_schema_2, meta, of_domain, policies, rising};
+ghost use Rattle.xa_store.specs.Tables.{roots, schema_1, schema_2, sources, tokens};
 
 use crate::schema::columns::{
     are_attribute_columns, are_domain_columns, are_meta_columns, are_policy_columns,
@@ -243,8 +243,8 @@ fn are_policies_roots_and_attributes(first: &Table, second: &Table, third: &Tabl
 }
 
 /// Whether they are the tables of schema 1, and no others.
-fn are_first_tables(all: &[Table]) -> bool
-    ensures { IsTrue result ↔ (all.now ≡ first_schema.tables) }
+fn are_tables_of_schema_1(all: &[Table]) -> bool
+    ensures { IsTrue result ↔ (all.now ≡ schema_1.tables) }
 {
     match all {
         [meta, domains, tokens, policies, roots, attributes] => {
@@ -256,8 +256,8 @@ fn are_first_tables(all: &[Table]) -> bool
 }
 
 /// Whether they are the tables of schema 2, and no others.
-fn are_our_tables(all: &[Table]) -> bool
-    ensures { IsTrue result ↔ (all.now ≡ our_schema.tables) }
+fn are_tables_of_schema_2(all: &[Table]) -> bool
+    ensures { IsTrue result ↔ (all.now ≡ schema_2.tables) }
 {
     match all {
         [meta, domains, tokens, policies, roots, attributes, sources] => {
@@ -302,8 +302,8 @@ fn are_key_and_place_indexes(keys: &Index, places: &Index) -> bool
 }
 
 /// Whether they are the indexes of schema 1, and no others.
-fn are_first_indexes(all: &[Index]) -> bool
-    ensures { IsTrue result ↔ (all.now ≡ first_indexes) }
+fn are_indexes_of_schema_1(all: &[Index]) -> bool
+    ensures { IsTrue result ↔ (all.now ≡ indexes_of_schema_1) }
 {
     match all {
         [names, digests, keys, places] => {
@@ -314,8 +314,8 @@ fn are_first_indexes(all: &[Index]) -> bool
 }
 
 /// Whether they are the indexes of schema 2, and no others.
-fn are_our_indexes(all: &[Index]) -> bool
-    ensures { IsTrue result ↔ (all.now ≡ our_indexes) }
+fn are_indexes_of_schema_2(all: &[Index]) -> bool
+    ensures { IsTrue result ↔ (all.now ≡ indexes_of_schema_2) }
 {
     match all {
         [names, digests, keys, places, sources] => {
@@ -328,20 +328,20 @@ fn are_our_indexes(all: &[Index]) -> bool
 }
 
 /// Whether the schema has the tables of schema 1 and nothing else.
-fn is_first(schema: &Schema) -> bool
-    ensures { IsTrue result ↔ (schema.now ≡ first_schema) }
+fn is_schema_1(schema: &Schema) -> bool
+    ensures { IsTrue result ↔ (schema.now ≡ schema_1) }
 {
-    are_first_tables(schema.tables.as_slice())
-        && are_first_indexes(schema.indexes.as_slice())
+    are_tables_of_schema_1(schema.tables.as_slice())
+        && are_indexes_of_schema_1(schema.indexes.as_slice())
         && schema.views.is_empty()
 }
 
 /// Whether the schema has the tables of a keeper and nothing else.
-pub(crate) fn is_ours(schema: &Schema) -> bool
-    ensures { IsTrue result ↔ (schema.now ≡ our_schema) }
+pub(crate) fn is_schema_2(schema: &Schema) -> bool
+    ensures { IsTrue result ↔ (schema.now ≡ schema_2) }
 {
-    are_our_tables(schema.tables.as_slice())
-        && are_our_indexes(schema.indexes.as_slice())
+    are_tables_of_schema_2(schema.tables.as_slice())
+        && are_indexes_of_schema_2(schema.indexes.as_slice())
         && schema.views.is_empty()
 }
 
@@ -350,8 +350,8 @@ pub(crate) fn is_of(version: SchemaVersion, schema: &Schema) -> bool
     ensures { IsTrue result ↔ (schema.now ≡ schema_of version) }
 {
     match version {
-        SchemaVersion::Schema1 => is_first(schema),
-        SchemaVersion::Schema2 => is_ours(schema),
+        SchemaVersion::Schema1 => is_schema_1(schema),
+        SchemaVersion::Schema2 => is_schema_2(schema),
     }
 }
 

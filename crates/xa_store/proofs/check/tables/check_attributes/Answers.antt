@@ -1,5 +1,5 @@
 use Rattle.std.proofs.Common.{◌≡◌, [], true, false, Err, rules, sym, subst}
-use Rattle.xa_store.proofs.Common.{IsPlain, state, understood, nil_from_length, Schema2, is_left_empty, our_schema}
+use Rattle.xa_store.proofs.Common.{IsPlain, state, understood, nil_from_length, Schema2, is_left_empty, schema_2}
 use Rattle.xa_store.proofs.AskedLemmas.{as_told}
 use Rattle.xa_store.proofs.LoadLemmas.{failed_checked, test_decides}
 use Rattle.xa_store.proofs.PlaceLemmas.{left_plain, none_left, some_left}
@@ -7,7 +7,7 @@ use Rattle.xa_store.proofs.check.tables.check_attributes.Goals as goal
 
 pub returns-in_err-rows : goal.returns-in_err-rows
 returns-in_err-rows g c =
-    let plain = subst (λ sql. IsPlain (understood our_schema sql)) (sym c.places_query.ensures) left_plain in
+    let plain = subst (λ sql. IsPlain (understood schema_2 sql)) (sym c.places_query.ensures) left_plain in
     let is : c.from_residual.result ≡ Err c.in_err-rows.field-0.0 = search rules in
     rw is
     (failed_checked (λ db. is_left_empty Schema2 db) (state g.S.Store c.args.conn.now) (state g.S.Store c.rows_of.new.conn) c.in_err-rows.field-0.0 (c.in_err-rows.ensures.asks Schema2 plain)
@@ -15,7 +15,7 @@ returns-in_err-rows g c =
 
 pub returns : goal.returns
 returns g c =
-    let plain = subst (λ sql. IsPlain (understood our_schema sql)) (sym c.places_query.ensures) left_plain in
+    let plain = subst (λ sql. IsPlain (understood schema_2 sql)) (sym c.places_query.ensures) left_plain in
     let none : c.is_empty.result ≡ true → c.in_ok-rows.rows.items ≡ [] = λ holds. nil_from_length c.in_ok-rows.rows.items (search rules) in
     let some : c.is_empty.result ≡ false → c.in_ok-rows.rows.items ≡ [] → ⊥ = λ fails none. search rules in
     record {

@@ -10,8 +10,8 @@ returns-in-Schema1-clause-finds g c clean rests are =
 
 pub returns-in-Schema2-clause-asks : goal.returns-in-Schema2-clause-asks
 returns-in-Schema2-clause-asks g c =
-    subst (λ v. Asks v (state g.S.Store c.args.conn.now) (state g.S.Store c.check_second_sources.new.conn) c.check_second_sources.result) (sym c.in-Schema2.is) c.check_second_sources.ensures.asks
+    subst (λ v. Asks v (state g.S.Store c.args.conn.now) (state g.S.Store c.check_sources_of_schema_2.new.conn) c.check_sources_of_schema_2.result) (sym c.in-Schema2.is) c.check_sources_of_schema_2.ensures.asks
 
 pub returns-in-Schema2-clause-finds : goal.returns-in-Schema2-clause-finds
 returns-in-Schema2-clause-finds g c =
-    subst (λ v. FindsRest v (state g.S.Store c.args.conn.now) (state g.S.Store c.check_second_sources.new.conn) c.check_second_sources.result) (sym c.in-Schema2.is) c.check_second_sources.ensures.finds
+    subst (λ v. FindsRest v (state g.S.Store c.args.conn.now) (state g.S.Store c.check_sources_of_schema_2.new.conn) c.check_sources_of_schema_2.result) (sym c.in-Schema2.is) c.check_sources_of_schema_2.ensures.finds

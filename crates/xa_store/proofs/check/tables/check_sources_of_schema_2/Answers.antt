@@ -2,7 +2,7 @@ use Rattle.std.proofs.Common.{◌≡◌, Err, rules}
 use Rattle.xa_store.proofs.Common.{state}
 use Rattle.xa_store.proofs.AskedLemmas.{asks_then}
 use Rattle.xa_store.proofs.LoadLemmas.{first_stops, rest_checked}
-use Rattle.xa_store.proofs.check.tables.check_second_sources.Goals as goal
+use Rattle.xa_store.proofs.check.tables.check_sources_of_schema_2.Goals as goal
 
 pub returns-in_err-check_places-clause-finds : goal.returns-in_err-check_places-clause-finds
 returns-in_err-check_places-clause-finds g c clean rests are =
