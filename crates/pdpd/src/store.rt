@@ -147,7 +147,7 @@ pub fn records_in_file(rt: &HostRuntime, path: &str) -> Result<FileRecords, Faul
     };
     match SqlRecords::open(rt.alloc(), conn) {
         Ok(records) => {
-            if !records.is_ours() {
+            if !records.has_only_our_tables() {
                 warn_of_other_tables(rt, path);
             }
             Ok(records)

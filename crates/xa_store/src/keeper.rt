@@ -52,7 +52,7 @@ impl<S: Alter> SqlRecords<S> {
 
     /// Whether its store had a keeper's tables and no others when it was opened. Only of such a keeper
     /// do the clauses of `Records` say what it holds.
-    pub fn is_ours(&self) -> bool
+    pub fn has_only_our_tables(&self) -> bool
         ensures { result ≡ self.now.ours }
     {
         self.ours

@@ -78,7 +78,7 @@ fn judge<S: StoreOfFiles>(answer: &mut Answer, files: Files<File>) -> Result<(),
     match open_keeper(alloc, conn) {
         Ok(keeper) => {
             answer.push_word("opened");
-            if keeper.is_ours() {
+            if keeper.has_only_our_tables() {
                 answer.push_word("ours");
             }
         }
