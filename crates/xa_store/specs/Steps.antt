@@ -35,7 +35,7 @@ is_place number place p = int_eq p.number number && int_eq p.place place
 abbrev pub with_epoch : ℤ → ℤ → List DomainRow → List DomainRow
 with_epoch number epoch = update_where (λ d. int_eq d.number number) (λ d. record d { epoch = epoch })
 
--- a domain goes with all its rows
+-- a domain is dropped with all its rows
 abbrev pub without_domain : ℤ → Rows → Rows
 without_domain number rows = record {
   next = rows.next;
@@ -95,10 +95,10 @@ after (DropSource number) rows = record rows { sources = delete_where (λ p. int
 abbrev pub after_all : List Step → Rows → Rows
 after_all steps rows = fold (λ rows step. after step rows) rows steps
 
--- ---- under what it is taken: no row of that key is there, if one comes, and a text that comes is a document of
--- its key; the version of a document's key reads back, and so does a value that comes; the domain is there, if it
--- goes. Of a domain or a root that comes it isn't asked that its number has no row yet: if it has one, `after` puts
--- the new row in its place, and the statement fails and makes nothing
+-- ---- under what a step is taken: if it adds a row, none of that key is there, and the text of a document that it
+-- adds is one of its key; the version of a document's key reads back, and so does a value that it adds; a domain that
+-- it drops is there. If it adds a domain or a root, it isn't asked that the number has no row yet: if it has one,
+-- `after` puts the new row in its place, and the statement fails and makes nothing
 
 -- the text of the value reads as the value
 abbrev pub ReadsBack : Value → Type 0

@@ -46,7 +46,7 @@ pub(crate) fn with_epoch(
 }
 
 /// The step, and then that of the domain's epoch.
-pub(crate) fn raising_steps(
+pub(crate) fn step_and_epoch(
     alloc: Global,
     step: Step,
     revision: Revision,

@@ -132,7 +132,7 @@ pub(crate) const ADD_META_ROW: &str =
 pub(crate) const COPY_ATTRIBUTES: &str =
     "INSERT INTO sources (number, place, category, entity, attribute, value_type, value, issuer) SELECT number, place, category, entity, attribute, value_type, value, NULL FROM attributes ORDER BY rowid";
 
-/// Takes all rows out of the table in which they stood.
+/// Drops all rows of the table in which they stood.
 pub(crate) const EMPTY_ATTRIBUTES: &str = "DELETE FROM attributes";
 
 /// Sets the schema's number.

@@ -26,64 +26,64 @@ pub(crate) struct Revision {
 /// One statement of a change. Each `number` is that of a domain.
 #[derive(Debug, Drop)]
 pub(crate) enum Step {
-    /// A domain of that number and name, with epoch 0.
+    /// Adds a domain of that number and name, with epoch 0.
     AddDomain {
         number: i64,
         name: Text,
     },
-    /// The number of the next domain.
+    /// Sets the number of the next domain.
     SetNext(i64),
-    /// The domain's epoch.
+    /// Sets the domain's epoch.
     SetEpoch(Revision),
-    /// The domain goes with all its rows.
+    /// Drops the domain, with all its rows.
     DropDomain(i64),
-    /// A token that isn't there, with its role.
+    /// Adds a token that isn't there, with its role.
     AddToken {
         number: i64,
         digest: Digest,
         role: Role,
     },
-    /// The role of a token that is there.
+    /// Sets the role of a token that is there.
     SetRole {
         number: i64,
         digest: Digest,
         role: Role,
     },
-    /// The token goes.
+    /// Drops the token.
     DropToken {
         number: i64,
         digest: Digest,
     },
-    /// A document that isn't there, with its text. It isn't active.
+    /// Adds a document that isn't there, with its text. It isn't active.
     AddDocument {
         number: i64,
         key: DocumentKey,
         text: Items<u8>,
     },
-    /// Whether references may resolve to the document.
+    /// Sets whether references may resolve to the document.
     SetActive {
         number: i64,
         key: DocumentKey,
         active: bool,
     },
-    /// The document goes.
+    /// Drops the document.
     DropDocument {
         number: i64,
         key: DocumentKey,
     },
-    /// The root of a domain that has none.
+    /// Adds the root of a domain that has none.
     AddRoot {
         number: i64,
         root: Reference,
     },
-    /// The root goes, if there is one.
+    /// Drops the root, if there is one.
     DropRoot(i64),
-    /// A row of the source, with its issuer, at a place that has none.
+    /// Adds a row of the source, with its issuer, at a place that has none.
     AddSourceRow {
         number: i64,
         place: i64,
         row: SourceRow,
     },
-    /// All rows of the source go.
+    /// Drops all rows of the source.
     DropSource(i64),
 }

@@ -16,7 +16,7 @@ ghost use Rattle.xa_store.specs.World.{Rows, world_of};
 use crate::change::found::{document_to_change, domain_to_change};
 use crate::change::laws::key_reads_back;
 use crate::change::number::next_revision;
-use crate::change::{carry_out, raising_steps};
+use crate::change::{carry_out, step_and_epoch};
 use crate::query::count::document_count;
 use crate::query::document::document_of;
 use crate::query::document_row::DocumentFound;
@@ -77,7 +77,7 @@ fn plan_upload_new<S: Alter>(
         key,
         text: copy,
     };
-    Ok(raising_steps(alloc, step, revision)?)
+    Ok(step_and_epoch(alloc, step, revision)?)
 }
 
 /// The plan for a document that is there with that text: the same text again changes nothing. `found` is
@@ -137,7 +137,7 @@ fn plan_upload<S: Alter>(
     plan_upload_in_domain(alloc, conn, found, key, text)
 }
 
-/// Whether the steps of an upload put a document in.
+/// Whether the steps of an upload add a document.
 fn upload_by(steps: &[Step]) -> Upload
     ensures { result ≡ upload_by steps.now }
 {
@@ -191,7 +191,7 @@ fn plan_active_over(
         key: copy,
         active,
     };
-    Ok(raising_steps(alloc, step, revision)?)
+    Ok(step_and_epoch(alloc, step, revision)?)
 }
 
 /// The plan for the activity of a document of a domain that was found.
@@ -242,7 +242,7 @@ pub(crate) fn set_active<S: Alter>(
     carry_out(alloc, conn, planned)
 }
 
-/// The plan to take out a document that is there.
+/// The plan to delete a document that is there.
 fn plan_delete_over(
     alloc: Global,
     found: DomainFound,
@@ -262,10 +262,10 @@ fn plan_delete_over(
         number: found.number,
         key: copy,
     };
-    Ok(raising_steps(alloc, step, revision)?)
+    Ok(step_and_epoch(alloc, step, revision)?)
 }
 
-/// The plan to take a document out of a domain that was found.
+/// The plan to delete a document of a domain that was found.
 fn plan_delete_in_domain<S: Alter>(
     alloc: Global,
     conn: &mut Connection<S>,

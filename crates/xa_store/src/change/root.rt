@@ -1,4 +1,4 @@
-//! The root of a domain is set, or taken away.
+//! The root of a domain is set or dropped.
 ghost use Rattle.std.specs.Prelude.{◌≡◌, IfOk};
 ghost use Rattle.sqlite.specs.Held.{state};
 ghost use Rattle.xa_records.specs.Changes.{root_set, within};
@@ -75,7 +75,7 @@ fn plan_root<S: Alter>(
     plan_root_over(alloc, found, &there, root)
 }
 
-/// Sets the root of the domain of that name, or takes it away.
+/// Sets the root of the domain of that name, or drops it.
 pub(crate) fn set<S: Alter>(
     alloc: Global,
     conn: &mut Connection<S>,

@@ -61,7 +61,7 @@ fn check_rows(alloc: Global, rows: &[SourceRow]) -> Result<(), Failure>
     Ok(())
 }
 
-/// The steps, and then those that put the rows in.
+/// The steps, and then those that add the rows.
 fn row_steps(
     mut steps: Items<Step>,
     number: i64,

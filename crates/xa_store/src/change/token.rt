@@ -1,4 +1,4 @@
-//! A token is put in, gets another role, or is taken out.
+//! A token is put into a domain, gets another role, or is dropped.
 ghost use Rattle.std.specs.Prelude.{◌≡◌, ℕ, nat_lt, List, None};
 ghost use Rattle.sqlite.specs.Held.{state};
 ghost use Rattle.xa_records.specs.Changes.{token_dropped, token_put, within};
@@ -79,7 +79,7 @@ fn plan_put_in_domain<S: Alter>(
     }
 }
 
-/// The plan, or why the token isn't put in.
+/// The plan, or why the token isn't put into the domain.
 fn plan_put<S: Alter>(
     alloc: Global,
     conn: &mut Connection<S>,
@@ -109,8 +109,8 @@ pub(crate) fn put<S: Alter>(
     carry_out(alloc, conn, planned)
 }
 
-/// The plan to take a token out of a domain that was found.
-fn plan_take_out_in_domain<S: Alter>(
+/// The plan to drop a token of a domain that was found.
+fn plan_drop_token_in_domain<S: Alter>(
     alloc: Global,
     conn: &mut Connection<S>,
     found: DomainFound,
@@ -127,8 +127,8 @@ fn plan_take_out_in_domain<S: Alter>(
     Ok(one_step(alloc, step)?)
 }
 
-/// The plan, or why the token isn't taken out.
-fn plan_take_out<S: Alter>(
+/// The plan, or why the token isn't dropped.
+fn plan_drop_token<S: Alter>(
     alloc: Global,
     conn: &mut Connection<S>,
     name: &Text,
@@ -138,11 +138,11 @@ fn plan_take_out<S: Alter>(
     ensures plans { PlansIn S.Store (within (token_dropped digest)) name.now conn.old conn.new result }
 {
     let found = domain_to_change(conn, name)?;
-    plan_take_out_in_domain(alloc, conn, found, digest)
+    plan_drop_token_in_domain(alloc, conn, found, digest)
 }
 
-/// Takes a token out of the domain of that name.
-pub(crate) fn take_out<S: Alter>(
+/// Drops a token of the domain of that name.
+pub(crate) fn drop_token<S: Alter>(
     alloc: Global,
     conn: &mut Connection<S>,
     name: &Text,
@@ -151,6 +151,6 @@ pub(crate) fn take_out<S: Alter>(
     ensures turns { Turns (within (token_dropped digest)) name.now
         (state S.Store conn.old) (state S.Store conn.new) result }
 {
-    let planned = plan_take_out(alloc, conn, name, digest);
+    let planned = plan_drop_token(alloc, conn, name, digest);
     carry_out(alloc, conn, planned)
 }

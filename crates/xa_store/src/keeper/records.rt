@@ -90,7 +90,7 @@ impl<S: Alter> Records for SqlRecords<S> {
         name: &Text,
         digest: Digest,
     ) -> Result<(), ChangeError> {
-        let done = token::take_out(alloc, &mut self.conn, name, digest);
+        let done = token::drop_token(alloc, &mut self.conn, name, digest);
         self.health.after_change(&mut self.conn, done)
     }
 

@@ -84,7 +84,7 @@ pub(crate) fn set_active<S: Alter>(
     set_active_at(tx, number, key, &version, active)
 }
 
-/// Takes a document out.
+/// Drops a document.
 pub(crate) fn drop_document<S: Alter>(
     alloc: Global,
     tx: &mut Transaction<'_, S>,

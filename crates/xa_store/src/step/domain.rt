@@ -53,7 +53,7 @@ pub(crate) fn set_epoch<S: Alter>(
     )
 }
 
-/// Takes a domain out, with all that is in it.
+/// Drops a domain, with all that is in it.
 pub(crate) fn drop_domain<S: Alter>(tx: &mut Transaction<'_, S>, number: i64) -> Result<(), Failure>
     ensures same_reference { tx.new.conn.ghost_name ≡ tx.old.conn.ghost_name }
     ensures taken { IsTakenBy S.Store (DropDomain number) tx.old.conn.now tx.new.conn.now result }

@@ -12,7 +12,7 @@ use std::alloc::Global;
 use xa_policy::Reference;
 use xa_records::Failure;
 
-/// Puts the root in.
+/// Adds a root.
 pub(crate) fn add_root<S: Alter>(
     alloc: Global,
     tx: &mut Transaction<'_, S>,
@@ -39,7 +39,7 @@ pub(crate) fn add_root<S: Alter>(
     )
 }
 
-/// Takes the root out.
+/// Drops the root.
 pub(crate) fn drop_root<S: Alter>(tx: &mut Transaction<'_, S>, number: i64) -> Result<(), Failure>
     ensures same_reference { tx.new.conn.ghost_name ≡ tx.old.conn.ghost_name }
     ensures taken { IsTakenBy S.Store (DropRoot number) tx.old.conn.now tx.new.conn.now result }

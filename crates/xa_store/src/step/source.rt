@@ -41,7 +41,7 @@ pub(crate) fn add_source_row<S: Alter>(
     )
 }
 
-/// Takes all rows of the source out.
+/// Drops all rows of the source.
 pub(crate) fn drop_source<S: Alter>(tx: &mut Transaction<'_, S>, number: i64) -> Result<(), Failure>
     ensures same_reference { tx.new.conn.ghost_name ≡ tx.old.conn.ghost_name }
     ensures taken { IsTakenBy S.Store (DropSource number) tx.old.conn.now tx.new.conn.now result }

@@ -55,7 +55,7 @@ pub(crate) fn set_role<S: Alter>(
     )
 }
 
-/// Takes a token out.
+/// Drops a token.
 pub(crate) fn drop_token<S: Alter>(
     tx: &mut Transaction<'_, S>,
     number: i64,

@@ -15,7 +15,7 @@ pub returns : goal.returns
 returns c =
     let low : SFits w64 c.args.found.number = search rules in
     let copy : c.in_ok-copy.copy ≡ c.args.key.now = first_of (search rules, cc) in
-    let steps = rw (to_z-of_z w64 c.args.found.number low, c.in_ok-revision.ensures.number) at (rw copy at c.in_ok-raising_steps.ensures) in
+    let steps = rw (to_z-of_z w64 c.args.found.number low, c.in_ok-revision.ensures.number) at (rw copy at c.in_ok-step_and_epoch.ensures) in
     record {
       plans = λ name rows are up is finds.
           subst (λ steps. Plans steps (within (activity_set c.args.key.now c.args.active)) name rows) (sym steps)

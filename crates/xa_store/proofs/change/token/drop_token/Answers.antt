@@ -1,10 +1,10 @@
 use Rattle.xa_store.proofs.Common.{token_dropped, within}
 use Rattle.xa_store.proofs.TurnLemmas.{carried}
-use Rattle.xa_store.proofs.change.token.take_out.Goals as goal
+use Rattle.xa_store.proofs.change.token.drop_token.Goals as goal
 
 pub returns : goal.returns
 returns g c =
-    let plan = c.plan_take_out-planned in
+    let plan = c.plan_drop_token-planned in
     record {
       turns = carried g.S.Store (within (token_dropped c.args.digest)) c.args.name.now c.args.conn.now plan.new.conn c.carry_out.new.conn plan.ensures.only_reads.quiet plan.result plan.ensures.only_reads.opens plan.ensures.plans
           c.carry_out.result c.carry_out.ensures.runs c.carry_out.ensures.keeps;

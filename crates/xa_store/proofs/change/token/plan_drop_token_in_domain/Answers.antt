@@ -3,7 +3,7 @@ use Rattle.xa_store.proofs.Common.{to_z-of_z, state, token_dropped, within, rows
 use Rattle.xa_store.specs.Turns.{Plans}
 use Rattle.xa_store.proofs.AbsentLemmas.{refused_plan}
 use Rattle.xa_store.proofs.TokenPlans.{plan_drop, plan_no_drop}
-use Rattle.xa_store.proofs.change.token.plan_take_out_in_domain.Goals as goal
+use Rattle.xa_store.proofs.change.token.plan_drop_token_in_domain.Goals as goal
 
 pub returns-clause-plans : goal.returns-clause-plans
 returns-clause-plans g c = λ clean ours name is.

@@ -1,7 +1,7 @@
 use Rattle.std.proofs.Common.{◌≡◌, Err, refl, rules}
 use Rattle.xa_store.proofs.Common.{state, token_dropped, within, rows_of}
 use Rattle.xa_store.proofs.AbsentLemmas.{absent_plan}
-use Rattle.xa_store.proofs.change.token.plan_take_out.Goals as goal
+use Rattle.xa_store.proofs.change.token.plan_drop_token.Goals as goal
 
 pub returns-in_err-found-clause-plans : goal.returns-in_err-found-clause-plans
 returns-in_err-found-clause-plans g c = λ clean ours.
