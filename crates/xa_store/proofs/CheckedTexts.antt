@@ -4,7 +4,7 @@ use Rattle.sqlite.specs.Listing.{understood}
 use Rattle.xa_store.proofs.Common.{Query, col, CheckedTable, Domains, Tokens, Documents, Roots, Attributes, Sources, SchemaVersion, Schema1, Schema2, read_columns, schema_of, sources_in, tree_of}
 use Rattle.sqlite_tied.specs.Compute.{everything}
 use Rattle.xa_store.specs.Check.{has_table, places_query, rows_query}
-use Rattle.xa_store.specs.Texts.{meta_shown}
+use Rattle.xa_store.specs.Texts.{meta_rows}
 use Rattle.xa_store.proofs.TextLemmas.{of_table, reading, IsQuery, IsQueryIn}
 
 abbrev pub query_of : CheckedTable → Query
@@ -52,7 +52,7 @@ left_is = (refl, refl, (refl, refl))
 abbrev pub meta_query : Query
 meta_query = of_table 0 [] (col 1 0 ∷ col 1 2 ∷ col 1 3 ∷ []) (0 ∷ [])
 
-pub meta_read_is : (version : SchemaVersion) → IsQueryIn (schema_of version) meta_shown (reading meta_query (codes "id" ∷ codes "schema_no" ∷ codes "next_number" ∷ []))
+pub meta_read_is : (version : SchemaVersion) → IsQueryIn (schema_of version) meta_rows (reading meta_query (codes "id" ∷ codes "schema_no" ∷ codes "next_number" ∷ []))
 unfolding understood everything
 meta_read_is Schema1 = (refl, refl, (refl, refl))
 meta_read_is Schema2 = (refl, refl, (refl, refl))

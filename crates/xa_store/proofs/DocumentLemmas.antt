@@ -8,26 +8,26 @@ use Rattle.xa_store.specs.Lookup.{FindsDocument, found_of}
 use Rattle.xa_store.specs.Rows.{given as given_by, version_in}
 use Rattle.xa_store.specs.Columns.{TellsOne, document_told, listed_told, text_told}
 use Rattle.xa_store.specs.Steps.{is_document}
-use Rattle.xa_store.specs.Texts.{document_shown, kinds_shown, documents_shown, active_shown}
+use Rattle.xa_store.specs.Texts.{show_document, show_document_kinds, show_documents, show_active_documents}
 use Rattle.xa_store.proofs.EntryLemmas.{got, has}
 use Rattle.xa_store.proofs.FilterLemmas.{filter_both}
 use Rattle.xa_store.proofs.FoundLemmas.{finds_one, found_is, found_all, find_both, map_alike, read_back}
 use Rattle.xa_store.proofs.HitLemmas.{document_hit, kinds_hit, documents_hit}
 use Rattle.xa_store.proofs.OrderedLemmas.{all_among, apart_among, apart_then, entries_sorted, rises_sorted}
 use Rattle.xa_store.proofs.SqlLemmas.{Answered, answered, hits}
-use Rattle.xa_store.proofs.TextLemmas.{is, is_one, document_shown_is, kinds_shown_is, documents_shown_is, active_shown_is}
+use Rattle.xa_store.proofs.TextLemmas.{is, is_one, show_document_is, show_document_kinds_is, show_documents_is, show_active_documents_is}
 
-pub document_plain : IsPlain (understood schema_2 document_shown)
-document_plain = document_shown_is.2
+pub document_plain : IsPlain (understood schema_2 show_document)
+document_plain = show_document_is.2
 
-pub kinds_plain : IsPlain (understood schema_2 kinds_shown)
-kinds_plain = kinds_shown_is.2
+pub kinds_plain : IsPlain (understood schema_2 show_document_kinds)
+kinds_plain = show_document_kinds_is.2
 
-pub documents_plain : IsPlain (understood schema_2 documents_shown)
-documents_plain = documents_shown_is.2
+pub documents_plain : IsPlain (understood schema_2 show_documents)
+documents_plain = show_documents_is.2
 
-pub active_plain : IsPlain (understood schema_2 active_shown)
-active_plain = active_shown_is.2
+pub active_plain : IsPlain (understood schema_2 show_active_documents)
+active_plain = show_active_documents_is.2
 
 pub reads_as_version : (version : List ℕ) → read_version (version_text version) ≡ Ok version → version_in (version_text version) ≡ version
 unfolding version_in
@@ -43,7 +43,7 @@ backs db p written = all_among p IsBack IsBack (λ d passes back. back) (map doc
 -- ---- one by its key
 
 module _ (old new : State) (number : ℤ) (key : DocumentKey) (reads : version_in (version_text key.version) ≡ key.version) (ours : Ours old) (rows : List Row)
-    (shown : Shown document_shown (Int number ∷ Int (kind_number key.kind) ∷ Text key.id ∷ Text (version_text key.version) ∷ []) old new rows) where
+    (shown : Shown show_document (Int number ∷ Int (kind_number key.kind) ∷ Text key.id ∷ Text (version_text key.version) ∷ []) old new rows) where
   abbrev db : Trees
   db = old.now.trees
 
@@ -56,7 +56,7 @@ module _ (old new : State) (number : ℤ) (key : DocumentKey) (reads : version_i
   answer : Answered 5 tests (col 1 5 ∷ col 1 6 ∷ []) [] db refl given rows
   answer =
       answered 5 tests (col 1 5 ∷ col 1 6 ∷ []) [] db refl given rows
-      (reads_as document_shown given old new schema_2 ours.rests.schema _ document_shown_is.0 document_shown_is.2 document_shown_is.1 rows shown).answer
+      (reads_as show_document given old new schema_2 ours.rests.schema _ show_document_is.0 show_document_is.2 show_document_is.1 rows shown).answer
 
   all_hit : AllByRecursion (λ d. hits 5 tests (col 1 5 ∷ col 1 6 ∷ []) [] db refl given (document_row d) ≡ is_document number key d) (map document_in (db 5))
   all_hit =
@@ -165,11 +165,11 @@ module _ (old new : State) (number : ℤ) (ours : Ours old) where
   abbrev list_shown : DocumentRow → Row
   list_shown d = Int (kind_number d.key.kind) ∷ Text d.key.id ∷ Text (version_text d.key.version) ∷ Int (bit d.active) ∷ []
 
-  pub listing_told : (rows : List Row) → Shown documents_shown (Int number ∷ []) old new rows → (items : List Listed) → items ≡ map listed_told rows
+  pub listing_told : (rows : List Row) → Shown show_documents (Int number ∷ []) old new rows → (items : List Listed) → items ≡ map listed_told rows
       → IsPermutation (map (list_row trees number ours.tables) (mine trees number ours.tables)) items
   listing_told rows shown items told =
       let answer = answered 5 (is 1 0 ∷ []) (col 1 2 ∷ col 1 3 ∷ col 1 4 ∷ col 1 6 ∷ []) (2 ∷ 3 ∷ 4 ∷ []) trees refl (Int number ∷ []) rows
-      (reads_as documents_shown (Int number ∷ []) old new schema_2 ours.rests.schema _ documents_shown_is.0 documents_shown_is.2 documents_shown_is.1 rows shown).answer in
+      (reads_as show_documents (Int number ∷ []) old new schema_2 ours.rests.schema _ show_documents_is.0 show_documents_is.2 show_documents_is.1 rows shown).answer in
       let all = found_all 5 (is 1 0 ∷ []) (col 1 2 ∷ col 1 3 ∷ col 1 4 ∷ col 1 6 ∷ []) (2 ∷ 3 ∷ 4 ∷ []) trees refl (Int number ∷ []) document_row document_in ours.tables.documents.written of_number
       (all_of _ (documents_hit number trees) (map document_in (trees 5))) rows answer in
       let each = map-map listed_told list_shown (filter of_number (map document_in (trees 5)))
@@ -180,10 +180,10 @@ module _ (old new : State) (number : ℤ) (ours : Ours old) where
   abbrev only_kind : DocumentRow → Row
   only_kind d = Int (kind_number d.key.kind) ∷ []
 
-  pub documents_counted : (rows : List Row) → Shown kinds_shown (Int number ∷ []) old new rows → length rows ≡ len (state_at (rows_of trees) number).documents
+  pub documents_counted : (rows : List Row) → Shown show_document_kinds (Int number ∷ []) old new rows → length rows ≡ len (state_at (rows_of trees) number).documents
   documents_counted rows shown =
       let answer = answered 5 (is 1 0 ∷ []) (col 1 2 ∷ []) [] trees refl (Int number ∷ []) rows
-      (reads_as kinds_shown (Int number ∷ []) old new schema_2 ours.rests.schema _ kinds_shown_is.0 kinds_shown_is.2 kinds_shown_is.1 rows shown).answer in
+      (reads_as show_document_kinds (Int number ∷ []) old new schema_2 ours.rests.schema _ show_document_kinds_is.0 show_document_kinds_is.2 show_document_kinds_is.1 rows shown).answer in
       let all = found_all 5 (is 1 0 ∷ []) (col 1 2 ∷ []) [] trees refl (Int number ∷ []) document_row document_in ours.tables.documents.written of_number
       (all_of _ (kinds_hit number trees) (map document_in (trees 5))) rows answer in
       length_permutation _ rows all ∙ length-map (filter of_number (map document_in (trees 5))) only_kind
@@ -205,11 +205,11 @@ module _ (old new : State) (number : ℤ) (ours : Ours old) where
   abbrev text_shown : DocumentRow → Row
   text_shown d = Int (kind_number d.key.kind) ∷ Text d.key.id ∷ Text (version_text d.key.version) ∷ Blob d.text ∷ []
 
-  pub texts_told : (rows : List Row) → Shown active_shown (Int number ∷ []) old new rows → (items : List ActiveText) → items ≡ map text_told rows
+  pub texts_told : (rows : List Row) → Shown show_active_documents (Int number ∷ []) old new rows → (items : List ActiveText) → items ≡ map text_told rows
       → IsPermutation (map (text_row trees number ours.tables) (filter (is_active trees number ours.tables) (mine trees number ours.tables))) items
   texts_told rows shown items told =
       let answer = answered 5 (is 1 0 ∷ is_one 6 ∷ []) (col 1 2 ∷ col 1 3 ∷ col 1 4 ∷ col 1 5 ∷ []) (2 ∷ 3 ∷ 4 ∷ []) trees refl (Int number ∷ []) rows
-      (reads_as active_shown (Int number ∷ []) old new schema_2 ours.rests.schema _ active_shown_is.0 active_shown_is.2 active_shown_is.1 rows shown).answer in
+      (reads_as show_active_documents (Int number ∷ []) old new schema_2 ours.rests.schema _ show_active_documents_is.0 show_active_documents_is.2 show_active_documents_is.1 rows shown).answer in
       let all = found_all 5 (is 1 0 ∷ is_one 6 ∷ []) (col 1 2 ∷ col 1 3 ∷ col 1 4 ∷ col 1 5 ∷ []) (2 ∷ 3 ∷ 4 ∷ []) trees refl (Int number ∷ []) document_row document_in
       ours.tables.documents.written of_number_active (all_of _ active_hit (map document_in (trees 5))) rows answer in
       let each = map-map text_told text_shown (filter of_number_active (map document_in (trees 5)))

@@ -13,7 +13,7 @@ use Rattle.xa_store.proofs.SqlLemmas.{answered, hits}
 use Rattle.xa_store.proofs.ColumnNumbers.{of_activity, of_kind}
 use Rattle.xa_store.proofs.StepLemmas.{Stepped, cast_int, cast_null}
 use Rattle.xa_store.proofs.TableLemmas.{updates, deletes, inserts}
-use Rattle.xa_store.proofs.TextLemmas.{is, activity_set_is, document_added_is, document_dropped_is}
+use Rattle.xa_store.proofs.TextLemmas.{is, set_active_is, add_document_is, drop_document_is}
 use Rattle.xa_store.proofs.WriteLemmas.{next_rowid_is, row_added, row_updated, rows_removed}
 
 document_back : (d : DocumentRow) → KeyReads d.key → document_in (document_row d) ≡ d
@@ -57,13 +57,13 @@ module _ (old new : State) (has : old.now.schema ≡ schema_2) (count : ℕ) (wa
       (λ d back. document_hit n key db d reads (key_of_back d back)) ds backs
 
   -- a document comes
-  pub document_added_stepped : (body : List ℕ) → filter (is_document n key) ds ≡ [] → Executes text.document_added (Int n ∷ Int (kind_number key.kind) ∷ Text key.id ∷ Text (version_text key.version) ∷ Blob body ∷ []) old new (Ok count)
+  pub document_added_stepped : (body : List ℕ) → filter (is_document n key) ds ≡ [] → Executes text.add_document (Int n ∷ Int (kind_number key.kind) ∷ Text key.id ∷ Text (version_text key.version) ∷ Blob body ∷ []) old new (Ok count)
       → Stepped old new (AddDocument n key body)
   document_added_stepped body none h =
       let given = Int n ∷ Int (kind_number key.kind) ∷ Text key.id ∷ Text (version_text key.version) ∷ Blob body ∷ [] in
       let document : DocumentRow = record { rowid = next_key rowid_of ds; number = n; key = key; text = body; active = false } in
       let row = Null ∷ Int n ∷ Int (kind_number key.kind) ∷ Text key.id ∷ Text (version_text key.version) ∷ Blob body ∷ Int (pos 0) ∷ [] in
-      let adds = inserts text.document_added given old new has 3 policies refl count _ 7 refl refl document_added_is h in
+      let adds = inserts text.add_document given old new has 3 policies refl count _ 7 refl refl add_document_is h in
       let bare : cast_row policies row ≡ row = λ i. cast_null i ∷ cast_int n i ∷ cast_int (kind_number key.kind) i ∷ Text key.id ∷ Text (version_text key.version) ∷ Blob body ∷ cast_int (pos 0) i ∷ [] in
       let id : next_rowid (db 5) ≡ next_key rowid_of ds = ap next_rowid was.documents.written ∙ next_rowid_is document_row rowid_of (λ _. refl) ds in
       let put : with_rowid Chosen (db 5) (cast_row policies row) ≡ document_row document =
@@ -78,7 +78,7 @@ module _ (old new : State) (has : old.now.schema ≡ schema_2) (count : ℕ) (wa
       }
 
   -- whether references may resolve to a document
-  pub activity_stepped : (active : Bool) → Executes text.activity_set (Int n ∷ Int (kind_number key.kind) ∷ Text key.id ∷ Text (version_text key.version) ∷ Int (bit active) ∷ []) old new (Ok count)
+  pub activity_stepped : (active : Bool) → Executes text.set_active (Int n ∷ Int (kind_number key.kind) ∷ Text key.id ∷ Text (version_text key.version) ∷ Int (bit active) ∷ []) old new (Ok count)
       → Stepped old new (SetActive n key active)
   activity_stepped active h =
       let given = Int n ∷ Int (kind_number key.kind) ∷ Text key.id ∷ Text (version_text key.version) ∷ Int (bit active) ∷ [] in
@@ -86,7 +86,7 @@ module _ (old new : State) (has : old.now.schema ≡ schema_2) (count : ℕ) (wa
       let shown = col 1 0 ∷ col 1 0 ∷ col 1 1 ∷ col 1 2 ∷ col 1 3 ∷ col 1 4 ∷ col 1 5 ∷ col 0 4 ∷ [] in
       let p = is_document n key in
       let f : DocumentRow → DocumentRow = λ d. record d { active = active } in
-      let edits = updates text.activity_set given old new has 3 policies refl count _ activity_set_is h in
+      let edits = updates text.set_active given old new has 3 policies refl count _ set_active_is h in
       let answer = answered 5 tests shown [] db refl given edits.rows edits.answer.answer in
       let few = apart_few same_document p (documents_alike n key) ds was.documents.apart in
       let wrote = row_updated document_row rowid_of (λ _. refl) policies db next ds was.documents.written was.documents.rise tests shown refl given p all_hit
@@ -103,11 +103,11 @@ module _ (old new : State) (has : old.now.schema ≡ schema_2) (count : ℕ) (wa
       }
 
   -- a document goes
-  pub document_dropped_stepped : Executes text.document_dropped params old new (Ok count) → Stepped old new (DropDocument n key)
+  pub document_dropped_stepped : Executes text.drop_document params old new (Ok count) → Stepped old new (DropDocument n key)
   document_dropped_stepped h =
       let tests = is 1 0 ∷ is 2 1 ∷ is 3 2 ∷ is 4 3 ∷ [] in
       let p = is_document n key in
-      let edits = deletes text.document_dropped params old new has 3 policies refl count _ document_dropped_is h in
+      let edits = deletes text.drop_document params old new has 3 policies refl count _ drop_document_is h in
       let answer = answered 5 tests (col 1 0 ∷ []) [] db refl params edits.rows edits.answer.answer in
       let wrote = rows_removed document_row rowid_of (λ _. refl) policies db next ds was.documents.written was.documents.rise tests (col 1 0 ∷ []) refl params p all_hit
       (λ _. refl) refl edits.rows answer edits.edited in

@@ -4,14 +4,14 @@ use Rattle.xa_store.proofs.Common.{AllByRecursion, ints, Row, column, State, Sho
 use Rattle.xa_store.specs.declared.query.domain.DomainFound.{DomainFound}
 use Rattle.xa_store.specs.Lookup.{FindsDomain, TellDomain}
 use Rattle.xa_store.specs.Steps.{is_named}
-use Rattle.xa_store.specs.Texts.{domain_shown}
+use Rattle.xa_store.specs.Texts.{show_domain}
 use Rattle.xa_store.proofs.FoundLemmas.{found_one, found_none}
 use Rattle.xa_store.proofs.HitLemmas.{name_hit}
 use Rattle.xa_store.proofs.SqlLemmas.{Answered, answered, hits}
-use Rattle.xa_store.proofs.TextLemmas.{is, domain_shown_is}
+use Rattle.xa_store.proofs.TextLemmas.{is, show_domain_is}
 
-pub domain_plain : IsPlain (understood schema_2 domain_shown)
-domain_plain = domain_shown_is.2
+pub domain_plain : IsPlain (understood schema_2 show_domain)
+domain_plain = show_domain_is.2
 
 pub same_int_value : (a b : ℤ) → ◌≡◌ {A = Value} (Int a) (Int b) → a ≡ b
 same_int_value a b e = cc
@@ -20,14 +20,14 @@ pub never_negative : (n : ℤ) → pos 0 ≤ℤ n → n ≡ pos (nat_of n)
 never_negative (pos n) h = refl
 never_negative (negsuc n) h = absurd (omega (arith, ints))
 
-module _ (old new : State) (name : List ℕ) (ours : Ours old) (rows : List Row) (shown : Shown domain_shown (Text name ∷ []) old new rows) where
+module _ (old new : State) (name : List ℕ) (ours : Ours old) (rows : List Row) (shown : Shown show_domain (Text name ∷ []) old new rows) where
   abbrev db : Trees
   db = old.now.trees
 
   answer : Answered 1 (is 2 0 ∷ []) (col 1 0 ∷ col 1 3 ∷ []) [] db refl (Text name ∷ []) rows
   answer =
       answered 1 (is 2 0 ∷ []) (col 1 0 ∷ col 1 3 ∷ []) [] db refl (Text name ∷ []) rows
-      (reads_as domain_shown (Text name ∷ []) old new schema_2 ours.rests.schema _ domain_shown_is.0 domain_shown_is.2 domain_shown_is.1 rows shown).answer
+      (reads_as show_domain (Text name ∷ []) old new schema_2 ours.rests.schema _ show_domain_is.0 show_domain_is.2 show_domain_is.1 rows shown).answer
 
   all_hit : AllByRecursion (λ x. hits 1 (is 2 0 ∷ []) (col 1 0 ∷ col 1 3 ∷ []) [] db refl (Text name ∷ []) (domain_row x) ≡ is_named name x) (map domain_in (db 1))
   all_hit = all_of _ (name_hit name db) (map domain_in (db 1))
@@ -40,7 +40,7 @@ module _ (old new : State) (name : List ℕ) (ours : Ours old) (rows : List Row)
   domain_absent none =
       found_none 1 (is 2 0 ∷ []) (col 1 0 ∷ col 1 3 ∷ []) [] db refl (Text name ∷ []) domain_row domain_in ours.tables.domains.written (is_named name) all_hit rows none answer
 
-domain_finds : (old new : State) (name : List ℕ) → Ours old → (rows : List Row) → Shown domain_shown (Text name ∷ []) old new rows → (found : Option DomainFound) → TellDomain rows found
+domain_finds : (old new : State) (name : List ℕ) → Ours old → (rows : List Row) → Shown show_domain (Text name ∷ []) old new rows → (found : Option DomainFound) → TellDomain rows found
     → FindsDomain name (rows_of old.now.trees) found
 domain_finds old new name ours [] shown None tell = domain_absent old new name ours [] shown refl
 domain_finds old new name ours [] shown (Some found) tell = absurd tell
@@ -61,7 +61,7 @@ domain_finds old new name ours (row ∷ []) shown (Some found) tell =
 domain_finds old new name ours (row ∷ other ∷ more) shown None tell = absurd tell
 domain_finds old new name ours (row ∷ other ∷ more) shown (Some found) tell = absurd tell
 
-pub domain_finds_in : (old new : State) (name : List ℕ) → Ours old → (rows : List Row) → Shown domain_shown (Text name ∷ []) old new rows → (r : Result (Option DomainFound) Failure) → IfOk r (TellDomain rows)
+pub domain_finds_in : (old new : State) (name : List ℕ) → Ours old → (rows : List Row) → Shown show_domain (Text name ∷ []) old new rows → (r : Result (Option DomainFound) Failure) → IfOk r (TellDomain rows)
     → IfOk r (FindsDomain name (rows_of old.now.trees))
 domain_finds_in old new name ours rows shown (Ok found) tell = domain_finds old new name ours rows shown found tell
 domain_finds_in old new name ours rows shown (Err e) tell = tt

@@ -9,7 +9,7 @@ use Rattle.xa_store.proofs.HitLemmas.{turn_bytes}
 use Rattle.xa_store.proofs.HoldLemmas.{Back, came, domains_now}
 use Rattle.xa_store.proofs.StepLemmas.{Stepped, cast_int, cast_null}
 use Rattle.xa_store.proofs.TableLemmas.{inserts}
-use Rattle.xa_store.proofs.TextLemmas.{domain_added_is}
+use Rattle.xa_store.proofs.TextLemmas.{add_domain_is}
 use Rattle.xa_store.proofs.WriteLemmas.{row_added}
 
 never_both : (b : Bool) → (b && false) ≡ false
@@ -26,12 +26,12 @@ module _ (old new : State) (has : old.now.schema ≡ schema_2) (count : ℕ) (wa
   abbrev number_of : DomainRow → ℤ
   number_of d = d.number
 
-  pub domain_added_stepped : (n : ℤ) (name : List ℕ) → filter (is_named name) ds ≡ [] → Executes text.domain_added (Int n ∷ Text name ∷ []) old new (Ok count) → Stepped old new (AddDomain n name)
+  pub domain_added_stepped : (n : ℤ) (name : List ℕ) → filter (is_named name) ds ≡ [] → Executes text.add_domain (Int n ∷ Text name ∷ []) old new (Ok count) → Stepped old new (AddDomain n name)
   domain_added_stepped n name none h =
       let params = Int n ∷ Text name ∷ [] in
       let domain : DomainRow = record { number = n; name = name; epoch = pos 0 } in
       let row = Int n ∷ Null ∷ Text name ∷ Int (pos 0) ∷ [] in
-      let adds = inserts text.domain_added params old new has 1 domains refl count _ 4 refl refl domain_added_is h in
+      let adds = inserts text.add_domain params old new has 1 domains refl count _ 4 refl refl add_domain_is h in
       let bare : cast_row domains row ≡ row = λ i. cast_int n i ∷ cast_null i ∷ Text name ∷ cast_int (pos 0) i ∷ [] in
       let put : with_rowid Chosen (db 1) (cast_row domains row) ≡ domain_row domain = ap (with_rowid Chosen (db 1)) bare in
       let wrote = row_added domain_row number_of (λ _. refl) domains db new.now.trees ds was.domains.written was.domains.rise domain row put adds.edited in

@@ -11,7 +11,7 @@ use Rattle.xa_store.proofs.HoldLemmas.{Hold, hold, is_other, of_other, went_out}
 use Rattle.xa_store.proofs.SqlLemmas.{answered, one_hit}
 use Rattle.xa_store.proofs.StepLemmas.{Stepped}
 use Rattle.xa_store.proofs.TableLemmas.{deletes}
-use Rattle.xa_store.proofs.TextLemmas.{is, domain_dropped_is}
+use Rattle.xa_store.proofs.TextLemmas.{is, drop_domain_is}
 use Rattle.xa_store.proofs.WriteLemmas.{passing_rows}
 
 -- ---- the rows that are left
@@ -94,18 +94,18 @@ module _ (old new : State) (has : old.now.schema ≡ schema_2) (count : ℕ) (wa
         (all_acted new.now.trees d all_children (refl, (refl, (refl, (refl, (refl, tt))))) went.2.0 went.0
         (subst (λ stack. Leads schema_2 Enforced went.2.0 went.0 stack (Ok new.now.trees)) (ap (λ r. works schema_2 Enforced 0 1 (r ∷ []) []) row_there ∙ works_of_drop d) went.2.1))
 
-    pub domain_dropped_stepped : Executes text.domain_dropped (Int d.number ∷ []) old new (Ok count) → Stepped old new (DropDomain d.number)
+    pub domain_dropped_stepped : Executes text.drop_domain (Int d.number ∷ []) old new (Ok count) → Stepped old new (DropDomain d.number)
     domain_dropped_stepped h =
         let params = Int d.number ∷ [] in
-        let edits = deletes text.domain_dropped params old new has 1 domains refl count _ domain_dropped_is h in
+        let edits = deletes text.drop_domain params old new has 1 domains refl count _ drop_domain_is h in
         let answer = answered 1 (is 0 0 ∷ []) (col 1 0 ∷ []) [] db refl params edits.rows edits.answer.answer in
         let hit = all_of _ (λ (x : DomainRow). last_term (at_ints false Eq x.number d.number)) ds in
         let passing = passing_rows domain_row number_of (λ _. refl) domains db new.now.trees ds was.domains.written was.domains.rise (is 0 0 ∷ []) (col 1 0 ∷ []) refl params (λ x. int_eq x.number d.number) hit in
         let alone : edits.rows ≡ (Int d.number ∷ []) ∷ [] = one_hit 1 (is 0 0 ∷ []) (col 1 0 ∷ []) [] db refl params edits.rows (domain_row d) (passing ∙ ap (map domain_row) one) answer in
         record { schema = edits.schema; database = edits.database; tables = all_gone (subst EditedRows alone edits.edited) }
 
-  pub domain_gone_stepped : (n : ℤ) (d : DomainRow) → filter (λ x. int_eq x.number n) ds ≡ d ∷ [] → Executes text.domain_dropped (Int n ∷ []) old new (Ok count) → Stepped old new (DropDomain n)
+  pub domain_gone_stepped : (n : ℤ) (d : DomainRow) → filter (λ x. int_eq x.number n) ds ≡ d ∷ [] → Executes text.drop_domain (Int n ∷ []) old new (Ok count) → Stepped old new (DropDomain n)
   domain_gone_stepped n d one h =
       let number : d.number ≡ n = same_int d.number n (found_passes (λ x. int_eq x.number n) ds d (find_one (λ x. int_eq x.number n) ds d [] one)) in
       subst (λ k. Stepped old new (DropDomain k)) number
-      (domain_dropped_stepped d (subst (λ k. filter (λ x. int_eq x.number k) ds ≡ d ∷ []) (sym number) one) (subst (λ k. Executes text.domain_dropped (Int k ∷ []) old new (Ok count)) (sym number) h))
+      (domain_dropped_stepped d (subst (λ k. filter (λ x. int_eq x.number k) ds ≡ d ∷ []) (sym number) one) (subst (λ k. Executes text.drop_domain (Int k ∷ []) old new (Ok count)) (sym number) h))

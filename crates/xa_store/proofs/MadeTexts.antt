@@ -9,7 +9,7 @@ use Rattle.sqlite.proofs.Callers.{IsPlain}
 use Rattle.sqlite_tied.specs.Compute.{everything}
 use Rattle.xa_store.specs.Creation.{with_meta, with_domains, with_tokens, with_policies, with_roots}
 use Rattle.xa_store.specs.Opening.{no_tables}
-use Rattle.xa_store.specs.Texts.{meta_made, domains_made, tokens_made, policies_made, roots_made, attributes_made, sources_made, meta_begun}
+use Rattle.xa_store.specs.Texts.{create_meta, create_domains, create_tokens, create_policies, create_roots, create_attributes, create_sources, add_meta_row}
 use Rattle.xa_store.proofs.TextLemmas.{IsChange}
 
 -- under the schema the text is the statement that makes the table
@@ -26,37 +26,37 @@ pub all_made : created schema_1 sources ≡ schema_2
 unfolding digits
 all_made = refl
 
-pub meta_is : IsMaking no_tables meta_made meta
+pub meta_is : IsMaking no_tables create_meta meta
 unfolding understood everything
 meta_is = record { command = refl; plain = (refl, refl); defined = refl }
 
-pub domains_is : IsMaking with_meta domains_made domains
+pub domains_is : IsMaking with_meta create_domains domains
 unfolding understood everything
 domains_is = record { command = refl; plain = (refl, refl); defined = refl }
 
-pub tokens_is : IsMaking with_domains tokens_made tokens
+pub tokens_is : IsMaking with_domains create_tokens tokens
 unfolding understood everything
 tokens_is = record { command = refl; plain = (refl, refl); defined = refl }
 
-pub policies_is : IsMaking with_tokens policies_made policies
+pub policies_is : IsMaking with_tokens create_policies policies
 unfolding understood everything
 policies_is = record { command = refl; plain = (refl, refl); defined = refl }
 
-pub roots_is : IsMaking with_policies roots_made roots
+pub roots_is : IsMaking with_policies create_roots roots
 unfolding understood everything
 roots_is = record { command = refl; plain = (refl, refl); defined = refl }
 
-pub attributes_is : IsMaking with_roots attributes_made attributes
+pub attributes_is : IsMaking with_roots create_attributes attributes
 unfolding understood everything
 attributes_is = record { command = refl; plain = (refl, refl); defined = refl }
 
-pub sources_is : IsMaking schema_1 sources_made sources
+pub sources_is : IsMaking schema_1 create_sources sources
 unfolding understood everything
 sources_is = record { command = refl; plain = (refl, refl); defined = refl }
 
 abbrev pub first_row : List Term
 first_row = lit (Int (pos 1)) ∷ lit Null ∷ lit (Int (pos 2)) ∷ lit (Int (pos 1)) ∷ []
 
-pub first_row_is : IsChange meta_begun (Insert 0 (Values first_row 4))
+pub first_row_is : IsChange add_meta_row (Insert 0 (Values first_row 4))
 unfolding understood everything
 first_row_is = (refl, (refl, refl))

@@ -77,15 +77,15 @@ still old new stays empty Sources = stays 10 refl ∙ empty.1.1.1.1.1.1.0
 
 -- a part that was made is there, and those before it still are
 pub taken : (part : Part) (old new : State) (count : ℕ) → IsBefore part old.now → Executes (part_statement part) [] old new (Ok count) → IsAfter part new.now
-taken parts.Meta old new count before h = grown no_tables texts.meta_made meta meta_is refl old new before.schema count h with_meta refl before.empty
-taken parts.Domains old new count before h = grown with_meta texts.domains_made domains domains_is refl old new before.schema count h with_domains refl before.empty
-taken parts.Tokens old new count before h = grown with_domains texts.tokens_made tokens tokens_is refl old new before.schema count h with_tokens refl before.empty
-taken parts.Policies old new count before h = grown with_tokens texts.policies_made policies policies_is refl old new before.schema count h with_policies refl before.empty
-taken parts.Roots old new count before h = grown with_policies texts.roots_made roots roots_is refl old new before.schema count h with_roots refl before.empty
-taken parts.Attributes old new count before h = grown with_roots texts.attributes_made attributes attributes_is refl old new before.schema count h schema_1 schema_1_made before.empty
-taken parts.Sources old new count before h = grown schema_1 texts.sources_made sources sources_is refl old new before.schema count h schema_2 all_made before.empty
+taken parts.Meta old new count before h = grown no_tables texts.create_meta meta meta_is refl old new before.schema count h with_meta refl before.empty
+taken parts.Domains old new count before h = grown with_meta texts.create_domains domains domains_is refl old new before.schema count h with_domains refl before.empty
+taken parts.Tokens old new count before h = grown with_domains texts.create_tokens tokens tokens_is refl old new before.schema count h with_tokens refl before.empty
+taken parts.Policies old new count before h = grown with_tokens texts.create_policies policies policies_is refl old new before.schema count h with_policies refl before.empty
+taken parts.Roots old new count before h = grown with_policies texts.create_roots roots roots_is refl old new before.schema count h with_roots refl before.empty
+taken parts.Attributes old new count before h = grown with_roots texts.create_attributes attributes attributes_is refl old new before.schema count h schema_1 schema_1_made before.empty
+taken parts.Sources old new count before h = grown schema_1 texts.create_sources sources sources_is refl old new before.schema count h schema_2 all_made before.empty
 taken parts.FirstRow old new count before h =
-    let adds = inserts texts.meta_begun [] old new before.schema 0 meta refl count first_row 4 refl refl first_row_is h in
+    let adds = inserts texts.add_meta_row [] old new before.schema 0 meta refl count first_row 4 refl refl first_row_is h in
     let row = Int (pos 1) ∷ Null ∷ Int (pos 2) ∷ Int (pos 1) ∷ [] in
     let put : with_rowid Chosen (old.now.trees 0) (cast_row meta row) ≡ meta_row (pos 1) = ap (with_rowid Chosen (old.now.trees 0)) (meta_cast (pos 1)) in
     let wrote = row_added meta_row (λ _. pos 1) (λ _. refl) meta old.now.trees new.now.trees [] before.empty.0 tt (pos 1) row put adds.edited in

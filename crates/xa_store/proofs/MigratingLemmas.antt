@@ -14,7 +14,7 @@ use Rattle.xa_store.proofs.HoldLemmas.{of_other}
 use Rattle.xa_store.proofs.LastLemmas.{keyed_last, stands_last}
 use Rattle.xa_store.proofs.MadeTexts.{all_made, sources_is}
 use Rattle.xa_store.proofs.MakingLemmas.{came}
-use Rattle.xa_store.proofs.MigratingTexts.{attributes_emptied_is, attributes_emptied_query, filled_collations, filled_given, filled_query, schema_raised_is, schema_raised_query, schema_raised_shown, sources_filled_is}
+use Rattle.xa_store.proofs.MigratingTexts.{empty_attributes_is, attributes_emptied_query, filled_collations, filled_given, filled_query, set_schema_is, schema_raised_query, schema_raised_shown, copy_attributes_is}
 use Rattle.xa_store.proofs.OrderLemmas.{out_by_rowid, sorted_is}
 use Rattle.xa_store.proofs.OursLemmas.{found, in_kind}
 use Rattle.xa_store.proofs.ReadLemmas.{numbers_read, rising}
@@ -130,9 +130,9 @@ module _ (first : Trees) (sound : IsSoundSchema1 first) (old new : State) (count
       it.3 ∙ ap (map (λ (o : Output). o.1)) (sorted_unique (output_cmp filled_query) (output_cmp_total filled_query) (map out (first 8)) it.0 strict same it.2)
       ∙ map-map (λ (o : Output). o.1) out (first 8) ∙ ap (map given) (its_rows first sound).written
 
-  filled : IsBefore stages.Rows first old.now → Executes text.sources_filled [] old new (Ok count) → IsAfter stages.Rows first new.now
+  filled : IsBefore stages.Rows first old.now → Executes text.copy_attributes [] old new (Ok count) → IsAfter stages.Rows first new.now
   filled before h =
-      let adds = inserts_from text.sources_filled [] old new before.schema 6 sources refl count _ refl refl sources_filled_is h in
+      let adds = inserts_from text.copy_attributes [] old new before.schema 6 sources refl count _ refl refl copy_attributes_is h in
       let rows = rows_given before.attributes adds.0 adds.1.answer in
       let edit = edit_of db sources [] Chosen 0 adds.0 in
       let it = one_step schema_2 Enforced db new.now.trees edit (works_of_coming 10 edit.news) adds.2.edited in
@@ -151,9 +151,9 @@ module _ (first : Trees) (sound : IsSoundSchema1 first) (old new : State) (count
         others = (stays 1 refl ∙ before.others.0, (stays 3 refl ∙ before.others.1.0, (stays 5 refl ∙ before.others.1.1.0, (stays 7 refl ∙ before.others.1.1.1.0, tt))));
       }
 
-  emptied : IsBefore stages.Attributes first old.now → Executes text.attributes_emptied [] old new (Ok count) → IsAfter stages.Attributes first new.now
+  emptied : IsBefore stages.Attributes first old.now → Executes text.empty_attributes [] old new (Ok count) → IsAfter stages.Attributes first new.now
   emptied before h =
-      let edits = deletes text.attributes_emptied [] old new before.schema 5 attributes refl count attributes_emptied_query attributes_emptied_is h in
+      let edits = deletes text.empty_attributes [] old new before.schema 5 attributes refl count attributes_emptied_query empty_attributes_is h in
       let answer = answered 8 [] (col 1 0 ∷ []) [] db refl [] edits.rows edits.answer.answer in
       let there : db 8 ≡ map placed_row xs = before.attributes ∙ (its_rows first sound).written in
       let wrote = rows_removed placed_row rowid_of (λ _. refl) attributes db new.now.trees xs there (its_rows first sound).rise [] (col 1 0 ∷ []) refl [] (λ _. true) (all_of _ (λ _. refl) xs)
@@ -168,11 +168,11 @@ module _ (first : Trees) (sound : IsSoundSchema1 first) (old new : State) (count
         others = (stays 1 refl ∙ before.others.0, (stays 3 refl ∙ before.others.1.0, (stays 5 refl ∙ before.others.1.1.0, (stays 7 refl ∙ before.others.1.1.1.0, tt))));
       }
 
-  raised : IsBefore stages.Number first old.now → Executes text.schema_raised [] old new (Ok count) → IsAfter stages.Number first new.now
+  raised : IsBefore stages.Number first old.now → Executes text.set_schema [] old new (Ok count) → IsAfter stages.Number first new.now
   raised before h =
       let n = next first sound in
       let write : ℤ → Row = λ schema. meta_row_of schema n in
-      let edits = updates text.schema_raised [] old new before.schema 0 meta refl count schema_raised_query schema_raised_is h in
+      let edits = updates text.set_schema [] old new before.schema 0 meta refl count schema_raised_query set_schema_is h in
       let answer = answered 0 (is_one 0 ∷ []) schema_raised_shown [] db refl [] edits.rows edits.answer.answer in
       let hit : AllByRecursion (λ (schema : ℤ). hits 0 (is_one 0 ∷ []) schema_raised_shown [] db refl [] (meta_row_of schema n) ≡ true) (pos 1 ∷ []) = (last_term (at_ints false Eq (pos 1) (pos 1)), tt) in
       let wrote = row_updated write (λ _. pos 1) (λ _. refl) meta db new.now.trees (pos 1 ∷ []) (before.meta ∙ its_meta first sound) (tt, tt) (is_one 0 ∷ []) schema_raised_shown refl [] (λ _. true) hit
@@ -187,9 +187,9 @@ module _ (first : Trees) (sound : IsSoundSchema1 first) (old new : State) (count
         others = (stays 1 refl ∙ before.others.0, (stays 3 refl ∙ before.others.1.0, (stays 5 refl ∙ before.others.1.1.0, (stays 7 refl ∙ before.others.1.1.1.0, tt))));
       }
 
-  added : IsBefore stages.Sources first old.now → Executes text.sources_made [] old new (Ok count) → IsAfter stages.Sources first new.now
+  added : IsBefore stages.Sources first old.now → Executes text.create_sources [] old new (Ok count) → IsAfter stages.Sources first new.now
   added before h =
-      let it = came schema_1 text.sources_made sources sources_is refl old new before.schema count h in
+      let it = came schema_1 text.create_sources sources sources_is refl old new before.schema count h in
       record {
         schema = it.schema_is ∙ all_made;
         database = it.sound;

@@ -18,16 +18,16 @@ filled_collations = map (λ _. Binary) filled_given
 abbrev pub filled_query : Query
 filled_query = by_rowid 8 filled_given filled_collations
 
-pub sources_filled_is : IsChange text.sources_filled (Insert 6 (Queried (record { lets = []; body = filled_query })))
+pub copy_attributes_is : IsChange text.copy_attributes (Insert 6 (Queried (record { lets = []; body = filled_query })))
 unfolding understood everything
-sources_filled_is = (refl, (refl, refl))
+copy_attributes_is = (refl, (refl, refl))
 
 abbrev pub attributes_emptied_query : Query
 attributes_emptied_query = of_table 8 [] (col 1 0 ∷ []) []
 
-pub attributes_emptied_is : IsChange text.attributes_emptied (delete 5 attributes_emptied_query)
+pub empty_attributes_is : IsChange text.empty_attributes (delete 5 attributes_emptied_query)
 unfolding understood everything
-attributes_emptied_is = (refl, (refl, refl))
+empty_attributes_is = (refl, (refl, refl))
 
 abbrev pub schema_raised_shown : List Term
 schema_raised_shown = col 1 0 ∷ col 1 0 ∷ lit Null ∷ lit (Int (pos 2)) ∷ col 1 3 ∷ []
@@ -35,6 +35,6 @@ schema_raised_shown = col 1 0 ∷ col 1 0 ∷ lit Null ∷ lit (Int (pos 2)) ∷
 abbrev pub schema_raised_query : Query
 schema_raised_query = of_table 0 (is_one 0 ∷ []) schema_raised_shown []
 
-pub schema_raised_is : IsChange text.schema_raised (update 0 schema_raised_query)
+pub set_schema_is : IsChange text.set_schema (update 0 schema_raised_query)
 unfolding understood everything
-schema_raised_is = (refl, (refl, refl))
+set_schema_is = (refl, (refl, refl))

@@ -2,16 +2,16 @@
 use Rattle.std.proofs.Common.{◌≡◌, ℕ, List, [], ◌∷◌, map, filter, Bool, true, false, Ordering, is_eq, refl, sym, ap, subst, ◌∙◌}
 use Rattle.xa_store.proofs.Common.{Row, State, Shown, Trees, Text, IsPlain, understood, col, reads_as, sort_by, all_of, filter_all, map-map, IsAscending, last_key, value_cmp-Text, compare_bytes, Domain, names_of, bytes_total, DomainRow, domain_row, domain_in, Ours, schema_2, rows_of, domain_of, domain_entry, world_of}
 use Rattle.xa_store.specs.Columns.{name_told}
-use Rattle.xa_store.specs.Texts.{names_shown}
+use Rattle.xa_store.specs.Texts.{show_domain_names}
 use Rattle.xa_store.proofs.FoundLemmas.{found_sorted}
 use Rattle.xa_store.proofs.OrderedLemmas.{entries_sorted}
 use Rattle.xa_store.proofs.SqlLemmas.{Answered, answered}
-use Rattle.xa_store.proofs.TextLemmas.{names_shown_is}
+use Rattle.xa_store.proofs.TextLemmas.{show_domain_names_is}
 
-pub names_plain : IsPlain (understood schema_2 names_shown)
-names_plain = names_shown_is.2
+pub names_plain : IsPlain (understood schema_2 show_domain_names)
+names_plain = show_domain_names_is.2
 
-module _ (old new : State) (ours : Ours old) (rows : List Row) (shown : Shown names_shown [] old new rows) where
+module _ (old new : State) (ours : Ours old) (rows : List Row) (shown : Shown show_domain_names [] old new rows) where
   abbrev db : Trees
   db = old.now.trees
 
@@ -33,7 +33,7 @@ module _ (old new : State) (ours : Ours old) (rows : List Row) (shown : Shown na
   answer : Answered 1 [] (col 1 2 ∷ []) (2 ∷ []) db refl [] rows
   answer =
       answered 1 [] (col 1 2 ∷ []) (2 ∷ []) db refl [] rows
-      (reads_as names_shown [] old new schema_2 ours.rests.schema _ names_shown_is.0 names_shown_is.2 names_shown_is.1 rows shown).answer
+      (reads_as show_domain_names [] old new schema_2 ours.rests.schema _ show_domain_names_is.0 show_domain_names_is.2 show_domain_names_is.1 rows shown).answer
 
   abbrev show_name : DomainRow → Row
   show_name d = Text d.name ∷ []

@@ -2,15 +2,15 @@
 use Rattle.std.proofs.Common.{◌≡◌, ℤ, pos, List, [], ◌∷◌, filter, false, true, cond, Result, Ok, Err, IfOk, refl, sym, ap, subst, ◌∙◌}
 use Rattle.xa_store.proofs.Common.{Row, State, Shown, Trees, Int, IsPlain, understood, col, reads_as, Eq, at_ints, last_term, Failure, meta_row, next_in, Ours, schema_2, rows_of}
 use Rattle.xa_store.specs.Lookup.{IsNext, TellNext}
-use Rattle.xa_store.specs.Texts.{next_shown}
+use Rattle.xa_store.specs.Texts.{show_next_number}
 use Rattle.xa_store.proofs.DomainLemmas.{never_negative, same_int_value}
 use Rattle.xa_store.proofs.SqlLemmas.{Answered, answered, hits, one_hit}
-use Rattle.xa_store.proofs.TextLemmas.{is_one, next_shown_is}
+use Rattle.xa_store.proofs.TextLemmas.{is_one, show_next_number_is}
 
-pub next_plain : IsPlain (understood schema_2 next_shown)
-next_plain = next_shown_is.2
+pub next_plain : IsPlain (understood schema_2 show_next_number)
+next_plain = show_next_number_is.2
 
-module _ (old new : State) (ours : Ours old) (rows : List Row) (shown : Shown next_shown [] old new rows) where
+module _ (old new : State) (ours : Ours old) (rows : List Row) (shown : Shown show_next_number [] old new rows) where
   abbrev db : Trees
   db = old.now.trees
 
@@ -20,7 +20,7 @@ module _ (old new : State) (ours : Ours old) (rows : List Row) (shown : Shown ne
   answer : Answered 0 (is_one 0 ∷ []) (col 1 3 ∷ []) [] db refl [] rows
   answer =
       answered 0 (is_one 0 ∷ []) (col 1 3 ∷ []) [] db refl [] rows
-      (reads_as next_shown [] old new schema_2 ours.rests.schema _ next_shown_is.0 next_shown_is.2 next_shown_is.1 rows shown).answer
+      (reads_as show_next_number [] old new schema_2 ours.rests.schema _ show_next_number_is.0 show_next_number_is.2 show_next_number_is.1 rows shown).answer
 
   hit : hits 0 (is_one 0 ∷ []) (col 1 3 ∷ []) [] db refl [] (meta_row next) ≡ true
   hit = last_term (at_ints false Eq (pos 1) (pos 1))

@@ -2,7 +2,7 @@
 use Rattle.std.proofs.Common.{◌≡◌, ℕ, Bool, true, false, ◌&&◌, List, [], ◌∷◌, map, filter, length, Ordering, is_eq, int_cmp, refl, sym, ap, subst, ◌∙◌, arith, IsPermutation}
 use Rattle.xa_store.proofs.Common.{nil_from_length, length_permutation, IsPermutation-map, IsPlain, understood, Row, Output, State, Shown, col, Trees, Int, reads_as, one_permutation, sort_by, all_of, ascending-map, ascending_weaker, filter_all, map-map, sort_by-map, IsAscending, then_key, last_key, value_cmp-Int, SchemaVersion, Schema1, Schema2, SourcePlace, are_counted, is_empty, is_left_empty, known_next, place_in, read_meta, schema_of, sources_in, tree_of, PlacedRow, placed_row_in, placed_row, AreRows, Rests, RestsIn, same_place, schema_2}
 use Rattle.xa_store.specs.Check.{counts, counts_on, no_place, places_query}
-use Rattle.xa_store.specs.Texts.{meta_shown}
+use Rattle.xa_store.specs.Texts.{meta_rows}
 use Rattle.xa_store.proofs.CountedLemmas.{count_on, place_cmp, walk_counts}
 use Rattle.xa_store.proofs.FoundLemmas.{found_sorted}
 use Rattle.xa_store.proofs.HitLemmas.{eq_then}
@@ -18,7 +18,7 @@ places_plain version = (places_is version).2
 pub left_plain : IsPlain (understood schema_2 (places_query Schema1))
 left_plain = left_is.2
 
-pub meta_plain : (version : SchemaVersion) → IsPlain (understood (schema_of version) meta_shown)
+pub meta_plain : (version : SchemaVersion) → IsPlain (understood (schema_of version) meta_rows)
 meta_plain version = (meta_read_is version).2
 
 -- ---- places
@@ -107,7 +107,7 @@ module _ (version : SchemaVersion) where
   next_along (x ∷ x2 ∷ xs) (y ∷ []) same = absurd (omega (arith, length_permutation (x ∷ x2 ∷ xs) (y ∷ []) same))
   next_along (x ∷ x2 ∷ xs) (y ∷ y2 ∷ ys) same = refl
 
-  module _ (old new : State) (rests : RestsIn (schema_of version) old) (rows : List Row) (shown : Shown meta_shown [] old new rows) where
+  module _ (old new : State) (rests : RestsIn (schema_of version) old) (rows : List Row) (shown : Shown meta_rows [] old new rows) where
     abbrev first_rows : List Row
     first_rows = old.now.trees 0
 
@@ -121,7 +121,7 @@ module _ (version : SchemaVersion) where
     next_is =
         let it = meta_read_is version in
         let h = answered 0 [] (col 1 0 ∷ col 1 2 ∷ col 1 3 ∷ []) (0 ∷ []) old.now.trees refl [] rows
-        (reads_as meta_shown [] old new (schema_of version) rests.schema _ it.0 it.2 it.1 rows shown).answer in
+        (reads_as meta_rows [] old new (schema_of version) rests.schema _ it.0 it.2 it.1 rows shown).answer in
         let same : IsPermutation (map meta_outs first_rows) h.0 = subst (λ l. IsPermutation (map meta_outs l) h.0) all_meta h.1 in
         let perm = IsPermutation-map (λ (o : Output). o.1) (map meta_outs first_rows) h.0 same in
         ap (known_next version) h.3 ∙ next_along _ _ perm ∙ ap (known_next version) (map-map (λ (o : Output). o.1) meta_outs first_rows)

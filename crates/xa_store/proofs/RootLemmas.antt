@@ -4,15 +4,15 @@ use Rattle.xa_store.proofs.Common.{Row, column, State, Shown, Trees, Int, Text, 
 use Rattle.xa_store.specs.Lookup.{FindsOne}
 use Rattle.xa_store.specs.Rows.{reference_of}
 use Rattle.xa_store.specs.Columns.{TellsOne, root_told}
-use Rattle.xa_store.specs.Texts.{root_shown}
+use Rattle.xa_store.specs.Texts.{show_root}
 use Rattle.xa_store.proofs.FoundLemmas.{finds_one, found_is}
 use Rattle.xa_store.proofs.HitLemmas.{root_hit}
 use Rattle.xa_store.proofs.SqlLemmas.{Answered, answered}
 use Rattle.xa_store.proofs.ColumnNumbers.{of_kind}
-use Rattle.xa_store.proofs.TextLemmas.{is, root_shown_is}
+use Rattle.xa_store.proofs.TextLemmas.{is, show_root_is}
 
-pub root_plain : IsPlain (understood schema_2 root_shown)
-root_plain = root_shown_is.2
+pub root_plain : IsPlain (understood schema_2 show_root)
+root_plain = show_root_is.2
 
 text_back : (text : Option (List ℕ)) → unless_null bytes_of (or_null Text text) ≡ text
 text_back = null_back Text bytes_of (λ a. refl) (λ a. refl)
@@ -23,8 +23,8 @@ text_shown [] at = refl
 text_shown (text ∷ texts) zero = text_back text
 text_shown (text ∷ texts) (suc at) = text_shown texts at
 
-abbrev show_root : RootRow → Row
-show_root r =
+abbrev show_root_row : RootRow → Row
+show_root_row r =
     Int (kind_number r.kind) ∷ Text r.id ∷ column (map (or_null Text) r.texts) 0 ∷ column (map (or_null Text) r.texts) 1 ∷ column (map (or_null Text) r.texts) 2 ∷ []
 
 abbrev made_of : DocumentKind → List ℕ → Option (List ℕ) → Option (List ℕ) → Option (List ℕ) → Reference
@@ -36,11 +36,11 @@ made_of kind id pattern earliest latest = record {
   latest = option_and_then (λ text. given (read_version text)) latest;
 }
 
-root_back : (r : RootRow) → root_told (show_root r) ≡ reference_of r
+root_back : (r : RootRow) → root_told (show_root_row r) ≡ reference_of r
 unfolding reference_of
 root_back r = λ i. made_of ((of_kind r.kind).back i) r.id (text_shown r.texts 0 i) (text_shown r.texts 1 i) (text_shown r.texts 2 i)
 
-module _ (old new : State) (number : ℤ) (ours : Ours old) (rows : List Row) (shown : Shown root_shown (Int number ∷ []) old new rows) where
+module _ (old new : State) (number : ℤ) (ours : Ours old) (rows : List Row) (shown : Shown show_root (Int number ∷ []) old new rows) where
   abbrev db : Trees
   db = old.now.trees
 
@@ -53,7 +53,7 @@ module _ (old new : State) (number : ℤ) (ours : Ours old) (rows : List Row) (s
   answer : Answered 7 (is 0 0 ∷ []) columns [] db refl (Int number ∷ []) rows
   answer =
       answered 7 (is 0 0 ∷ []) columns [] db refl (Int number ∷ []) rows
-      (reads_as root_shown (Int number ∷ []) old new schema_2 ours.rests.schema _ root_shown_is.0 root_shown_is.2 root_shown_is.1 rows shown).answer
+      (reads_as show_root (Int number ∷ []) old new schema_2 ours.rests.schema _ show_root_is.0 show_root_is.2 show_root_is.1 rows shown).answer
 
   pub root_found : (o : Option Reference) → TellsOne root_told rows o → FindsOne of_number reference_of (rows_of db).roots o
   root_found =

@@ -2,17 +2,17 @@
 use Rattle.std.proofs.Common.{◌≡◌, ℤ, List, [], ◌∷◌, map, Bool, false, Ordering, is_eq, int_eq, int_cmp, refl, ap, ◌∙◌}
 use Rattle.xa_store.proofs.Common.{AllByRecursion, Row, column, State, Shown, Trees, Int, Text, IsPlain, understood, Term, col, reads_as, sort_by, all_of, all_weaker, map-map, IsAscending, last_key, value_cmp-Int, PlacedRow, placed_row, placed_row_in, issuer_columns, type_number, value_text, Ours, same_place, schema_2, rows_of, state_at, sources_at}
 use Rattle.xa_store.specs.Columns.{source_told}
-use Rattle.xa_store.specs.Texts.{source_shown}
+use Rattle.xa_store.specs.Texts.{show_source}
 use Rattle.xa_store.proofs.FoundLemmas.{found_sorted, map_alike, read_back}
 use Rattle.xa_store.proofs.HitLemmas.{source_hit}
 use Rattle.xa_store.proofs.OrderedLemmas.{all_among, all_sorted, apart_among, apart_then}
 use Rattle.xa_store.proofs.SqlLemmas.{Answered, answered}
-use Rattle.xa_store.proofs.TextLemmas.{is, source_shown_is}
+use Rattle.xa_store.proofs.TextLemmas.{is, show_source_is}
 
-pub source_plain : IsPlain (understood schema_2 source_shown)
-source_plain = source_shown_is.2
+pub source_plain : IsPlain (understood schema_2 show_source)
+source_plain = show_source_is.2
 
-module _ (old new : State) (number : ℤ) (ours : Ours old) (rows : List Row) (shown : Shown source_shown (Int number ∷ []) old new rows) where
+module _ (old new : State) (number : ℤ) (ours : Ours old) (rows : List Row) (shown : Shown show_source (Int number ∷ []) old new rows) where
   abbrev db : Trees
   db = old.now.trees
 
@@ -36,7 +36,7 @@ module _ (old new : State) (number : ℤ) (ours : Ours old) (rows : List Row) (s
   answer : Answered 10 (is 1 0 ∷ []) columns (2 ∷ []) db refl (Int number ∷ []) rows
   answer =
       answered 10 (is 1 0 ∷ []) columns (2 ∷ []) db refl (Int number ∷ []) rows
-      (reads_as source_shown (Int number ∷ []) old new schema_2 ours.rests.schema _ source_shown_is.0 source_shown_is.2 source_shown_is.1 rows shown).answer
+      (reads_as show_source (Int number ∷ []) old new schema_2 ours.rests.schema _ show_source_is.0 show_source_is.2 show_source_is.1 rows shown).answer
 
   abbrev show_row : PlacedRow → Row
   show_row a = Text a.row.category ∷ Text a.row.entity ∷ Text a.row.attribute_id ∷ Int (type_number a.row.value) ∷ Text (value_text a.row.value)

@@ -9,7 +9,7 @@ use Rattle.xa_store.proofs.HoldLemmas.{sources_now, came_last, went_out}
 use Rattle.xa_store.proofs.SqlLemmas.{answered}
 use Rattle.xa_store.proofs.StepLemmas.{Stepped, cast_int, cast_null, cast_text, text_back}
 use Rattle.xa_store.proofs.TableLemmas.{deletes, inserts}
-use Rattle.xa_store.proofs.TextLemmas.{is, source_row_added_is, source_dropped_is}
+use Rattle.xa_store.proofs.TextLemmas.{is, add_source_row_is, drop_source_is}
 use Rattle.xa_store.proofs.WriteLemmas.{next_rowid_is, row_added, rows_removed}
 
 -- a row that the keeper writes has a column for its issuer
@@ -40,13 +40,13 @@ module _ (old new : State) (has : old.now.schema ≡ schema_2) (count : ℕ) (wa
 
   -- a row comes
   pub source_row_added_stepped : (place : ℤ) (source : SourceRow) → filter (is_place n place) xs ≡ [] → ReadsBack source.value
-      → Executes text.source_row_added (Int n ∷ Int place ∷ Text source.category ∷ Text source.entity ∷ Text source.attribute_id ∷ Int (type_number source.value) ∷ Text (value_text source.value) ∷ or_null Text source.issuer ∷ []) old new (Ok count)
+      → Executes text.add_source_row (Int n ∷ Int place ∷ Text source.category ∷ Text source.entity ∷ Text source.attribute_id ∷ Int (type_number source.value) ∷ Text (value_text source.value) ∷ or_null Text source.issuer ∷ []) old new (Ok count)
       → Stepped old new (AddSourceRow n place source)
   source_row_added_stepped place source none reads h =
       let given = Int n ∷ Int place ∷ Text source.category ∷ Text source.entity ∷ Text source.attribute_id ∷ Int (type_number source.value) ∷ Text (value_text source.value) ∷ or_null Text source.issuer ∷ [] in
       let added : PlacedRow = record { rowid = next_key rowid_of xs; number = n; place = place; row = source; is_full = true } in
       let row = Null ∷ given in
-      let adds = inserts text.source_row_added given old new has 6 sources refl count _ 9 refl refl source_row_added_is h in
+      let adds = inserts text.add_source_row given old new has 6 sources refl count _ 9 refl refl add_source_row_is h in
       let bare : cast_row sources row ≡ row =
       λ i. cast_null i ∷ cast_int n i ∷ cast_int place i ∷ Text source.category ∷ Text source.entity ∷ Text source.attribute_id ∷ cast_int (type_number source.value) i ∷ Text (value_text source.value) ∷ cast_text source.issuer i ∷ [] in
       let id : next_rowid (db 10) ≡ next_key rowid_of xs = ap next_rowid was.sources.written ∙ next_rowid_is placed_row rowid_of (λ _. refl) xs in
@@ -59,11 +59,11 @@ module _ (old new : State) (has : old.now.schema ≡ schema_2) (count : ℕ) (wa
       }
 
   -- all rows go
-  pub source_dropped_stepped : Executes text.source_dropped (Int n ∷ []) old new (Ok count) → Stepped old new (DropSource n)
+  pub source_dropped_stepped : Executes text.drop_source (Int n ∷ []) old new (Ok count) → Stepped old new (DropSource n)
   source_dropped_stepped h =
       let p : PlacedRow → Bool = λ a. int_eq a.number n in
       let params = Int n ∷ [] in
-      let edits = deletes text.source_dropped params old new has 6 sources refl count _ source_dropped_is h in
+      let edits = deletes text.drop_source params old new has 6 sources refl count _ drop_source_is h in
       let answer = answered 10 (is 1 0 ∷ []) (col 1 0 ∷ []) [] db refl params edits.rows edits.answer.answer in
       let hit = all_of _ (λ (a : PlacedRow). last_term (at_ints false Eq a.number n)) xs in
       let wrote = rows_removed placed_row rowid_of (λ _. refl) sources db next xs was.sources.written was.sources.rise (is 1 0 ∷ []) (col 1 0 ∷ []) refl params p hit

@@ -13,7 +13,7 @@ use Rattle.xa_store.proofs.ColumnNumbers.{of_kind}
 use Rattle.xa_store.proofs.HoldLemmas.{Back, Hold, came, changed, domains_now, meta_now, roots_now, went_out}
 use Rattle.xa_store.proofs.SqlLemmas.{answered}
 use Rattle.xa_store.proofs.TableLemmas.{updates, deletes, inserts}
-use Rattle.xa_store.proofs.TextLemmas.{is, is_one, epoch_set_is, next_set_is, root_added_is, root_dropped_is}
+use Rattle.xa_store.proofs.TextLemmas.{is, is_one, set_epoch_is, set_next_is, add_root_is, drop_root_is}
 use Rattle.xa_store.proofs.WriteLemmas.{row_added, row_updated, rows_removed}
 
 -- ---- columns
@@ -78,7 +78,7 @@ module _ (old new : State) (has : old.now.schema ≡ schema_2) (count : ℕ) (wa
   next = new.now.trees
 
   -- the domain's epoch
-  pub epoch_stepped : (revision : Revision) → Executes text.epoch_set (Int revision.number ∷ Int revision.epoch ∷ []) old new (Ok count) → Stepped old new (SetEpoch revision)
+  pub epoch_stepped : (revision : Revision) → Executes text.set_epoch (Int revision.number ∷ Int revision.epoch ∷ []) old new (Ok count) → Stepped old new (SetEpoch revision)
   epoch_stepped revision h =
       let n = revision.number in
       let e = revision.epoch in
@@ -86,7 +86,7 @@ module _ (old new : State) (has : old.now.schema ≡ schema_2) (count : ℕ) (wa
       let params = Int n ∷ Int e ∷ [] in
       let shown = col 1 0 ∷ col 1 0 ∷ lit Null ∷ col 1 2 ∷ col 0 1 ∷ [] in
       let f : DomainRow → DomainRow = λ d. record d { epoch = e } in
-      let edits = updates text.epoch_set params old new has 1 domains refl count _ epoch_set_is h in
+      let edits = updates text.set_epoch params old new has 1 domains refl count _ set_epoch_is h in
       let answer = answered 1 (is 0 0 ∷ []) shown [] db refl params edits.rows edits.answer.answer in
       let hit = all_of _ (λ (d : DomainRow). last_term (at_ints false Eq d.number n)) ds in
       let few = at_most_one (λ (d : DomainRow). d.number) n (λ d. int_eq d.number n) (λ d h. h) ds was.domains.rise in
@@ -101,11 +101,11 @@ module _ (old new : State) (has : old.now.schema ≡ schema_2) (count : ℕ) (wa
       }
 
   -- the number of the next domain
-  pub next_stepped : (n : ℤ) → Executes text.next_set (Int n ∷ []) old new (Ok count) → Stepped old new (SetNext n)
+  pub next_stepped : (n : ℤ) → Executes text.set_next (Int n ∷ []) old new (Ok count) → Stepped old new (SetNext n)
   next_stepped n h =
       let params = Int n ∷ [] in
       let shown = col 1 0 ∷ col 1 0 ∷ lit Null ∷ col 1 2 ∷ col 0 0 ∷ [] in
-      let edits = updates text.next_set params old new has 0 meta refl count _ next_set_is h in
+      let edits = updates text.set_next params old new has 0 meta refl count _ set_next_is h in
       let answer = answered 0 (is_one 0 ∷ []) shown [] db refl params edits.rows edits.answer.answer in
       let hit : AllByRecursion (λ (m : ℤ). Rattle.xa_store.proofs.SqlLemmas.hits 0 (is_one 0 ∷ []) shown [] db refl params (meta_row m) ≡ true) (next_in (db 0) ∷ []) = (last_term (at_ints false Eq (pos 1) (pos 1)), tt) in
       let wrote = row_updated meta_row (λ _. pos 1) (λ _. refl) meta db next (next_in (db 0) ∷ []) was.meta (tt, tt) (is_one 0 ∷ []) shown refl params (λ _. true) hit
@@ -113,12 +113,12 @@ module _ (old new : State) (has : old.now.schema ≡ schema_2) (count : ℕ) (wa
       record { schema = edits.schema; database = edits.database; tables = meta_now db next was n wrote }
 
   -- the root goes
-  pub root_dropped_stepped : (n : ℤ) → Executes text.root_dropped (Int n ∷ []) old new (Ok count) → Stepped old new (DropRoot n)
+  pub root_dropped_stepped : (n : ℤ) → Executes text.drop_root (Int n ∷ []) old new (Ok count) → Stepped old new (DropRoot n)
   root_dropped_stepped n h =
       let rs = map root_in (db 7) in
       let p : RootRow → Bool = λ r. int_eq r.number n in
       let params = Int n ∷ [] in
-      let edits = deletes text.root_dropped params old new has 4 roots refl count _ root_dropped_is h in
+      let edits = deletes text.drop_root params old new has 4 roots refl count _ drop_root_is h in
       let answer = answered 7 (is 0 0 ∷ []) (col 1 0 ∷ []) [] db refl params edits.rows edits.answer.answer in
       let hit = all_of _ (λ (r : RootRow). last_term (at_ints false Eq r.number n)) rs in
       let wrote = rows_removed root_row (λ r. r.number) (λ _. refl) roots db next rs was.roots.written was.roots.rise (is 0 0 ∷ []) (col 1 0 ∷ []) refl params p hit
@@ -127,12 +127,12 @@ module _ (old new : State) (has : old.now.schema ≡ schema_2) (count : ℕ) (wa
 
   -- the root comes
   pub root_added_stepped : (n : ℤ) (reference : Reference) (r : RootRow) (p e l : Option (List ℕ)) → r ≡ root_of n reference → r.texts ≡ p ∷ e ∷ l ∷ []
-      → Executes text.root_added (Int n ∷ Int (kind_number r.kind) ∷ Text r.id ∷ or_null Text p ∷ or_null Text e ∷ or_null Text l ∷ []) old new (Ok count)
+      → Executes text.add_root (Int n ∷ Int (kind_number r.kind) ∷ Text r.id ∷ or_null Text p ∷ or_null Text e ∷ or_null Text l ∷ []) old new (Ok count)
       → r.number ≡ n → Stepped old new (AddRoot n reference)
   root_added_stepped n reference r p e l is texts h own =
       let rs = map root_in (db 7) in
       let params = Int n ∷ Int (kind_number r.kind) ∷ Text r.id ∷ or_null Text p ∷ or_null Text e ∷ or_null Text l ∷ [] in
-      let adds = inserts text.root_added params old new has 4 roots refl count _ 7 refl refl root_added_is h in
+      let adds = inserts text.add_root params old new has 4 roots refl count _ 7 refl refl add_root_is h in
       let row = full_root n r.kind r.id p e l in
       let put : with_rowid Chosen (db 7) (cast_row roots row) ≡ root_row r =
       ap (with_rowid Chosen (db 7)) (root_cast n r.kind r.id p e l) ∙ ap (λ k. with_rowid Chosen (db 7) (full_root k r.kind r.id p e l)) (sym own)

@@ -52,104 +52,104 @@ IsQuery = IsQueryIn schema_2
 
 -- ---- readings
 
-pub next_shown_is : IsQuery text.next_shown (reading (of_table 0 (is_one 0 ∷ []) (col 1 3 ∷ []) ([])) (codes "next_number" ∷ []))
+pub show_next_number_is : IsQuery text.show_next_number (reading (of_table 0 (is_one 0 ∷ []) (col 1 3 ∷ []) ([])) (codes "next_number" ∷ []))
 unfolding understood everything
-next_shown_is = (refl, refl, (refl, refl))
+show_next_number_is = (refl, refl, (refl, refl))
 
-pub domain_shown_is : IsQuery text.domain_shown (reading (of_table 1 (is 2 0 ∷ []) (col 1 0 ∷ col 1 3 ∷ []) ([])) (codes "number" ∷ codes "epoch" ∷ []))
+pub show_domain_is : IsQuery text.show_domain (reading (of_table 1 (is 2 0 ∷ []) (col 1 0 ∷ col 1 3 ∷ []) ([])) (codes "number" ∷ codes "epoch" ∷ []))
 unfolding understood everything
-domain_shown_is = (refl, refl, (refl, refl))
+show_domain_is = (refl, refl, (refl, refl))
 
-pub names_shown_is : IsQuery text.names_shown (reading (of_table 1 ([]) (col 1 2 ∷ []) (2 ∷ [])) (codes "name" ∷ []))
+pub show_domain_names_is : IsQuery text.show_domain_names (reading (of_table 1 ([]) (col 1 2 ∷ []) (2 ∷ [])) (codes "name" ∷ []))
 unfolding understood everything
-names_shown_is = (refl, refl, (refl, refl))
+show_domain_names_is = (refl, refl, (refl, refl))
 
-pub tokens_shown_is : IsQuery text.tokens_shown (reading (of_table 3 (is 1 0 ∷ []) (col 1 2 ∷ col 1 3 ∷ []) (2 ∷ [])) (codes "digest" ∷ codes "role" ∷ []))
+pub show_tokens_is : IsQuery text.show_tokens (reading (of_table 3 (is 1 0 ∷ []) (col 1 2 ∷ col 1 3 ∷ []) (2 ∷ [])) (codes "digest" ∷ codes "role" ∷ []))
 unfolding understood everything
-tokens_shown_is = (refl, refl, (refl, refl))
+show_tokens_is = (refl, refl, (refl, refl))
 
-pub role_shown_is : IsQuery text.role_shown (reading (of_table 3 (is 1 0 ∷ is 2 1 ∷ []) (col 1 3 ∷ []) ([])) (codes "role" ∷ []))
+pub show_role_is : IsQuery text.show_role (reading (of_table 3 (is 1 0 ∷ is 2 1 ∷ []) (col 1 3 ∷ []) ([])) (codes "role" ∷ []))
 unfolding understood everything
-role_shown_is = (refl, refl, (refl, refl))
+show_role_is = (refl, refl, (refl, refl))
 
-pub kinds_shown_is : IsQuery text.kinds_shown (reading (of_table 5 (is 1 0 ∷ []) (col 1 2 ∷ []) ([])) (codes "kind" ∷ []))
+pub show_document_kinds_is : IsQuery text.show_document_kinds (reading (of_table 5 (is 1 0 ∷ []) (col 1 2 ∷ []) ([])) (codes "kind" ∷ []))
 unfolding understood everything
-kinds_shown_is = (refl, refl, (refl, refl))
+show_document_kinds_is = (refl, refl, (refl, refl))
 
-pub documents_shown_is : IsQuery text.documents_shown (reading (of_table 5 (is 1 0 ∷ []) (col 1 2 ∷ col 1 3 ∷ col 1 4 ∷ col 1 6 ∷ []) (2 ∷ 3 ∷ 4 ∷ [])) (codes "kind" ∷ codes "id" ∷ codes "version" ∷ codes "active" ∷ []))
+pub show_documents_is : IsQuery text.show_documents (reading (of_table 5 (is 1 0 ∷ []) (col 1 2 ∷ col 1 3 ∷ col 1 4 ∷ col 1 6 ∷ []) (2 ∷ 3 ∷ 4 ∷ [])) (codes "kind" ∷ codes "id" ∷ codes "version" ∷ codes "active" ∷ []))
 unfolding understood everything
-documents_shown_is = (refl, refl, (refl, refl))
+show_documents_is = (refl, refl, (refl, refl))
 
-pub active_shown_is : IsQuery text.active_shown (reading (of_table 5 (is 1 0 ∷ is_one 6 ∷ []) (col 1 2 ∷ col 1 3 ∷ col 1 4 ∷ col 1 5 ∷ []) (2 ∷ 3 ∷ 4 ∷ [])) (codes "kind" ∷ codes "id" ∷ codes "version" ∷ codes "body" ∷ []))
+pub show_active_documents_is : IsQuery text.show_active_documents (reading (of_table 5 (is 1 0 ∷ is_one 6 ∷ []) (col 1 2 ∷ col 1 3 ∷ col 1 4 ∷ col 1 5 ∷ []) (2 ∷ 3 ∷ 4 ∷ [])) (codes "kind" ∷ codes "id" ∷ codes "version" ∷ codes "body" ∷ []))
 unfolding understood everything
-active_shown_is = (refl, refl, (refl, refl))
+show_active_documents_is = (refl, refl, (refl, refl))
 
-pub document_shown_is : IsQuery text.document_shown (reading (of_table 5 (is 1 0 ∷ is 2 1 ∷ is 3 2 ∷ is 4 3 ∷ []) (col 1 5 ∷ col 1 6 ∷ []) ([])) (codes "body" ∷ codes "active" ∷ []))
+pub show_document_is : IsQuery text.show_document (reading (of_table 5 (is 1 0 ∷ is 2 1 ∷ is 3 2 ∷ is 4 3 ∷ []) (col 1 5 ∷ col 1 6 ∷ []) ([])) (codes "body" ∷ codes "active" ∷ []))
 unfolding understood everything
-document_shown_is = (refl, refl, (refl, refl))
+show_document_is = (refl, refl, (refl, refl))
 
-pub root_shown_is : IsQuery text.root_shown (reading (of_table 7 (is 0 0 ∷ []) (col 1 2 ∷ col 1 3 ∷ col 1 4 ∷ col 1 5 ∷ col 1 6 ∷ []) ([])) (codes "kind" ∷ codes "id" ∷ codes "pattern" ∷ codes "earliest" ∷ codes "latest" ∷ []))
+pub show_root_is : IsQuery text.show_root (reading (of_table 7 (is 0 0 ∷ []) (col 1 2 ∷ col 1 3 ∷ col 1 4 ∷ col 1 5 ∷ col 1 6 ∷ []) ([])) (codes "kind" ∷ codes "id" ∷ codes "pattern" ∷ codes "earliest" ∷ codes "latest" ∷ []))
 unfolding understood everything
-root_shown_is = (refl, refl, (refl, refl))
+show_root_is = (refl, refl, (refl, refl))
 
-pub source_shown_is : IsQuery text.source_shown (reading (of_table 10 (is 1 0 ∷ []) (col 1 3 ∷ col 1 4 ∷ col 1 5 ∷ col 1 6 ∷ col 1 7 ∷ col 1 8 ∷ []) (2 ∷ [])) (codes "category" ∷ codes "entity" ∷ codes "attribute" ∷ codes "value_type" ∷ codes "value" ∷ codes "issuer" ∷ []))
+pub show_source_is : IsQuery text.show_source (reading (of_table 10 (is 1 0 ∷ []) (col 1 3 ∷ col 1 4 ∷ col 1 5 ∷ col 1 6 ∷ col 1 7 ∷ col 1 8 ∷ []) (2 ∷ [])) (codes "category" ∷ codes "entity" ∷ codes "attribute" ∷ codes "value_type" ∷ codes "value" ∷ codes "issuer" ∷ []))
 unfolding understood everything
-source_shown_is = (refl, refl, (refl, refl))
+show_source_is = (refl, refl, (refl, refl))
 
 -- ---- changes
 
-pub next_set_is : IsChange text.next_set (update 0 (of_table 0 (is_one 0 ∷ []) (col 1 0 ∷ col 1 0 ∷ lit Null ∷ col 1 2 ∷ col 0 0 ∷ []) []))
+pub set_next_is : IsChange text.set_next (update 0 (of_table 0 (is_one 0 ∷ []) (col 1 0 ∷ col 1 0 ∷ lit Null ∷ col 1 2 ∷ col 0 0 ∷ []) []))
 unfolding understood everything
-next_set_is = (refl, (refl, refl))
+set_next_is = (refl, (refl, refl))
 
-pub epoch_set_is : IsChange text.epoch_set (update 1 (of_table 1 (is 0 0 ∷ []) (col 1 0 ∷ col 1 0 ∷ lit Null ∷ col 1 2 ∷ col 0 1 ∷ []) []))
+pub set_epoch_is : IsChange text.set_epoch (update 1 (of_table 1 (is 0 0 ∷ []) (col 1 0 ∷ col 1 0 ∷ lit Null ∷ col 1 2 ∷ col 0 1 ∷ []) []))
 unfolding understood everything
-epoch_set_is = (refl, (refl, refl))
+set_epoch_is = (refl, (refl, refl))
 
-pub domain_dropped_is : IsChange text.domain_dropped (delete 1 (of_table 1 (is 0 0 ∷ []) (col 1 0 ∷ []) []))
+pub drop_domain_is : IsChange text.drop_domain (delete 1 (of_table 1 (is 0 0 ∷ []) (col 1 0 ∷ []) []))
 unfolding understood everything
-domain_dropped_is = (refl, (refl, refl))
+drop_domain_is = (refl, (refl, refl))
 
-pub role_set_is : IsChange text.role_set (update 2 (of_table 3 (is 1 0 ∷ is 2 1 ∷ []) (col 1 0 ∷ col 1 0 ∷ col 1 1 ∷ col 1 2 ∷ col 0 2 ∷ []) []))
+pub set_role_is : IsChange text.set_role (update 2 (of_table 3 (is 1 0 ∷ is 2 1 ∷ []) (col 1 0 ∷ col 1 0 ∷ col 1 1 ∷ col 1 2 ∷ col 0 2 ∷ []) []))
 unfolding understood everything
-role_set_is = (refl, (refl, refl))
+set_role_is = (refl, (refl, refl))
 
-pub token_dropped_is : IsChange text.token_dropped (delete 2 (of_table 3 (is 1 0 ∷ is 2 1 ∷ []) (col 1 0 ∷ []) []))
+pub drop_token_is : IsChange text.drop_token (delete 2 (of_table 3 (is 1 0 ∷ is 2 1 ∷ []) (col 1 0 ∷ []) []))
 unfolding understood everything
-token_dropped_is = (refl, (refl, refl))
+drop_token_is = (refl, (refl, refl))
 
-pub activity_set_is : IsChange text.activity_set (update 3 (of_table 5 (is 1 0 ∷ is 2 1 ∷ is 3 2 ∷ is 4 3 ∷ []) (col 1 0 ∷ col 1 0 ∷ col 1 1 ∷ col 1 2 ∷ col 1 3 ∷ col 1 4 ∷ col 1 5 ∷ col 0 4 ∷ []) []))
+pub set_active_is : IsChange text.set_active (update 3 (of_table 5 (is 1 0 ∷ is 2 1 ∷ is 3 2 ∷ is 4 3 ∷ []) (col 1 0 ∷ col 1 0 ∷ col 1 1 ∷ col 1 2 ∷ col 1 3 ∷ col 1 4 ∷ col 1 5 ∷ col 0 4 ∷ []) []))
 unfolding understood everything
-activity_set_is = (refl, (refl, refl))
+set_active_is = (refl, (refl, refl))
 
-pub document_dropped_is : IsChange text.document_dropped (delete 3 (of_table 5 (is 1 0 ∷ is 2 1 ∷ is 3 2 ∷ is 4 3 ∷ []) (col 1 0 ∷ []) []))
+pub drop_document_is : IsChange text.drop_document (delete 3 (of_table 5 (is 1 0 ∷ is 2 1 ∷ is 3 2 ∷ is 4 3 ∷ []) (col 1 0 ∷ []) []))
 unfolding understood everything
-document_dropped_is = (refl, (refl, refl))
+drop_document_is = (refl, (refl, refl))
 
-pub root_dropped_is : IsChange text.root_dropped (delete 4 (of_table 7 (is 0 0 ∷ []) (col 1 0 ∷ []) []))
+pub drop_root_is : IsChange text.drop_root (delete 4 (of_table 7 (is 0 0 ∷ []) (col 1 0 ∷ []) []))
 unfolding understood everything
-root_dropped_is = (refl, (refl, refl))
+drop_root_is = (refl, (refl, refl))
 
-pub source_dropped_is : IsChange text.source_dropped (delete 6 (of_table 10 (is 1 0 ∷ []) (col 1 0 ∷ []) []))
+pub drop_source_is : IsChange text.drop_source (delete 6 (of_table 10 (is 1 0 ∷ []) (col 1 0 ∷ []) []))
 unfolding understood everything
-source_dropped_is = (refl, (refl, refl))
+drop_source_is = (refl, (refl, refl))
 
-pub domain_added_is : IsChange text.domain_added (Insert 1 (Values (col 0 0 ∷ lit Null ∷ col 0 1 ∷ lit (Int (pos 0)) ∷ []) 4))
+pub add_domain_is : IsChange text.add_domain (Insert 1 (Values (col 0 0 ∷ lit Null ∷ col 0 1 ∷ lit (Int (pos 0)) ∷ []) 4))
 unfolding understood everything
-domain_added_is = (refl, (refl, refl))
+add_domain_is = (refl, (refl, refl))
 
-pub token_added_is : IsChange text.token_added (Insert 2 (Values (lit Null ∷ col 0 0 ∷ col 0 1 ∷ col 0 2 ∷ []) 4))
+pub add_token_is : IsChange text.add_token (Insert 2 (Values (lit Null ∷ col 0 0 ∷ col 0 1 ∷ col 0 2 ∷ []) 4))
 unfolding understood everything
-token_added_is = (refl, (refl, refl))
+add_token_is = (refl, (refl, refl))
 
-pub document_added_is : IsChange text.document_added (Insert 3 (Values (lit Null ∷ col 0 0 ∷ col 0 1 ∷ col 0 2 ∷ col 0 3 ∷ col 0 4 ∷ lit (Int (pos 0)) ∷ []) 7))
+pub add_document_is : IsChange text.add_document (Insert 3 (Values (lit Null ∷ col 0 0 ∷ col 0 1 ∷ col 0 2 ∷ col 0 3 ∷ col 0 4 ∷ lit (Int (pos 0)) ∷ []) 7))
 unfolding understood everything
-document_added_is = (refl, (refl, refl))
+add_document_is = (refl, (refl, refl))
 
-pub root_added_is : IsChange text.root_added (Insert 4 (Values (col 0 0 ∷ lit Null ∷ col 0 1 ∷ col 0 2 ∷ col 0 3 ∷ col 0 4 ∷ col 0 5 ∷ []) 7))
+pub add_root_is : IsChange text.add_root (Insert 4 (Values (col 0 0 ∷ lit Null ∷ col 0 1 ∷ col 0 2 ∷ col 0 3 ∷ col 0 4 ∷ col 0 5 ∷ []) 7))
 unfolding understood everything
-root_added_is = (refl, (refl, refl))
+add_root_is = (refl, (refl, refl))
 
-pub source_row_added_is : IsChange text.source_row_added (Insert 6 (Values (lit Null ∷ col 0 0 ∷ col 0 1 ∷ col 0 2 ∷ col 0 3 ∷ col 0 4 ∷ col 0 5 ∷ col 0 6 ∷ col 0 7 ∷ []) 9))
+pub add_source_row_is : IsChange text.add_source_row (Insert 6 (Values (lit Null ∷ col 0 0 ∷ col 0 1 ∷ col 0 2 ∷ col 0 3 ∷ col 0 4 ∷ col 0 5 ∷ col 0 6 ∷ col 0 7 ∷ []) 9))
 unfolding understood everything
-source_row_added_is = (refl, (refl, refl))
+add_source_row_is = (refl, (refl, refl))

@@ -5,23 +5,23 @@ use Rattle.xa_records.specs.declared.gate.Token.{Token}
 use Rattle.xa_store.specs.Lookup.{FindsRole}
 use Rattle.xa_store.specs.Columns.{TellsOne, role_told, token_told}
 use Rattle.xa_store.specs.Steps.{is_token}
-use Rattle.xa_store.specs.Texts.{role_shown, tokens_shown}
+use Rattle.xa_store.specs.Texts.{show_role, show_tokens}
 use Rattle.xa_store.proofs.FoundLemmas.{finds_one, found_sorted}
 use Rattle.xa_store.proofs.HitLemmas.{token_hit, tokens_hit}
 use Rattle.xa_store.proofs.OrderedLemmas.{apart_among, apart_then, entries_sorted}
 use Rattle.xa_store.proofs.SqlLemmas.{Answered, answered}
 use Rattle.xa_store.proofs.ColumnNumbers.{of_role}
-use Rattle.xa_store.proofs.TextLemmas.{is, role_shown_is, tokens_shown_is}
+use Rattle.xa_store.proofs.TextLemmas.{is, show_role_is, show_tokens_is}
 
-pub role_plain : IsPlain (understood schema_2 role_shown)
-role_plain = role_shown_is.2
+pub role_plain : IsPlain (understood schema_2 show_role)
+role_plain = show_role_is.2
 
-pub tokens_plain : IsPlain (understood schema_2 tokens_shown)
-tokens_plain = tokens_shown_is.2
+pub tokens_plain : IsPlain (understood schema_2 show_tokens)
+tokens_plain = show_tokens_is.2
 
 -- ---- the role of one
 
-module _ (old new : State) (number : ℤ) (digest : List ℕ) (ours : Ours old) (rows : List Row) (shown : Shown role_shown (Int number ∷ Blob digest ∷ []) old new rows) where
+module _ (old new : State) (number : ℤ) (digest : List ℕ) (ours : Ours old) (rows : List Row) (shown : Shown show_role (Int number ∷ Blob digest ∷ []) old new rows) where
   abbrev db : Trees
   db = old.now.trees
 
@@ -31,7 +31,7 @@ module _ (old new : State) (number : ℤ) (digest : List ℕ) (ours : Ours old) 
   answer : Answered 3 (is 1 0 ∷ is 2 1 ∷ []) (col 1 3 ∷ []) [] db refl given rows
   answer =
       answered 3 (is 1 0 ∷ is 2 1 ∷ []) (col 1 3 ∷ []) [] db refl given rows
-      (reads_as role_shown given old new schema_2 ours.rests.schema _ role_shown_is.0 role_shown_is.2 role_shown_is.1 rows shown).answer
+      (reads_as show_role given old new schema_2 ours.rests.schema _ show_role_is.0 show_role_is.2 show_role_is.1 rows shown).answer
 
   pub role_found : (o : Option Role) → TellsOne role_told rows o → FindsRole number digest (rows_of db) o
   role_found =
@@ -40,7 +40,7 @@ module _ (old new : State) (number : ℤ) (digest : List ℕ) (ours : Ours old) 
 
 -- ---- all of a domain
 
-module _ (old new : State) (number : ℤ) (ours : Ours old) (rows : List Row) (shown : Shown tokens_shown (Int number ∷ []) old new rows) where
+module _ (old new : State) (number : ℤ) (ours : Ours old) (rows : List Row) (shown : Shown show_tokens (Int number ∷ []) old new rows) where
   abbrev trees : Trees
   trees = old.now.trees
 
@@ -58,7 +58,7 @@ module _ (old new : State) (number : ℤ) (ours : Ours old) (rows : List Row) (s
   all : Answered 3 (is 1 0 ∷ []) (col 1 2 ∷ col 1 3 ∷ []) (2 ∷ []) trees refl (Int number ∷ []) rows
   all =
       answered 3 (is 1 0 ∷ []) (col 1 2 ∷ col 1 3 ∷ []) (2 ∷ []) trees refl (Int number ∷ []) rows
-      (reads_as tokens_shown (Int number ∷ []) old new schema_2 ours.rests.schema _ tokens_shown_is.0 tokens_shown_is.2 tokens_shown_is.1 rows shown).answer
+      (reads_as show_tokens (Int number ∷ []) old new schema_2 ours.rests.schema _ show_tokens_is.0 show_tokens_is.2 show_tokens_is.1 rows shown).answer
 
   abbrev show_token : TokenRow → Row
   show_token t = Blob t.digest ∷ Int (role_number t.role) ∷ []

@@ -13,7 +13,7 @@ use Rattle.xa_store.proofs.SqlLemmas.{answered}
 use Rattle.xa_store.proofs.ColumnNumbers.{of_role}
 use Rattle.xa_store.proofs.StepLemmas.{Stepped, cast_int, cast_null}
 use Rattle.xa_store.proofs.TableLemmas.{updates, deletes, inserts}
-use Rattle.xa_store.proofs.TextLemmas.{is, role_set_is, token_added_is, token_dropped_is}
+use Rattle.xa_store.proofs.TextLemmas.{is, set_role_is, add_token_is, drop_token_is}
 use Rattle.xa_store.proofs.WriteLemmas.{next_rowid_is, row_added, row_updated, rows_removed}
 
 -- ---- tokens
@@ -46,12 +46,12 @@ module _ (old new : State) (has : old.now.schema ≡ schema_2) (count : ℕ) (wa
   rowid_of t = t.rowid
 
   -- a token comes
-  pub token_added_stepped : (role : Role) → filter (is_token n g) ts ≡ [] → Executes text.token_added (Int n ∷ Blob g ∷ Int (role_number role) ∷ []) old new (Ok count) → Stepped old new (AddToken n g role)
+  pub token_added_stepped : (role : Role) → filter (is_token n g) ts ≡ [] → Executes text.add_token (Int n ∷ Blob g ∷ Int (role_number role) ∷ []) old new (Ok count) → Stepped old new (AddToken n g role)
   token_added_stepped role none h =
       let params = Int n ∷ Blob g ∷ Int (role_number role) ∷ [] in
       let token : TokenRow = record { rowid = next_key rowid_of ts; number = n; digest = g; role = role } in
       let row = Null ∷ Int n ∷ Blob g ∷ Int (role_number role) ∷ [] in
-      let adds = inserts text.token_added params old new has 2 tokens refl count _ 4 refl refl token_added_is h in
+      let adds = inserts text.add_token params old new has 2 tokens refl count _ 4 refl refl add_token_is h in
       let bare : cast_row tokens row ≡ row = λ i. cast_null i ∷ cast_int n i ∷ Blob g ∷ cast_int (role_number role) i ∷ [] in
       let id : next_rowid (db 3) ≡ next_key rowid_of ts = ap next_rowid was.tokens.written ∙ next_rowid_is token_row rowid_of (λ _. refl) ts in
       let put : with_rowid Chosen (db 3) (cast_row tokens row) ≡ token_row token = ap (with_rowid Chosen (db 3)) bare ∙ ap (λ k. Int k ∷ Int n ∷ Blob g ∷ Int (role_number role) ∷ []) id in
@@ -64,12 +64,12 @@ module _ (old new : State) (has : old.now.schema ≡ schema_2) (count : ℕ) (wa
       }
 
   -- the role of a token
-  pub role_set_stepped : (role : Role) → Executes text.role_set (Int n ∷ Blob g ∷ Int (role_number role) ∷ []) old new (Ok count) → Stepped old new (SetRole n g role)
+  pub role_set_stepped : (role : Role) → Executes text.set_role (Int n ∷ Blob g ∷ Int (role_number role) ∷ []) old new (Ok count) → Stepped old new (SetRole n g role)
   role_set_stepped role h =
       let params = Int n ∷ Blob g ∷ Int (role_number role) ∷ [] in
       let shown = col 1 0 ∷ col 1 0 ∷ col 1 1 ∷ col 1 2 ∷ col 0 2 ∷ [] in
       let f : TokenRow → TokenRow = λ t. record t { role = role } in
-      let edits = updates text.role_set params old new has 2 tokens refl count _ role_set_is h in
+      let edits = updates text.set_role params old new has 2 tokens refl count _ set_role_is h in
       let answer = answered 3 (is 1 0 ∷ is 2 1 ∷ []) shown [] db refl params edits.rows edits.answer.answer in
       let hit = all_of _ (λ (t : TokenRow). then_term (at_ints false Eq t.number n) (last_term (at_blobs false Eq t.digest g) ∙ turn_bytes t.digest g)) ts in
       let few = apart_few same_token (is_token n g) (tokens_alike n g) ts was.tokens.apart in
@@ -84,10 +84,10 @@ module _ (old new : State) (has : old.now.schema ≡ schema_2) (count : ℕ) (wa
       }
 
   -- a token goes
-  pub token_dropped_stepped : Executes text.token_dropped (Int n ∷ Blob g ∷ []) old new (Ok count) → Stepped old new (DropToken n g)
+  pub token_dropped_stepped : Executes text.drop_token (Int n ∷ Blob g ∷ []) old new (Ok count) → Stepped old new (DropToken n g)
   token_dropped_stepped h =
       let params = Int n ∷ Blob g ∷ [] in
-      let edits = deletes text.token_dropped params old new has 2 tokens refl count _ token_dropped_is h in
+      let edits = deletes text.drop_token params old new has 2 tokens refl count _ drop_token_is h in
       let answer = answered 3 (is 1 0 ∷ is 2 1 ∷ []) (col 1 0 ∷ []) [] db refl params edits.rows edits.answer.answer in
       let hit = all_of _ (λ (t : TokenRow). then_term (at_ints false Eq t.number n) (last_term (at_blobs false Eq t.digest g) ∙ turn_bytes t.digest g)) ts in
       let wrote = rows_removed token_row rowid_of (λ _. refl) tokens db next ts was.tokens.written was.tokens.rise (is 1 0 ∷ is 2 1 ∷ []) (col 1 0 ∷ []) refl params (is_token n g) hit

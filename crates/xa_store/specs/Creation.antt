@@ -14,14 +14,14 @@ use Rattle.xa_store.specs.Texts as text
 
 -- the statement that makes it
 abbrev pub part_statement : Part → List ℕ
-part_statement part.Meta = text.meta_made
-part_statement part.Domains = text.domains_made
-part_statement part.Tokens = text.tokens_made
-part_statement part.Policies = text.policies_made
-part_statement part.Roots = text.roots_made
-part_statement part.Attributes = text.attributes_made
-part_statement part.Sources = text.sources_made
-part_statement part.FirstRow = text.meta_begun
+part_statement part.Meta = text.create_meta
+part_statement part.Domains = text.create_domains
+part_statement part.Tokens = text.create_tokens
+part_statement part.Policies = text.create_policies
+part_statement part.Roots = text.create_roots
+part_statement part.Attributes = text.create_attributes
+part_statement part.Sources = text.create_sources
+part_statement part.FirstRow = text.add_meta_row
 
 -- ---- the schemas in the making: each has one table more than the one before
 

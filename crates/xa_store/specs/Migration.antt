@@ -19,10 +19,10 @@ use Rattle.xa_store.specs.Texts as text
 
 -- the statement
 abbrev pub stage_statement : Stage → List ℕ
-stage_statement stage.Sources = text.sources_made
-stage_statement stage.Rows = text.sources_filled
-stage_statement stage.Attributes = text.attributes_emptied
-stage_statement stage.Number = text.schema_raised
+stage_statement stage.Sources = text.create_sources
+stage_statement stage.Rows = text.copy_attributes
+stage_statement stage.Attributes = text.empty_attributes
+stage_statement stage.Number = text.set_schema
 
 -- a row of a source as it stands in the table of sources: under another rowid, without an issuer
 abbrev pub moved_row : ℤ → Row → Row

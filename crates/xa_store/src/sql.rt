@@ -3,43 +3,44 @@
 // ---- Queries of a keeper's readings and plans
 
 /// The number and the epoch of the domain of a name.
-pub(crate) const DOMAIN: &str = "SELECT number, epoch FROM domains WHERE name = ?1";
+pub(crate) const SHOW_DOMAIN: &str = "SELECT number, epoch FROM domains WHERE name = ?1";
 
 /// The names of all domains, in their order.
-pub(crate) const DOMAIN_NAMES: &str = "SELECT name FROM domains ORDER BY name";
+pub(crate) const SHOW_DOMAIN_NAMES: &str = "SELECT name FROM domains ORDER BY name";
 
 /// The number of the next domain.
-pub(crate) const NEXT_NUMBER: &str = "SELECT next_number FROM meta WHERE id = 1";
+pub(crate) const SHOW_NEXT_NUMBER: &str = "SELECT next_number FROM meta WHERE id = 1";
 
 /// The role of a token in a domain.
-pub(crate) const ROLE: &str = "SELECT role FROM tokens WHERE number = ?1 AND digest = ?2";
+pub(crate) const SHOW_ROLE: &str = "SELECT role FROM tokens WHERE number = ?1 AND digest = ?2";
 
 /// The tokens of a domain, by their digests.
-pub(crate) const TOKENS: &str = "SELECT digest, role FROM tokens WHERE number = ?1 ORDER BY digest";
+pub(crate) const SHOW_TOKENS: &str =
+    "SELECT digest, role FROM tokens WHERE number = ?1 ORDER BY digest";
 
 /// The text of a document, by its key, and whether it is active.
-pub(crate) const DOCUMENT: &str =
+pub(crate) const SHOW_DOCUMENT: &str =
     "SELECT body, active FROM policies WHERE number = ?1 AND kind = ?2 AND id = ?3 AND version = ?4";
 
 /// A row for each of a domain's documents, to count them. The primary key's index has the column that is
 /// shown, so no text is read.
-pub(crate) const DOCUMENT_KINDS: &str = "SELECT kind FROM policies WHERE number = ?1";
+pub(crate) const SHOW_DOCUMENT_KINDS: &str = "SELECT kind FROM policies WHERE number = ?1";
 
 /// The keys of a domain's documents, and which of these are active. The primary key's index doesn't have
 /// `active`, so each row is read whole, with its text.
-pub(crate) const DOCUMENTS: &str =
+pub(crate) const SHOW_DOCUMENTS: &str =
     "SELECT kind, id, version, active FROM policies WHERE number = ?1 ORDER BY kind, id, version";
 
 /// The keys and the texts of a domain's active documents. The rows of the others are read whole as well.
-pub(crate) const ACTIVE_DOCUMENTS: &str =
+pub(crate) const SHOW_ACTIVE_DOCUMENTS: &str =
     "SELECT kind, id, version, body FROM policies WHERE number = ?1 AND active = 1 ORDER BY kind, id, version";
 
 /// The root of a domain.
-pub(crate) const ROOT: &str =
+pub(crate) const SHOW_ROOT: &str =
     "SELECT kind, id, pattern, earliest, latest FROM roots WHERE number = ?1";
 
 /// The rows of a domain's source, by their places.
-pub(crate) const SOURCE: &str =
+pub(crate) const SHOW_SOURCE: &str =
     "SELECT category, entity, attribute, value_type, value, issuer FROM sources WHERE number = ?1 ORDER BY place";
 
 // ---- Statements of steps

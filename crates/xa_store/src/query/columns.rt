@@ -1,28 +1,29 @@
 //! The columns that queries of several show, by the places at which they show them. Definitions have the
 //! numbers.
 
-/// The columns of a domain, as `sql::DOMAIN` shows them.
+/// The columns of a domain, as `sql::SHOW_DOMAIN` shows them.
 pub(crate) mod domain_found {
     pub(crate) const NUMBER: usize = 0;
 
     pub(crate) const EPOCH: usize = 1;
 }
 
-/// The columns of a token, as `sql::TOKENS` shows them.
+/// The columns of a token, as `sql::SHOW_TOKENS` shows them.
 pub(crate) mod token_row {
     pub(crate) const DIGEST: usize = 0;
 
     pub(crate) const ROLE: usize = 1;
 }
 
-/// The columns of a document that was found by its key, as `sql::DOCUMENT` shows them.
+/// The columns of a document that was found by its key, as `sql::SHOW_DOCUMENT` shows them.
 pub(crate) mod document_found {
     pub(crate) const BODY: usize = 0;
 
     pub(crate) const ACTIVE: usize = 1;
 }
 
-/// The columns of a document's key, as `sql::DOCUMENTS` and `sql::ACTIVE_DOCUMENTS` show them first.
+/// The columns of a document's key, as `sql::SHOW_DOCUMENTS` and `sql::SHOW_ACTIVE_DOCUMENTS` show them
+/// first.
 pub(crate) mod document_key {
     pub(crate) const KIND: usize = 0;
 
@@ -31,17 +32,17 @@ pub(crate) mod document_key {
     pub(crate) const VERSION: usize = 2;
 }
 
-/// The column after the key, as `sql::DOCUMENTS` shows it.
+/// The column after the key, as `sql::SHOW_DOCUMENTS` shows it.
 pub(crate) mod listed {
     pub(crate) const ACTIVE: usize = 3;
 }
 
-/// The column after the key, as `sql::ACTIVE_DOCUMENTS` shows it.
+/// The column after the key, as `sql::SHOW_ACTIVE_DOCUMENTS` shows it.
 pub(crate) mod active_text {
     pub(crate) const BODY: usize = 3;
 }
 
-/// The columns of a root, as `sql::ROOT` shows them.
+/// The columns of a root, as `sql::SHOW_ROOT` shows them.
 pub(crate) mod root_row {
     pub(crate) const KIND: usize = 0;
 
@@ -54,7 +55,7 @@ pub(crate) mod root_row {
     pub(crate) const LATEST: usize = 4;
 }
 
-/// The columns of a row of a source, as `sql::SOURCE` shows them.
+/// The columns of a row of a source, as `sql::SHOW_SOURCE` shows them.
 pub(crate) mod source_row {
     pub(crate) const CATEGORY: usize = 0;
 

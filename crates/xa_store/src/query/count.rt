@@ -17,7 +17,7 @@ pub(crate) fn token_count<S: Alter>(conn: &mut Connection<S>, number: i64) -> Re
     ensures reads { ReadsRows S.Store conn.old conn.new result
         (λ rows n. n ≡ len (state_at rows number).tokens) }
 {
-    let rows = query_rows(conn, sql::TOKENS, &[ValueRef::Int(number)])?;
+    let rows = query_rows(conn, sql::SHOW_TOKENS, &[ValueRef::Int(number)])?;
     Ok(rows.as_slice().len())
 }
 
@@ -32,6 +32,6 @@ pub(crate) fn document_count<S: Alter>(
     ensures reads { ReadsRows S.Store conn.old conn.new result
         (λ rows n. n ≡ len (state_at rows number).documents) }
 {
-    let rows = query_rows(conn, sql::DOCUMENT_KINDS, &[ValueRef::Int(number)])?;
+    let rows = query_rows(conn, sql::SHOW_DOCUMENT_KINDS, &[ValueRef::Int(number)])?;
     Ok(rows.as_slice().len())
 }

@@ -12,7 +12,7 @@ ghost use Rattle.xa_records.specs.Readings.{active_texts, listing_of_state};
 ghost use Rattle.xa_store.specs.Lookup.{FindsDocument};
 ghost use Rattle.xa_store.specs.Quiet.{OnlyReadsOver, ReadsRows, ShownOver};
 ghost use Rattle.xa_store.specs.Rows.{kind_number};
-ghost use Rattle.xa_store.specs.Texts.{document_shown};
+ghost use Rattle.xa_store.specs.Texts.{show_document};
 ghost use Rattle.xa_store.specs.World.{state_at};
 
 use crate::parameter::number_of_kind;
@@ -75,13 +75,13 @@ fn document_rows<'k, S: Alter>(
     requires version { version.now ≡ version_text key.now.version }
     ensures only_reads { OnlyReadsOver S.Store conn.old conn.new result }
     ensures shows { HasCleanDisk (state S.Store conn.new)
-        → IfOk result (λ rows. ShownOver S.Store document_shown (Int number
+        → IfOk result (λ rows. ShownOver S.Store show_document (Int number
         ∷ Int (kind_number key.now.kind) ∷ SqlText key.now.id ∷ SqlText (version_text key.now.version) ∷ [])
         conn.old conn.new rows.items) }
 {
     query_rows(
         conn,
-        sql::DOCUMENT,
+        sql::SHOW_DOCUMENT,
         &[
             ValueRef::Int(number),
             ValueRef::Int(number_of_kind(key.kind)),
@@ -120,7 +120,7 @@ pub(crate) fn documents_of<S: Alter>(
     ensures reads { ReadsRows S.Store conn.old conn.new result
         (λ rows listed. listed ≡ listing_of_state (state_at rows number)) }
 {
-    let rows = query_rows(conn, sql::DOCUMENTS, &[ValueRef::Int(number)])?;
+    let rows = query_rows(conn, sql::SHOW_DOCUMENTS, &[ValueRef::Int(number)])?;
     let listed = read_all::<Listed>(alloc, rows)?;
     Ok(Items::from_vec(in_order(listed)))
 }
@@ -138,7 +138,7 @@ pub(crate) fn active_texts_of<S: Alter>(
     ensures reads { ReadsRows S.Store conn.old conn.new result
         (λ rows texts. texts ≡ active_texts (state_at rows number)) }
 {
-    let rows = query_rows(conn, sql::ACTIVE_DOCUMENTS, &[ValueRef::Int(number)])?;
+    let rows = query_rows(conn, sql::SHOW_ACTIVE_DOCUMENTS, &[ValueRef::Int(number)])?;
     let active = read_all::<ActiveText>(alloc, rows)?;
     Ok(Items::from_vec(in_order(active)))
 }

@@ -20,7 +20,7 @@ pub(crate) struct DocumentFound {
     pub active: bool,
 }
 
-/// Read from the columns of `sql::DOCUMENT`.
+/// Read from the columns of `sql::SHOW_DOCUMENT`.
 impl FromRow for DocumentFound {
     ghost told = { document_told };
 
@@ -31,7 +31,7 @@ impl FromRow for DocumentFound {
     }
 }
 
-/// Read from the columns of `sql::DOCUMENTS`.
+/// Read from the columns of `sql::SHOW_DOCUMENTS`.
 impl FromRow for Listed {
     ghost told = { listed_told };
 
@@ -42,7 +42,7 @@ impl FromRow for Listed {
     }
 }
 
-/// Read from the columns of `sql::ACTIVE_DOCUMENTS`.
+/// Read from the columns of `sql::SHOW_ACTIVE_DOCUMENTS`.
 impl FromRow for ActiveText {
     ghost told = { text_told };
 

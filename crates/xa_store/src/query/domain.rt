@@ -21,7 +21,8 @@ pub(crate) struct DomainFound {
     pub epoch: i64,
 }
 
-/// The domain that rows of `sql::DOMAIN` tell: none if there is no row, and a failure if there are several.
+/// The domain that rows of `sql::SHOW_DOMAIN` tell: none if there is no row, and a failure if there are
+/// several.
 fn read_domain(rows: &[Row]) -> Result<Option<DomainFound>, Failure>
     ensures { IfOk result (TellDomain rows.now) }
 {
@@ -49,6 +50,6 @@ pub(crate) fn domain_named<S: Alter>(
     ensures only_reads { OnlyReadsOver S.Store conn.old conn.new result }
     ensures finds { ReadsRows S.Store conn.old conn.new result (FindsDomain name.now) }
 {
-    let rows = query_rows(conn, sql::DOMAIN, &[ValueRef::Text(name.as_bytes())])?;
+    let rows = query_rows(conn, sql::SHOW_DOMAIN, &[ValueRef::Text(name.as_bytes())])?;
     read_domain(rows.as_slice())
 }

@@ -14,7 +14,7 @@ use std::alloc::Global;
 use xa_records::Failure;
 use xa_value::{Items, Text};
 
-/// Read from the column of `sql::DOMAIN_NAMES`: name.
+/// Read from the column of `sql::SHOW_DOMAIN_NAMES`: name.
 impl FromRow for Text {
     ghost told = { name_told };
 
@@ -33,6 +33,6 @@ pub(crate) fn names_in<S: Alter>(
     ensures reads { ReadsRows S.Store conn.old conn.new result
         (λ rows names. names ≡ names_of (kept_of rows)) }
 {
-    let rows = query_rows(conn, sql::DOMAIN_NAMES, &[])?;
+    let rows = query_rows(conn, sql::SHOW_DOMAIN_NAMES, &[])?;
     read_all(alloc, rows)
 }

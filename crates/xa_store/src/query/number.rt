@@ -9,7 +9,7 @@ use crate::sql;
 use sqlite::{Alter, Connection, Row};
 use xa_records::Failure;
 
-/// The number that the one row of `sql::NEXT_NUMBER` tells, whose column is next_number. No row, and
+/// The number that the one row of `sql::SHOW_NEXT_NUMBER` tells, whose column is next_number. No row, and
 /// several, are a failure of the store.
 fn read_next(rows: &[Row]) -> Result<i64, Failure>
     ensures { IfOk result (TellNext rows.now) }
@@ -32,6 +32,6 @@ pub(crate) fn next_number<S: Alter>(conn: &mut Connection<S>) -> Result<i64, Fai
     ensures only_reads { OnlyReadsOver S.Store conn.old conn.new result }
     ensures finds { ReadsRows S.Store conn.old conn.new result IsNext }
 {
-    let rows = query_rows(conn, sql::NEXT_NUMBER, &[])?;
+    let rows = query_rows(conn, sql::SHOW_NEXT_NUMBER, &[])?;
     read_next(rows.as_slice())
 }

@@ -15,7 +15,7 @@ use std::alloc::Global;
 use xa_policy::Reference;
 use xa_records::Failure;
 
-/// Read from the columns of `sql::ROOT`.
+/// Read from the columns of `sql::SHOW_ROOT`.
 impl FromRow for Reference {
     ghost told = { root_told };
 
@@ -46,6 +46,6 @@ pub(crate) fn root_of<S: Alter>(
     ensures reads { ReadsRows S.Store conn.old conn.new result
         (λ rows root. root ≡ (state_at rows number).root) }
 {
-    let rows = query_rows(conn, sql::ROOT, &[ValueRef::Int(number)])?;
+    let rows = query_rows(conn, sql::SHOW_ROOT, &[ValueRef::Int(number)])?;
     read_one(alloc, rows.as_slice())
 }

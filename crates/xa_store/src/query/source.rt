@@ -19,7 +19,7 @@ use xa_decide::SourceRow;
 use xa_records::Failure;
 use xa_value::{Items, Value};
 
-/// Read from the columns of `sql::SOURCE`.
+/// Read from the columns of `sql::SHOW_SOURCE`.
 impl FromRow for SourceRow {
     ghost told = { source_told };
 
@@ -62,6 +62,6 @@ pub(crate) fn source_of<S: Alter>(
     ensures reads { ReadsRows S.Store conn.old conn.new result
         (λ rows source. source ≡ (state_at rows number).source) }
 {
-    let rows = query_rows(conn, sql::SOURCE, &[ValueRef::Int(number)])?;
+    let rows = query_rows(conn, sql::SHOW_SOURCE, &[ValueRef::Int(number)])?;
     read_all(alloc, rows)
 }

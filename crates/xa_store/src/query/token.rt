@@ -21,7 +21,7 @@ use xa_notation::Role;
 use xa_records::{Digest, Failure, Token};
 use xa_value::Items;
 
-/// Read from the column of `sql::ROLE`: role.
+/// Read from the column of `sql::SHOW_ROLE`: role.
 impl FromRow for Role {
     ghost told = { role_told };
 
@@ -30,7 +30,7 @@ impl FromRow for Role {
     }
 }
 
-/// Read from the columns of `sql::TOKENS`.
+/// Read from the columns of `sql::SHOW_TOKENS`.
 impl FromRow for Token {
     ghost told = { token_told };
 
@@ -63,7 +63,7 @@ pub(crate) fn role_of<S: Alter>(
 {
     let rows = query_rows(
         conn,
-        sql::ROLE,
+        sql::SHOW_ROLE,
         &[ValueRef::Int(number), ValueRef::Blob(digest.as_bytes())],
     )?;
     read_one(alloc, rows.as_slice())
@@ -81,6 +81,6 @@ pub(crate) fn tokens_of<S: Alter>(
     ensures reads { ReadsRows S.Store conn.old conn.new result
         (λ rows tokens. tokens ≡ map token_of (entries (state_at rows number).tokens)) }
 {
-    let rows = query_rows(conn, sql::TOKENS, &[ValueRef::Int(number)])?;
+    let rows = query_rows(conn, sql::SHOW_TOKENS, &[ValueRef::Int(number)])?;
     read_all(alloc, rows)
 }
