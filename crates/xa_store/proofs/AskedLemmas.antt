@@ -7,7 +7,7 @@ use Rattle.sqlite.specs.declared.error.Error.TheVariants.{SqliteFailure, SqlInpu
 use Rattle.sqlite.specs.declared.error.ErrorCode.TheVariants.{NameTaken, OutOfMemory as NoMemory}
 use Rattle.sqlite_trees.specs.declared.error.StoreError.{StoreError}
 use Rattle.sqlite_trees.specs.declared.error.StoreError.TheVariants.{OutOfMemory, Io, Corrupt, Full, Broken, Unstorable}
-use Rattle.xa_store.specs.Check.{Asks, GoesOn, IsUnguarded, refused_as}
+use Rattle.xa_store.specs.Check.{Asks, GoesOn, IsUnguarded, error_of_check}
 use Rattle.xa_store.specs.Opening.{IsFailure}
 use Rattle.xa_store.proofs.AskLemmas.{commits_idle, failed_held, failed_open, failed_same, goes_then, holds_then, plain_at, shown_goes, shown_held, shown_open, shown_same}
 use Rattle.xa_store.proofs.QuietLemmas.{rests_after}
@@ -49,7 +49,7 @@ failed_fits sql params old new e rests plain (inl (inr h)) = fit e _ h.1 (store_
 failed_fits sql params old new e rests plain (inr h) =
     let shows = subst (FailsToShow old new sql h.0 _ e) (plain_at sql old h.0 rests.schema plain h.1.is) h.2 in refuses_fits old.step_limit h.0.command shows.0 _ e shows.2
 
-pub a_failure : (e : Error) → is_misfit e ≡ false → IsFailure (refused_as e)
+pub a_failure : (e : Error) → is_misfit e ≡ false → IsFailure (error_of_check e)
 a_failure (SqlInputError fault) fits = absurd (true≢false fits)
 a_failure (SqliteFailure NameTaken) fits = absurd (true≢false fits)
 a_failure (SqliteFailure NoMemory) fits = inr refl
@@ -59,20 +59,20 @@ abbrev is_damage : OpenError → Bool
 is_damage Damaged = true
 is_damage _ = false
 
-no_damage : (e : Error) → is_damage (refused_as e) ≡ false
+no_damage : (e : Error) → is_damage (error_of_check e) ≡ false
 no_damage (SqlInputError fault) = refl
 no_damage (SqliteFailure NameTaken) = refl
 no_damage (SqliteFailure NoMemory) = refl
 no_damage _ = refl
 
-pub never_damaged : (e : Error) → ¬ (Damaged ≡ refused_as e)
+pub never_damaged : (e : Error) → ¬ (Damaged ≡ error_of_check e)
 never_damaged e is = true≢false (ap is_damage is ∙ no_damage e)
 
 fails_otherwise : ¬ IsFailure NotThisSchema
 fails_otherwise (inl e) = absurd cc
 fails_otherwise (inr e) = absurd cc
 
-pub never_refused : (e : Error) → is_misfit e ≡ false → ¬ (NotThisSchema ≡ refused_as e)
+pub never_refused : (e : Error) → is_misfit e ≡ false → ¬ (NotThisSchema ≡ error_of_check e)
 never_refused e fits is = fails_otherwise (subst IsFailure (sym is) (a_failure e fits))
 
 -- ---- one query

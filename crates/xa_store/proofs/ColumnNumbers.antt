@@ -3,7 +3,7 @@ use Rattle.std.proofs.Common.{◌≡◌, ℕ, zero, suc, ℤ, pos, negsuc, Bool,
 use Rattle.std.specs.Int.{from_bool}
 use Rattle.std.specs.Option.{ok_or}
 use Rattle.std.specs.Prelude.{unwrap_or}
-use Rattle.xa_store.proofs.Common.{ints, DocumentKind, Failure, Role, is_bit, is_count, nat_of, type_numbered, bit, is_set, kind_in, kind_number, role_in, role_number, type_in}
+use Rattle.xa_store.proofs.Common.{ints, DocumentKind, Failure, Role, is_bit, is_count, nat_of, type_numbered, activity_number, flag_in, kind_in, kind_number, role_in, role_number, type_in}
 use Rattle.xa_value.specs.declared.data_type.DataType.{DataType}
 use Rattle.xa_value.specs.declared.data_type.DataType.TheVariants.{String, Boolean, Integer, Date, Time, DateTime, DayTimeDuration, YearMonthDuration, AnyUri, HexBinary, Base64Binary}
 use Rattle.xa_value.specs.Types.{place_of, type_at}
@@ -26,12 +26,12 @@ pub of_role : (role : Role) → IsBitOf role_number role_in role
 of_role Ask = record { back = refl; held = refl; low = refl }
 of_role Admin = record { back = refl; held = refl; low = refl }
 
-pub of_activity : (active : Bool) → IsBitOf bit is_set active
+pub of_activity : (active : Bool) → IsBitOf activity_number flag_in active
 of_activity true = record { back = refl; held = refl; low = refl }
 of_activity false = record { back = refl; held = refl; low = refl }
 
 -- a truth counts as its bit
-pub bit_counted : (b : Bool) → pos (from_bool b) ≡ bit b
+pub bit_counted : (b : Bool) → pos (from_bool b) ≡ activity_number b
 bit_counted true = refl
 bit_counted false = refl
 

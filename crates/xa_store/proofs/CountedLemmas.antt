@@ -1,7 +1,7 @@
 -- The places that the walk counts are those of each domain, from 0 on, each once.
 use Rattle.std.proofs.Common.{◌≡◌, ◌⊎◌, inl, inr, ◌+◌, ◌<◌, ◌≤◌, ℕ, zero, suc, ℤ, pos, negsuc, ◌+ℤ◌, Bool, true, false, ◌&&◌, cond, List, [], ◌∷◌, map, filter, length, get_or, int_eq, int_le, int_cmp, Ordering, Less, is_eq, is_lt, IsPermutation, IsSorted, refl, sym, ap, subst, ◌∙◌, arith, add-one}
 use Rattle.xa_store.proofs.Common.{IsTotalOrder, AllByRecursion, ordering_reverse, ordering_then, int_cmp_total, on_total, then_total, tied_itself, ints, IsPermutation-map, IsPermutation-sym, IsPermutation-trans, sort_by, same_int, IsPermutation-filter, all_from_test, all_of, all_weaker, ascending-map, ascending_weaker, filter_none, test_from_all, first_of_both, second_of_both, IsPermutation-sort_by, sorted_unique, IsAscending, SourcePlace, are_counted, count_from, places_of}
-use Rattle.xa_store.specs.Check.{counts_on, no_place}
+use Rattle.xa_store.specs.Check.{follows, no_place}
 use Rattle.xa_store.proofs.KeyLemmas.{own_number}
 use Rattle.xa_store.proofs.OrderedLemmas.{apart_among, rises_sorted}
 use Rattle.xa_store.proofs.RiseLemmas.{both_true}
@@ -9,7 +9,7 @@ use Rattle.xa_store.proofs.RiseLemmas.{both_true}
 -- each place comes after the one before
 abbrev pub count_on : SourcePlace → List SourcePlace → Bool
 count_on last [] = true
-count_on last (place ∷ places) = counts_on last place && count_on place places
+count_on last (place ∷ places) = follows last place && count_on place places
 
 -- by the domain, and then by the place
 abbrev pub place_cmp : SourcePlace → SourcePlace → Ordering
@@ -33,7 +33,7 @@ at_cons : (n : ℤ) (p : SourcePlace) (ps : List SourcePlace) → at n (p ∷ ps
 at_cons n p ps =
     elim (int_eq p.domain n) as (λ b. map (λ (x : SourcePlace). x.index) (cond b (p ∷ filter (λ x. int_eq x.domain n) ps) (filter (λ x. int_eq x.domain n) ps)) ≡ cond b (p.index ∷ at n ps) (at n ps)) [ true ↦ refl | false ↦ refl ]
 
-on_is : (q p : SourcePlace) → counts_on q p ≡ int_eq p.index (start q p.domain)
+on_is : (q p : SourcePlace) → follows q p ≡ int_eq p.index (start q p.domain)
 on_is q p = elim (int_eq p.domain q.domain) as (λ b. cond b (int_eq p.index (q.index +ℤ pos 1)) (int_eq p.index (pos 0)) ≡ int_eq p.index (cond b (q.index +ℤ pos 1) (pos 0))) [ true ↦ refl | false ↦ refl ]
 
 turn_same : (m n : ℤ) → int_eq m n ≡ true → int_eq n m ≡ true
@@ -54,13 +54,13 @@ module _ (q p : SourcePlace) (ps : List SourcePlace) (past : int_eq p.domain q.d
           subst (λ m. count_from (q.index +ℤ pos 1) (at m ps) ≡ count_from (pos 0) (at m ps)) (sym same) (past (ap (int_eq p.domain) (sym same) ∙ apart))
 
   -- its own domain goes on after it by one more
-  here : (n : ℤ) → int_eq p.domain n ≡ true → counts_on q p ≡ true → start p n ≡ start q n +ℤ pos 1
+  here : (n : ℤ) → int_eq p.domain n ≡ true → follows q p ≡ true → start p n ≡ start q n +ℤ pos 1
   here n own on =
       let same : p.domain ≡ n = same_int p.domain n own in
       let place : p.index ≡ start q n = same_int p.index (start q p.domain) (sym (on_is q p) ∙ on) ∙ ap (start q) same in
       ap (λ b. cond b (p.index +ℤ pos 1) (pos 0)) (turn_same p.domain n own) ∙ ap (λ j. j +ℤ pos 1) place
 
-  good_before : counts_on q p ≡ true → GoesOn p ps → GoesOn q (p ∷ ps)
+  good_before : follows q p ≡ true → GoesOn p ps → GoesOn q (p ∷ ps)
   good_before on good n = ap (count_from (start q n)) (at_cons n p ps) ∙ go (int_eq p.domain n) refl
     where
       go : (b : Bool) → int_eq p.domain n ≡ b → count_from (start q n) (cond b (p.index ∷ at n ps) (at n ps)) ≡ true
@@ -74,7 +74,7 @@ module _ (q p : SourcePlace) (ps : List SourcePlace) (past : int_eq p.domain q.d
     seen : (n : ℤ) (b : Bool) → int_eq p.domain n ≡ b → count_from (start q n) (cond b (p.index ∷ at n ps) (at n ps)) ≡ true
     seen n b is = sym (ap (λ c. count_from (start q n) (cond c (p.index ∷ at n ps) (at n ps))) is) ∙ sym (ap (count_from (start q n)) (at_cons n p ps)) ∙ good n
 
-    on_after : counts_on q p ≡ true
+    on_after : follows q p ≡ true
     on_after = on_is q p ∙ first_of_both (int_eq p.index (start q p.domain)) (count_from (start q p.domain +ℤ pos 1) (at p.domain ps)) (seen p.domain true (own_number p.domain))
 
     good_after : GoesOn p ps
@@ -101,22 +101,22 @@ none_more q p ps up apart =
 
 walk_good : (q : SourcePlace) (ps : List SourcePlace) → Rises (q ∷ ps) → count_on q ps ≡ true → GoesOn q ps
 walk_good q [] up h = λ n. refl
-walk_good q (p ∷ ps) up h = good_before q p ps (none_more q p ps up) (first_of_both (counts_on q p) (count_on p ps) h) (walk_good p ps up.1 (second_of_both (counts_on q p) (count_on p ps) h))
+walk_good q (p ∷ ps) up h = good_before q p ps (none_more q p ps up) (first_of_both (follows q p) (count_on p ps) h) (walk_good p ps up.1 (second_of_both (follows q p) (count_on p ps) h))
 
 good_walk : (q : SourcePlace) (ps : List SourcePlace) → Rises (q ∷ ps) → GoesOn q ps → count_on q ps ≡ true
 good_walk q [] up good = refl
 good_walk q (p ∷ ps) up good =
-    let past = none_more q p ps up in both_true (counts_on q p) (count_on p ps) (on_after q p ps past good) (good_walk p ps up.1 (good_after q p ps past good))
+    let past = none_more q p ps up in both_true (follows q p) (count_on p ps) (on_after q p ps past good) (good_walk p ps up.1 (good_after q p ps past good))
 
 -- from before the first place
 walk_all : (ps : List SourcePlace) → Rises ps → count_on no_place ps ≡ true → GoesOn no_place ps
 walk_all [] up h = λ n. refl
-walk_all (p ∷ ps) up h = good_before no_place p ps (λ _. refl) (first_of_both (counts_on no_place p) (count_on p ps) h) (walk_good p ps up (second_of_both (counts_on no_place p) (count_on p ps) h))
+walk_all (p ∷ ps) up h = good_before no_place p ps (λ _. refl) (first_of_both (follows no_place p) (count_on p ps) h) (walk_good p ps up (second_of_both (follows no_place p) (count_on p ps) h))
 
 all_walk : (ps : List SourcePlace) → Rises ps → GoesOn no_place ps → count_on no_place ps ≡ true
 all_walk [] up good = refl
 all_walk (p ∷ ps) up good =
-    both_true (counts_on no_place p) (count_on p ps) (on_after no_place p ps (λ _. refl) good) (good_walk p ps up (good_after no_place p ps (λ _. refl) good))
+    both_true (follows no_place p) (count_on p ps) (on_after no_place p ps (λ _. refl) good) (good_walk p ps up (good_after no_place p ps (λ _. refl) good))
 
 from_zero : (n : ℤ) → start no_place n ≡ pos 0
 from_zero n = elim (int_eq n (negsuc 0)) as (λ b. cond b (negsuc 0 +ℤ pos 1) (pos 0) ≡ pos 0) [ true ↦ refl | false ↦ refl ]

@@ -1,6 +1,6 @@
 -- What the queries on documents find.
 use Rattle.std.proofs.Common.{◌≡◌, ℕ, ℤ, pos, List, [], ◌∷◌, map, filter, length, Bool, true, false, ◌&&◌, Ordering, Less, is_eq, int_eq, Option, Some, None, option_map, unwrap_or, find, Ok, refl, sym, ap, subst, ◌∙◌, IsPermutation, IsSorted}
-use Rattle.xa_store.proofs.Common.{IsTotalOrder, get, entries, len, len-entries, length-map, AllByRecursion, on, on_total, IsPermutation-map, IsPermutation-trans, length_permutation, Row, State, Shown, Trees, Int, Text, Blob, IsPlain, understood, Term, col, reads_as, sort_by, all_of, all_weaker, map-map, filter-map, IsPermutation-filter, ascending-map, ascending-filter, sorted_unique, IsPermutation-sort_by, Eq, IsAscending, at_ints, then_term, last_term, DocumentKey, compare_keys, read_version, version_text, StoredDocument, active_text, active_texts, listed_of, listing_of_state, text_in, keys_total, keys_exact, DocumentRow, document_row, document_in, bit, kind_number, AreTables, Ours, same_document, schema_2, Rows, rows_of, state_at, documents_at, document_entry}
+use Rattle.xa_store.proofs.Common.{IsTotalOrder, get, entries, len, len-entries, length-map, AllByRecursion, on, on_total, IsPermutation-map, IsPermutation-trans, length_permutation, Row, State, Shown, Trees, Int, Text, Blob, IsPlain, understood, Term, col, reads_as, sort_by, all_of, all_weaker, map-map, filter-map, IsPermutation-filter, ascending-map, ascending-filter, sorted_unique, IsPermutation-sort_by, Eq, IsAscending, at_ints, then_term, last_term, DocumentKey, compare_keys, read_version, version_text, StoredDocument, active_text, active_texts, listed_of, listing_of_state, text_in, keys_total, keys_exact, DocumentRow, document_row, document_in, activity_number, kind_number, AreTables, Ours, same_document, schema_2, Rows, rows_of, state_at, documents_at, document_entry}
 use Rattle.xa_records.specs.declared.listed.Listed.{Listed}
 use Rattle.xa_records.specs.declared.active_text.ActiveText.{ActiveText}
 use Rattle.xa_store.specs.declared.query.document_row.DocumentFound.{DocumentFound}
@@ -163,7 +163,7 @@ module _ (old new : State) (number : ℤ) (ours : Ours old) where
   of_number d = int_eq d.number number
 
   abbrev list_shown : DocumentRow → Row
-  list_shown d = Int (kind_number d.key.kind) ∷ Text d.key.id ∷ Text (version_text d.key.version) ∷ Int (bit d.active) ∷ []
+  list_shown d = Int (kind_number d.key.kind) ∷ Text d.key.id ∷ Text (version_text d.key.version) ∷ Int (activity_number d.active) ∷ []
 
   pub listing_told : (rows : List Row) → Shown show_documents (Int number ∷ []) old new rows → (items : List Listed) → items ≡ map listed_told rows
       → IsPermutation (map (list_row trees number ours.tables) (mine trees number ours.tables)) items
@@ -191,7 +191,7 @@ module _ (old new : State) (number : ℤ) (ours : Ours old) where
       ∙ sym (length_permutation (ordered trees number ours.tables) (mine trees number ours.tables)
       (IsPermutation-sort_by by_document_key (document_order trees number ours.tables) (mine trees number ours.tables))))
 
-  bit_is_one : (b : Bool) → int_eq (bit b) (pos 1) ≡ b
+  bit_is_one : (b : Bool) → int_eq (activity_number b) (pos 1) ≡ b
   bit_is_one true = refl
   bit_is_one false = refl
 
@@ -200,7 +200,7 @@ module _ (old new : State) (number : ℤ) (ours : Ours old) where
 
   active_hit : (d : DocumentRow)
       → hits 5 (is 1 0 ∷ is_one 6 ∷ []) (col 1 2 ∷ col 1 3 ∷ col 1 4 ∷ col 1 5 ∷ []) (2 ∷ 3 ∷ 4 ∷ []) trees refl (Int number ∷ []) (document_row d) ≡ of_number_active d
-  active_hit d = then_term (at_ints false Eq d.number number) (last_term (at_ints false Eq (bit d.active) (pos 1)) ∙ bit_is_one d.active)
+  active_hit d = then_term (at_ints false Eq d.number number) (last_term (at_ints false Eq (activity_number d.active) (pos 1)) ∙ bit_is_one d.active)
 
   abbrev text_shown : DocumentRow → Row
   text_shown d = Int (kind_number d.key.kind) ∷ Text d.key.id ∷ Text (version_text d.key.version) ∷ Blob d.text ∷ []

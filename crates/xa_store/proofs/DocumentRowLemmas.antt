@@ -1,6 +1,6 @@
 -- Sound rows of the table of documents are rows that the keeper writes.
 use Rattle.std.proofs.Common.{◌≡◌, ◌≤◌, ℕ, ℤ, true, false, List, [], ◌∷◌, length, drop, unwrap_or, int_eq, bytes_eq, None, Result, Ok, Err, refl, sym, ap, subst, ◌∙◌, true≢false, arith}
-use Rattle.xa_store.proofs.Common.{Row, column, Trees, Value, Int, Text, IsSound, same_int, first_of_both, second_of_both, agree, are_typed, Eq, int_of, bytes_of, at_ints, at_texts, then_term, last_term, bytes_eq_refl, DocumentKey, DocumentKind, read_version, version_text, Parsed, document_of, IsDocumentOf, Documents, as_read, holds_key, is_assigned, is_bit, is_sound_table, is_whole_row, DocumentRow, bit, is_set, document_in, document_row, given, kind_in, kind_number, AreRows, same_document, schema_2, policies, rising}
+use Rattle.xa_store.proofs.Common.{Row, column, Trees, Value, Int, Text, IsSound, same_int, first_of_both, second_of_both, agree, are_typed, Eq, int_of, bytes_of, at_ints, at_texts, then_term, last_term, bytes_eq_refl, DocumentKey, DocumentKind, read_version, version_text, Parsed, document_of, IsDocumentOf, Documents, as_read, holds_key, is_assigned, is_bit, is_sound_table, is_whole_row, DocumentRow, activity_number, flag_in, document_in, document_row, given, kind_in, kind_number, AreRows, same_document, schema_2, policies, rising}
 use Rattle.sqlite_value.specs.Keys.{first_key}
 use Rattle.xa_notation.specs.declared.notation_error.NotationError.{NotationError}
 use Rattle.xa_store.specs.Rows.{version_in}
@@ -70,7 +70,7 @@ document_back next row typed whole =
     let less : length row ≤ 7 = row_short None policies.columns row typed in
     let more = row_long row 6 (never_int (column row 6) _ active.0) in
     by_columns 7 row (omega (arith, less, more))
-    ∙ (λ i. rowid i ∷ number.0 i ∷ key.0 i ∷ key.1 i ∷ key.2 i ∷ text.0 i ∷ (active.0 ∙ ap Int (from_bit bit is_set refl refl _ active.1)) i ∷ [])
+    ∙ (λ i. rowid i ∷ number.0 i ∷ key.0 i ∷ key.1 i ∷ key.2 i ∷ text.0 i ∷ (active.0 ∙ ap Int (from_bit activity_number flag_in refl refl _ active.1)) i ∷ [])
 
 -- ---- no two rows have one key
 

@@ -1,6 +1,6 @@
 -- What the statements on documents make of the rows.
 use Rattle.std.proofs.Common.{◌≡◌, ℕ, ℤ, pos, List, [], ◌∷◌, ◌++◌, map, filter, Bool, true, false, ◌&&◌, refl, sym, ap, ◌∙◌, int_eq, Ok}
-use Rattle.xa_store.proofs.Common.{AllByRecursion, eq_by_cmp, eq_by_cmp_equiv, and_parts, and_from, Row, Chosen, State, Executes, col, Trees, Null, Int, Text, Blob, cast_row, with_rowid, next_rowid, next_key, update_where, delete_where, all_weaker, all_map, same_int, DocumentKey, compare_keys, version_text, keys_total, DocumentRow, kind_number, bit, document_row, document_in, AreTables, same_document, schema_2, policies}
+use Rattle.xa_store.proofs.Common.{AllByRecursion, eq_by_cmp, eq_by_cmp_equiv, and_parts, and_from, Row, Chosen, State, Executes, col, Trees, Null, Int, Text, Blob, cast_row, with_rowid, next_rowid, next_key, update_where, delete_where, all_weaker, all_map, same_int, DocumentKey, compare_keys, version_text, keys_total, DocumentRow, kind_number, activity_number, document_row, document_in, AreTables, same_document, schema_2, policies}
 use Rattle.xa_store.specs.declared.step.Step.TheVariants.{AddDocument, SetActive, DropDocument}
 use Rattle.xa_store.specs.Steps.{KeyReads, is_document}
 use Rattle.xa_store.specs.Texts as text
@@ -23,7 +23,7 @@ key_of_back : (d : DocumentRow) → document_in (document_row d) ≡ d → KeyRe
 key_of_back d back = ap (λ (x : DocumentRow). x.key.version) back
 
 document_cast : (d : DocumentRow) → cast_row policies (document_row d) ≡ document_row d
-document_cast d = λ i. cast_int d.rowid i ∷ cast_int d.number i ∷ cast_int (kind_number d.key.kind) i ∷ Text d.key.id ∷ Text (version_text d.key.version) ∷ Blob d.text ∷ cast_int (bit d.active) i ∷ []
+document_cast d = λ i. cast_int d.rowid i ∷ cast_int d.number i ∷ cast_int (kind_number d.key.kind) i ∷ Text d.key.id ∷ Text (version_text d.key.version) ∷ Blob d.text ∷ cast_int (activity_number d.active) i ∷ []
 
 documents_alike : (n : ℤ) (key : DocumentKey) (a b : DocumentRow) → is_document n key a ≡ true → is_document n key b ≡ true → same_document a b ≡ true
 documents_alike n key a b here there =
@@ -78,10 +78,10 @@ module _ (old new : State) (has : old.now.schema ≡ schema_2) (count : ℕ) (wa
       }
 
   -- whether references may resolve to a document
-  pub activity_stepped : (active : Bool) → Executes text.set_active (Int n ∷ Int (kind_number key.kind) ∷ Text key.id ∷ Text (version_text key.version) ∷ Int (bit active) ∷ []) old new (Ok count)
+  pub activity_stepped : (active : Bool) → Executes text.set_active (Int n ∷ Int (kind_number key.kind) ∷ Text key.id ∷ Text (version_text key.version) ∷ Int (activity_number active) ∷ []) old new (Ok count)
       → Stepped old new (SetActive n key active)
   activity_stepped active h =
-      let given = Int n ∷ Int (kind_number key.kind) ∷ Text key.id ∷ Text (version_text key.version) ∷ Int (bit active) ∷ [] in
+      let given = Int n ∷ Int (kind_number key.kind) ∷ Text key.id ∷ Text (version_text key.version) ∷ Int (activity_number active) ∷ [] in
       let tests = is 1 0 ∷ is 2 1 ∷ is 3 2 ∷ is 4 3 ∷ [] in
       let shown = col 1 0 ∷ col 1 0 ∷ col 1 1 ∷ col 1 2 ∷ col 1 3 ∷ col 1 4 ∷ col 1 5 ∷ col 0 4 ∷ [] in
       let p = is_document n key in
@@ -90,7 +90,7 @@ module _ (old new : State) (has : old.now.schema ≡ schema_2) (count : ℕ) (wa
       let answer = answered 5 tests shown [] db refl given edits.rows edits.answer.answer in
       let few = apart_few same_document p (documents_alike n key) ds was.documents.apart in
       let wrote = row_updated document_row rowid_of (λ _. refl) policies db next ds was.documents.written was.documents.rise tests shown refl given p all_hit
-      f (λ d. Int d.rowid ∷ Int d.number ∷ Int (kind_number d.key.kind) ∷ Text d.key.id ∷ Text (version_text d.key.version) ∷ Blob d.text ∷ Int (bit active) ∷ [])
+      f (λ d. Int d.rowid ∷ Int d.number ∷ Int (kind_number d.key.kind) ∷ Text d.key.id ∷ Text (version_text d.key.version) ∷ Blob d.text ∷ Int (activity_number active) ∷ [])
       (λ _. refl) (λ d. document_cast (f d)) (λ _. refl) few edits.rows answer edits.edited in
       let turned = λ (d : DocumentRow). Rattle.std.proofs.Common.cond (p d) (f d) d in
       let still = all_map (Back document_row document_in) turned ds

@@ -1,7 +1,7 @@
 -- What the query for the places of the rows of sources tells, and the query of the first table.
 use Rattle.std.proofs.Common.{◌≡◌, ℕ, Bool, true, false, ◌&&◌, List, [], ◌∷◌, map, filter, length, Ordering, is_eq, int_cmp, refl, sym, ap, subst, ◌∙◌, arith, IsPermutation}
 use Rattle.xa_store.proofs.Common.{nil_from_length, length_permutation, IsPermutation-map, IsPlain, understood, Row, Output, State, Shown, col, Trees, Int, reads_as, one_permutation, sort_by, all_of, ascending-map, ascending_weaker, filter_all, map-map, sort_by-map, IsAscending, then_key, last_key, value_cmp-Int, SchemaVersion, Schema1, Schema2, SourcePlace, are_counted, is_empty, is_left_empty, known_next, place_in, read_meta, schema_of, sources_in, tree_of, PlacedRow, placed_row_in, placed_row, AreRows, Rests, RestsIn, same_place, schema_2}
-use Rattle.xa_store.specs.Check.{counts, counts_on, no_place, places_query}
+use Rattle.xa_store.specs.Check.{are_consecutive, follows, no_place, places_query}
 use Rattle.xa_store.specs.Texts.{meta_rows}
 use Rattle.xa_store.proofs.CountedLemmas.{count_on, place_cmp, walk_counts}
 use Rattle.xa_store.proofs.FoundLemmas.{found_sorted}
@@ -29,9 +29,9 @@ place_of a = record { domain = a.number; index = a.place }
 abbrev shown_of : PlacedRow → Row
 shown_of a = Int a.number ∷ Int a.place ∷ []
 
-counted : (last : SourcePlace) (xs : List PlacedRow) → counts last (map shown_of xs) ≡ count_on last (map place_of xs)
+counted : (last : SourcePlace) (xs : List PlacedRow) → are_consecutive last (map shown_of xs) ≡ count_on last (map place_of xs)
 counted last [] = refl
-counted last (x ∷ xs) = ap (λ b. counts_on last (place_of x) && b) (counted (place_of x) xs)
+counted last (x ∷ xs) = ap (λ b. follows last (place_of x) && b) (counted (place_of x) xs)
 
 abbrev by_place : PlacedRow → PlacedRow → Ordering
 by_place a b = place_cmp (place_of a) (place_of b)
@@ -68,9 +68,9 @@ module _ (version : SchemaVersion) (old new : State) (rests : RestsIn (schema_of
       (λ a b. then_key (value_cmp-Int a.number b.number) (last_key (value_cmp-Int a.place b.place))) (subst (IsAscending (λ a b. is_eq (by_place a b) ≡ false)) (sym every) untied) rows answer
       ∙ ap (λ l. map shown_of (sort_by by_place l)) every
 
-  pub places_count : counts no_place rows ≡ are_counted (map place_in (db t))
+  pub places_count : are_consecutive no_place rows ≡ are_counted (map place_in (db t))
   places_count =
-      ap (counts no_place) sorted ∙ counted no_place (sort_by by_place all) ∙ ap (count_on no_place) (sym (sort_by-map place_cmp place_of all))
+      ap (are_consecutive no_place) sorted ∙ counted no_place (sort_by by_place all) ∙ ap (count_on no_place) (sym (sort_by-map place_cmp place_of all))
       ∙ walk_counts (map place_of all) (ascending-map (λ a b. is_eq (place_cmp a b) ≡ false) place_of all untied) ∙ ap are_counted (map-map place_of placed_row_in (db t))
 
 -- ---- the table that schema 2 leaves empty

@@ -1,6 +1,6 @@
 -- A keeper's own tables are such as opening finds sound.
 use Rattle.std.proofs.Common.{◌≡◌, ℕ, ℤ, ◌<ℤ◌, Bool, true, false, ◌&&◌, cond, bytes_eq, List, [], ◌∷◌, map, int_eq, int_lt, Option, Ok, Err, refl, sym, ap, subst, ◌∙◌, arith}
-use Rattle.xa_store.proofs.Common.{AllByRecursion, list_all, ints, is_eq-slice_cmp, Row, column, State, Trees, Int, Text, all_both, all_map, all_weaker, ascending-map, map-map, map_same, test_from_all, IsAscending, bytes_eq_refl, DocumentKey, version_text, Parsed, document_of, is_domain_name, IsDocumentOf, Damaged, CheckedTable, Domains, Tokens, Documents, Roots, Sources, Schema2, are_counted, are_rising, as_read, holds_key, holds_text_if_any, holds_value, is_assigned, is_bit, is_count, is_digest, is_empty, is_left_empty, is_pattern, is_sound, is_sound_table, is_version, is_whole_row, checked, tables_in, known_next, opened, place_in, read_meta, row_number, tree_of, is_utf8, PlacedRow, DocumentRow, DomainRow, RootRow, TokenRow, placed_row_in, placed_row, bit, document_in, document_row, domain_in, domain_row, issuer_columns, kind_number, next_in, role_number, root_in, root_row, token_in, token_row, type_number, value_text, AreDocuments, AreOurs, AreRows, AreTables, AreWhole, Ours, is_if_any, place_of, rows_of}
+use Rattle.xa_store.proofs.Common.{AllByRecursion, list_all, ints, is_eq-slice_cmp, Row, column, State, Trees, Int, Text, all_both, all_map, all_weaker, ascending-map, map-map, map_same, test_from_all, IsAscending, bytes_eq_refl, DocumentKey, version_text, Parsed, document_of, is_domain_name, IsDocumentOf, Damaged, CheckedTable, Domains, Tokens, Documents, Roots, Sources, Schema2, are_counted, are_rising, as_read, holds_key, holds_text_if_any, holds_value, is_assigned, is_bit, is_count, is_digest, is_empty, is_left_empty, is_pattern, is_sound, is_sound_table, is_version, is_whole_row, checked, tables_in, known_next, opened, place_in, read_meta, row_number, tree_of, is_utf8, PlacedRow, DocumentRow, DomainRow, RootRow, TokenRow, placed_row_in, placed_row, activity_number, document_in, document_row, domain_in, domain_row, issuer_columns, kind_number, next_in, role_number, root_in, root_row, token_in, token_row, type_number, value_text, AreDocuments, AreOurs, AreRows, AreTables, AreWhole, Ours, is_if_any, place_of, rows_of}
 use Rattle.xa_store.proofs.ColumnLemmas.{held_if_any, text_written}
 use Rattle.xa_store.proofs.ColumnNumbers.{of_activity, of_kind, of_role}
 use Rattle.xa_store.proofs.CountedLemmas.{each_counted}
@@ -34,7 +34,7 @@ key_opens key text (parsed, reads, is) =
     ∙ subst (λ (k : DocumentKey). holds_key (Int (kind_number k.kind)) (Text k.id) (Text (version_text k.version)) (Ok parsed) ≡ true) is (own_key parsed)
 
 document_opens : (next : ℤ) (d : DocumentRow) → IsWholeDocument next d → IsDocumentOf d.key d.text → Whole Documents next document_row d
-document_opens next d h is = both_true _ _ (both_true (is_assigned next d.number) (is_bit (bit d.active)) h (of_activity d.active).low) (key_opens d.key d.text is)
+document_opens next d h is = both_true _ _ (both_true (is_assigned next d.number) (is_bit (activity_number d.active)) h (of_activity d.active).low) (key_opens d.key d.text is)
 
 root_opens : (next : ℤ) (r : RootRow) → IsWholeRoot next r → Whole Roots next root_row r
 root_opens next r h =

@@ -2,7 +2,7 @@
 use Rattle.std.proofs.Common.{◌≡◌, ◌⊎◌, inl, inr, ℕ, ℤ, w64, true, false, List, [], ◌∷◌, ◌++◌, Option, Some, None, Result, Ok, Err, IsTrue, OnOk, refl, sym, ap, subst, ◌∙◌, arith}
 use Rattle.xa_store.proofs.Common.{FitsSigned, Database, GivesOn, HasBegun, IsPlain, Held, state, understood, Row, State, HasCleanDisk, IsUnchanged, IsRolledBack, Survives, FailsToQuery, Fails, Ghosts, Error, given_begin, begins_as, begun_plain, unchanged_then, survives_then, OpenError, NotThisSchema, Damaged, Store, Memory, CheckedTable, SchemaVersion, row_number, schema_of, RestsIn, SameNow}
 use Rattle.sqlite.specs.Given.{HasGiven}
-use Rattle.xa_store.specs.Check.{has_table, rows_query, AreHeld, GoesOn, HoldsBack, IsRead, IsUnguarded, Moves, refused_as, TellsNext, Walked, Walks, is_next_sound_row}
+use Rattle.xa_store.specs.Check.{has_table, rows_query, AreHeld, GoesOn, HoldsBack, IsRead, IsUnguarded, Moves, error_of_check, TellsNext, Walked, Walks, is_next_sound_row}
 use Rattle.xa_store.proofs.AskLemmas.{goes_then, goes_unchanged, held_rolled, held_unchanged, holds_then, rolled_same, shown_goes, shown_held, unchanged_same}
 use Rattle.xa_store.proofs.AskedLemmas.{failed_fits, never_damaged, never_refused, same_then}
 use Rattle.xa_store.proofs.CheckedTexts.{checked_is}
@@ -31,7 +31,7 @@ module _ {S : Type 0} (g : Ghosts S) (kind : CheckedTable) (next : ℤ) (last : 
   moved_ok None (Err Store) tells on = tt
   moved_ok None (Err Memory) tells on = tt
 
-  pub moved_err : (e : Error) (o : OpenError) → o ≡ refused_as e → FailsToQuery sql [] (state g old) (state g new) e → Moves g kind next last old new sql given (Err o)
+  pub moved_err : (e : Error) (o : OpenError) → o ≡ error_of_check e → FailsToQuery sql [] (state g old) (state g new) e → Moves g kind next last old new sql given (Err o)
   moved_err e Damaged is failed = absurd (never_damaged e is)
   moved_err e NotThisSchema is failed = λ version plain rests. never_refused e (failed_fits sql [] (state g old) (state g new) e rests plain failed) is
   moved_err e Store is failed = tt

@@ -97,11 +97,11 @@ pub record Asks {X : Type 0} (version : SchemaVersion) (old new : State) (result
   pub goes_on : HasCleanDisk new → OnOk result (GoesOn version old new)
 
 -- what an error means for opening
-abbrev pub refused_as : Error → OpenError
-refused_as (SqlInputError fault) = NotThisSchema
-refused_as (SqliteFailure NameTaken) = NotThisSchema
-refused_as (SqliteFailure OutOfMemory) = Memory
-refused_as _ = Store
+abbrev pub error_of_check : Error → OpenError
+error_of_check (SqlInputError fault) = NotThisSchema
+error_of_check (SqliteFailure NameTaken) = NotThisSchema
+error_of_check (SqliteFailure OutOfMemory) = Memory
+error_of_check _ = Store
 
 -- sound, or damaged; or want of memory or a failure of the store
 abbrev pub TellsSound : Bool → Result (Unit {0}) OpenError → Type 0
@@ -224,8 +224,8 @@ Orders table db result =
 -- ---- the places of the rows of sources
 
 -- the place comes after the one before: the first of a domain is 0
-abbrev pub counts_on : SourcePlace → SourcePlace → Bool
-counts_on last place =
+abbrev pub follows : SourcePlace → SourcePlace → Bool
+follows last place =
     if int_eq place.domain last.domain then int_eq place.index (last.index +ℤ pos 1) else int_eq place.index (pos 0)
 
 -- a place before the first of any domain
@@ -240,12 +240,13 @@ place_told row =
 
 abbrev pub is_next : SourcePlace → Option SourcePlace → Bool
 is_next last None = false
-is_next last (Some place) = counts_on last place
+is_next last (Some place) = follows last place
 
 -- each row shows a place that comes after the one before
-abbrev pub counts : SourcePlace → List Row → Bool
-counts last [] = true
-counts last (row ∷ rows) = is_next last (place_told row) && counts (unwrap_or (place_told row) last) rows
+abbrev pub are_consecutive : SourcePlace → List Row → Bool
+are_consecutive last [] = true
+are_consecutive last (row ∷ rows) =
+    is_next last (place_told row) && are_consecutive (unwrap_or (place_told row) last) rows
 
 -- the rows of sources as a keeper writes them, in the table that the schema has for them
 abbrev pub AreSources : SchemaVersion → Trees → Type 0

@@ -12,7 +12,7 @@ use Rattle.xa_records.specs.declared.gate.Token.{Token}
 use Rattle.xa_records.specs.declared.listed.Listed.{Listed}
 use Rattle.xa_records.specs.declared.active_text.ActiveText.{ActiveText}
 use Rattle.xa_store.specs.declared.query.document_row.DocumentFound.{DocumentFound}
-use Rattle.xa_store.specs.Rows.{given, is_set, kind_in, role_in, value_in, version_in}
+use Rattle.xa_store.specs.Rows.{flag_in, given, kind_in, role_in, value_in, version_in}
 
 -- the one row tells this, or there is none
 abbrev pub TellsOne : {X : Type 0} → (Row → X) → List Row → Option X → Type 0
@@ -38,13 +38,13 @@ key_told row =
     }
 
 abbrev pub listed_told : Row → Listed
-listed_told row = record { key = key_told row; active = is_set (int_of (column row 3)) }
+listed_told row = record { key = key_told row; active = flag_in (int_of (column row 3)) }
 
 abbrev pub text_told : Row → ActiveText
 text_told row = record { key = key_told row; text = bytes_of (column row 3) }
 
 abbrev pub document_told : Row → DocumentFound
-document_told row = record { text = bytes_of (column row 0); active = is_set (int_of (column row 1)) }
+document_told row = record { text = bytes_of (column row 0); active = flag_in (int_of (column row 1)) }
 
 abbrev pub root_told : Row → Reference
 root_told row = record {

@@ -32,13 +32,13 @@ abbrev pub nat_of : ℤ → ℕ
 nat_of (pos n) = n
 nat_of (negsuc n) = 0
 
-abbrev pub bit : Bool → ℤ
-bit false = pos 0
-bit true = pos 1
+abbrev pub activity_number : Bool → ℤ
+activity_number false = pos 0
+activity_number true = pos 1
 
-abbrev pub is_set : ℤ → Bool
-is_set (pos zero) = false
-is_set _ = true
+abbrev pub flag_in : ℤ → Bool
+flag_in (pos zero) = false
+flag_in _ = true
 
 abbrev pub role_number : Role → ℤ
 role_number Ask = pos 0
@@ -135,7 +135,7 @@ pub record DocumentRow : Type 0 where
 abbrev pub document_row : DocumentRow → Row
 document_row d =
     Int d.rowid ∷ Int d.number ∷ Int (kind_number d.key.kind) ∷ Text d.key.id ∷ Text (version_text d.key.version)
-    ∷ Blob d.text ∷ Int (bit d.active) ∷ []
+    ∷ Blob d.text ∷ Int (activity_number d.active) ∷ []
 
 abbrev pub document_in : Row → DocumentRow
 document_in row =
@@ -148,7 +148,7 @@ document_in row =
         version = version_in (bytes_of (column row 4));
       };
       text = bytes_of (column row 5);
-      active = is_set (int_of (column row 6));
+      active = flag_in (int_of (column row 6));
     }
 
 -- ---- roots. Of the pattern and the bounds of versions each text that reads will do, so the record has the texts.

@@ -5,7 +5,7 @@ ghost use Rattle.sqlite.specs.declared.error.Error.TheVariants.{SqliteFailure};
 ghost use Rattle.sqlite.specs.declared.error.ErrorCode.TheVariants.{OutOfMemory};
 ghost use Rattle.xa_records.specs.declared.refusal.Failure.TheVariants as failures;
 ghost use Rattle.xa_store.specs.declared.error.OpenError.TheVariants.{Memory};
-ghost use Rattle.xa_store.specs.Check.{refused_as};
+ghost use Rattle.xa_store.specs.Check.{error_of_check};
 ghost use Rattle.xa_store.specs.Opening.{IsFailure};
 
 use crate::error::OpenError;
@@ -42,7 +42,7 @@ pub(crate) fn failure_of(error: Error) -> Failure
 /// For a query of the check: a statement that isn't understood, and a name that is taken, tell tables of
 /// another schema.
 pub(crate) fn error_of_check(error: Error) -> OpenError
-    ensures { result ≡ refused_as error }
+    ensures { result ≡ error_of_check error }
 {
     match error {
         Error::SqliteFailure(ErrorCode::OutOfMemory) => OpenError::Memory,

@@ -6,7 +6,7 @@ ghost use Rattle.sqlite_value.specs.Value.{owned};
 ghost use Rattle.xa_policy.specs.Pattern.{pattern_text};
 ghost use Rattle.xa_policy.specs.Version.{version_text};
 ghost use Rattle.xa_store.specs.Execution.{text_column};
-ghost use Rattle.xa_store.specs.Rows.{bit, kind_number, role_number, type_number};
+ghost use Rattle.xa_store.specs.Rows.{activity_number, kind_number, role_number, type_number};
 
 use sqlite::types::ValueRef;
 use std::alloc::{AllocError, Global};
@@ -15,14 +15,14 @@ use xa_policy::{DocumentKind, Pattern, Version};
 use xa_value::{Text, Value};
 
 /// The number of a kind of documents.
-pub(crate) fn number_of_kind(kind: DocumentKind) -> i64
+pub(crate) fn kind_number(kind: DocumentKind) -> i64
     ensures { result ≡ kind_number kind }
 {
     i64::from(kind.place())
 }
 
 /// The number of a role.
-pub(crate) fn number_of_role(role: Role) -> i64
+pub(crate) fn role_number(role: Role) -> i64
     ensures { result ≡ role_number role }
 {
     match role {
@@ -32,7 +32,7 @@ pub(crate) fn number_of_role(role: Role) -> i64
 }
 
 /// The number of the value's data type.
-pub(crate) fn number_of_type(value: &Value) -> i64
+pub(crate) fn type_number(value: &Value) -> i64
     ensures { result ≡ type_number value.now }
 {
     i64::from(value.data_type().number())
@@ -40,8 +40,8 @@ pub(crate) fn number_of_type(value: &Value) -> i64
 
 /// The number of an activity.
 #[tactic(auto, using(crate::proofs::ColumnNumbers::bit_counted))]
-pub(crate) fn number_of_activity(active: bool) -> i64
-    ensures { result ≡ bit active }
+pub(crate) fn activity_number(active: bool) -> i64
+    ensures { result ≡ activity_number active }
 {
     i64::from(active)
 }

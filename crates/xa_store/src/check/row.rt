@@ -6,7 +6,7 @@ ghost use Rattle.xa_value.specs.Reading.{read};
 ghost use Rattle.xa_store.specs.Opened.{holds_blob, holds_int, holds_key, holds_text};
 ghost use Rattle.xa_store.specs.Opened.{holds_value, int_in, is_printed, is_sound_row};
 ghost use Rattle.xa_store.specs.Opened.{is_value, known_next, next_of, type_numbered};
-ghost use Rattle.xa_store.specs.Check.{counts_on, place_told};
+ghost use Rattle.xa_store.specs.Check.{follows, place_told};
 ghost use Rattle.xa_store.specs.declared.schema.checked_table.CheckedTable.TheVariants.{Attributes, Sources};
 ghost use Rattle.xa_store.specs.declared.schema.checked_table.CheckedTable.TheVariants.{Documents, Domains};
 ghost use Rattle.xa_store.specs.declared.schema.checked_table.CheckedTable.TheVariants.{Roots, Tokens};
@@ -226,7 +226,7 @@ pub(crate) fn row_number(row: &Row) -> Option<i64>
 }
 
 /// The place that the row shows.
-pub(crate) fn place_of(row: &Row) -> Option<SourcePlace>
+pub(crate) fn place_told(row: &Row) -> Option<SourcePlace>
     ensures { result ≡ place_told row.now }
 {
     let domain = number_at(row, source_place::NUMBER)?;
@@ -236,7 +236,7 @@ pub(crate) fn place_of(row: &Row) -> Option<SourcePlace>
 
 /// Whether the place comes after the last: the first of a domain is 0.
 pub(crate) fn follows(last: SourcePlace, place: SourcePlace) -> bool
-    ensures { result ≡ counts_on last place }
+    ensures { result ≡ follows last place }
 {
     if place.domain != last.domain {
         return place.index == 0;

@@ -4,7 +4,7 @@ ghost use Rattle.std.specs.List.{list_all};
 ghost use Rattle.sqlite.specs.Effect.{IsDatabase};
 ghost use Rattle.sqlite.specs.Held.{state};
 ghost use Rattle.xa_store.specs.Check.{AreSources, AsksOver, Checked, CheckedBy, FindsIn, FindsRest};
-ghost use Rattle.xa_store.specs.Check.{GivesNext, Orders, TellsSound, counts, has_table, no_place};
+ghost use Rattle.xa_store.specs.Check.{GivesNext, Orders, TellsSound, are_consecutive, has_table, no_place};
 ghost use Rattle.xa_store.specs.Opened.{are_counted, is_left_empty, is_sound, is_sound_table};
 ghost use Rattle.xa_store.specs.Opened.{known_next, place_in, read_meta, sources_in, tables_in};
 ghost use Rattle.xa_store.specs.Tables.{meta_tree, tree_of};
@@ -16,7 +16,7 @@ ghost use Rattle.xa_store.specs.declared.schema.version.SchemaVersion.TheVariant
 use crate::check::cell::is_count;
 use crate::check::cursor::walk;
 use crate::check::query::rows_of;
-use crate::check::row::{SourcePlace, follows, known_next, place_of};
+use crate::check::row::{SourcePlace, follows, known_next, place_told};
 use crate::error::OpenError;
 use crate::schema::checked_table::CheckedTable;
 use crate::schema::version::{Checking, SchemaVersion};
@@ -127,7 +127,7 @@ fn check_tables<S: Alter>(
 
 /// Whether each place comes after the one before.
 fn are_consecutive(rows: &[Row]) -> bool
-    ensures { result ≡ counts no_place rows.now }
+    ensures { result ≡ are_consecutive no_place rows.now }
 {
     // before the first of any domain
     let mut last = SourcePlace {
@@ -135,7 +135,7 @@ fn are_consecutive(rows: &[Row]) -> bool
         index: -1,
     };
     for row in rows {
-        match place_of(row) {
+        match place_told(row) {
             Some(place) if follows(last, place) => last = place,
             _ => return false,
         }

@@ -7,7 +7,7 @@ ghost use Rattle.sqlite_typed.specs.Columns.{bytes_of, int_of, unless_null};
 ghost use Rattle.xa_policy.specs.Pattern.{read_pattern};
 ghost use Rattle.xa_policy.specs.Version.{read_version};
 ghost use Rattle.xa_store.specs.Opened.{type_numbered};
-ghost use Rattle.xa_store.specs.Rows.{given, is_set, kind_in, role_in, type_in, version_in};
+ghost use Rattle.xa_store.specs.Rows.{flag_in, given, kind_in, role_in, type_in, version_in};
 
 use crate::failure::failure_of;
 use sqlite::Row;
@@ -49,7 +49,7 @@ pub(crate) fn text_if_any(row: &Row, at: usize) -> Result<Option<Text>, Failure>
 
 /// The flag in a column: 0 or 1.
 pub(crate) fn flag_in(row: &Row, at: usize) -> Result<bool, Failure>
-    ensures { IfOk result (λ flag. flag ≡ is_set (int_of (column row.now at))) }
+    ensures { IfOk result (λ flag. flag ≡ flag_in (int_of (column row.now at))) }
 {
     match number_in(row, at)? {
         0 => Ok(false),

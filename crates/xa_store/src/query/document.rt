@@ -15,7 +15,7 @@ ghost use Rattle.xa_store.specs.Rows.{kind_number};
 ghost use Rattle.xa_store.specs.Texts.{show_document};
 ghost use Rattle.xa_store.specs.World.{state_at};
 
-use crate::parameter::number_of_kind;
+use crate::parameter::kind_number;
 use crate::query::document_row::DocumentFound;
 use crate::query::query_rows;
 use crate::query::row::{read_all, read_one};
@@ -84,7 +84,7 @@ fn document_rows<'k, S: Alter>(
         sql::SHOW_DOCUMENT,
         &[
             ValueRef::Int(number),
-            ValueRef::Int(number_of_kind(key.kind)),
+            ValueRef::Int(kind_number(key.kind)),
             ValueRef::Text(key.id.as_bytes()),
             ValueRef::Text(version.as_bytes()),
         ],

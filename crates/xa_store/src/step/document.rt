@@ -5,7 +5,7 @@ ghost use Rattle.xa_store.specs.declared.step.Step.TheVariants.{AddDocument, Dro
 ghost use Rattle.xa_policy.specs.Version.{version_text};
 ghost use Rattle.xa_store.specs.Execution.{IsTakenBy, StaysInsideOver, Takes};
 
-use crate::parameter::{number_of_activity, number_of_kind};
+use crate::parameter::{activity_number, kind_number};
 use crate::sql;
 use crate::step::execution::execute_in;
 use sqlite::types::ValueRef;
@@ -33,7 +33,7 @@ pub(crate) fn add_document<S: Alter>(
         sql::ADD_DOCUMENT,
         &[
             ValueRef::Int(number),
-            ValueRef::Int(number_of_kind(key.kind)),
+            ValueRef::Int(kind_number(key.kind)),
             ValueRef::Text(key.id.as_bytes()),
             ValueRef::Text(version.as_bytes()),
             ValueRef::Blob(text),
@@ -60,10 +60,10 @@ fn set_active_at<'a, S: Alter>(
         sql::SET_ACTIVE,
         &[
             ValueRef::Int(number),
-            ValueRef::Int(number_of_kind(key.kind)),
+            ValueRef::Int(kind_number(key.kind)),
             ValueRef::Text(key.id.as_bytes()),
             ValueRef::Text(version.as_bytes()),
-            ValueRef::Int(number_of_activity(active)),
+            ValueRef::Int(activity_number(active)),
         ],
     )
 }
@@ -100,7 +100,7 @@ pub(crate) fn drop_document<S: Alter>(
         sql::DROP_DOCUMENT,
         &[
             ValueRef::Int(number),
-            ValueRef::Int(number_of_kind(key.kind)),
+            ValueRef::Int(kind_number(key.kind)),
             ValueRef::Text(key.id.as_bytes()),
             ValueRef::Text(version.as_bytes()),
         ],

@@ -3,7 +3,7 @@ ghost use Rattle.std.specs.Prelude.{◌≡◌};
 ghost use Rattle.xa_store.specs.declared.step.Step.TheVariants.{AddRoot, DropRoot};
 ghost use Rattle.xa_store.specs.Execution.{IsTakenBy};
 
-use crate::parameter::{number_of_kind, text_of_pattern, text_of_version, text_or_null};
+use crate::parameter::{kind_number, text_of_pattern, text_of_version, text_or_null};
 use crate::sql;
 use crate::step::execution::execute_in;
 use sqlite::types::ValueRef;
@@ -30,7 +30,7 @@ pub(crate) fn add_root<S: Alter>(
         sql::ADD_ROOT,
         &[
             ValueRef::Int(number),
-            ValueRef::Int(number_of_kind(root.kind)),
+            ValueRef::Int(kind_number(root.kind)),
             ValueRef::Text(root.id.as_bytes()),
             text_or_null(&pattern),
             text_or_null(&earliest),

@@ -3,7 +3,7 @@ ghost use Rattle.std.specs.Prelude.{◌≡◌};
 ghost use Rattle.xa_store.specs.declared.step.Step.TheVariants.{AddSourceRow, DropSource};
 ghost use Rattle.xa_store.specs.Execution.{IsTakenBy};
 
-use crate::parameter::{number_of_type, text_or_null};
+use crate::parameter::{text_or_null, type_number};
 use crate::sql;
 use crate::step::execution::execute_in;
 use sqlite::types::ValueRef;
@@ -34,7 +34,7 @@ pub(crate) fn add_source_row<S: Alter>(
             ValueRef::Text(row.category.as_bytes()),
             ValueRef::Text(row.entity.as_bytes()),
             ValueRef::Text(row.attribute_id.as_bytes()),
-            ValueRef::Int(number_of_type(&row.value)),
+            ValueRef::Int(type_number(&row.value)),
             ValueRef::Text(value.as_bytes()),
             text_or_null(&row.issuer),
         ],

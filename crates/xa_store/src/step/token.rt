@@ -3,7 +3,7 @@ ghost use Rattle.std.specs.Prelude.{◌≡◌};
 ghost use Rattle.xa_store.specs.declared.step.Step.TheVariants.{AddToken, DropToken, SetRole};
 ghost use Rattle.xa_store.specs.Execution.{IsTakenBy};
 
-use crate::parameter::number_of_role;
+use crate::parameter::role_number;
 use crate::sql;
 use crate::step::execution::execute_in;
 use sqlite::types::ValueRef;
@@ -28,7 +28,7 @@ pub(crate) fn add_token<S: Alter>(
         &[
             ValueRef::Int(number),
             ValueRef::Blob(digest.as_bytes()),
-            ValueRef::Int(number_of_role(role)),
+            ValueRef::Int(role_number(role)),
         ],
     )
 }
@@ -50,7 +50,7 @@ pub(crate) fn set_role<S: Alter>(
         &[
             ValueRef::Int(number),
             ValueRef::Blob(digest.as_bytes()),
-            ValueRef::Int(number_of_role(role)),
+            ValueRef::Int(role_number(role)),
         ],
     )
 }

@@ -1,6 +1,6 @@
 use Rattle.std.proofs.Common.{◌≡◌, true, ◌∙◌, ℕ, ℤ, inl, inr, List, [], Option, Result, Ok, Err, refl, sym, subst, subst₂, rules, w64}
 use Rattle.xa_store.proofs.Common.{to_z-of_z, FitsSigned, HasGiven, Held, state, Row, State, HasCleanDisk, FailsToQuery, Survives, CommitsShowing, Ghosts, Trees, Error, OpenError, CheckedTable, SchemaVersion}
-use Rattle.xa_store.specs.Check.{has_table, refused_as, rows_query, Moves, Walked, Walks}
+use Rattle.xa_store.specs.Check.{has_table, error_of_check, rows_query, Moves, Walked, Walks}
 use Rattle.xa_store.specs.Opening.{IsFailure}
 use Rattle.xa_store.proofs.AskedLemmas.{a_failure, failed_fits, not_asked, survives_asked}
 use Rattle.xa_store.proofs.StreamLemmas.{checked_plain, keeps_begun, keeps_on, stands_begun, survived_on, walk_ended, walk_goes_on, walk_stopped}
@@ -11,10 +11,10 @@ walks_failed kind next db e (inl is) = subst (λ o. Walks kind next db (Err o)) 
 walks_failed kind next db e (inr is) = subst (λ o. Walks kind next db (Err o)) (sym is) tt
 
 not_walked : (version : SchemaVersion) (kind : CheckedTable) → has_table kind version ≡ true → (next : ℤ) (old new : State) (e : Error) → Survives old new (CommitsShowing (rows_query kind) [] old)
-    → (HasCleanDisk new → FailsToQuery (rows_query kind) [] old new e) → Walked version kind next old new (Err (refused_as e))
+    → (HasCleanDisk new → FailsToQuery (rows_query kind) [] old new e) → Walked version kind next old new (Err (error_of_check e))
 not_walked version kind has next old new e survives failed = record {
-  asks = not_asked (rows_query kind) [] old new version (checked_plain kind version has) survives e (refused_as e) failed;
-  finds = λ clean rests. walks_failed kind next old.now.trees (refused_as e) (a_failure e (failed_fits (rows_query kind) [] old new e rests (checked_plain kind version has) (failed clean)));
+  asks = not_asked (rows_query kind) [] old new version (checked_plain kind version has) survives e (error_of_check e) failed;
+  finds = λ clean rests. walks_failed kind next old.now.trees (error_of_check e) (a_failure e (failed_fits (rows_query kind) [] old new e rests (checked_plain kind version has) (failed clean)));
 }
 
 -- what is known of a row that is asked for

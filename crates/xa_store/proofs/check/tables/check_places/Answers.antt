@@ -1,6 +1,6 @@
 use Rattle.std.proofs.Common.{◌≡◌, ◌∙◌, Err, rules, sym, subst}
 use Rattle.xa_store.proofs.Common.{IsPlain, state, understood, schema_of}
-use Rattle.xa_store.specs.Check.{counts, no_place, TellsSound}
+use Rattle.xa_store.specs.Check.{are_consecutive, no_place, TellsSound}
 use Rattle.xa_store.proofs.AskedLemmas.{as_failed, as_told}
 use Rattle.xa_store.proofs.LoadLemmas.{failure_checked}
 use Rattle.xa_store.proofs.PlaceLemmas.{places_count, places_plain}
@@ -25,7 +25,7 @@ returns-clause-asks g c =
 
 pub returns-clause-finds : goal.returns-clause-finds
 returns-clause-finds g c clean rests are =
-    let told : c.are_consecutive.result ≡ counts no_place c.in_ok-rows.rows.items = search rules in
+    let told : c.are_consecutive.result ≡ are_consecutive no_place c.in_ok-rows.rows.items = search rules in
     subst (λ b. TellsSound b c.sound_or_damaged.result)
     (told ∙ places_count c.args.version (state g.S.Store c.args.conn.now) (state g.S.Store c.rows_of.new.conn) rests are c.in_ok-rows.rows.items (rw c.places_query.ensures at (c.in_ok-rows.ensures.shows clean)))
     c.sound_or_damaged.ensures

@@ -15,5 +15,5 @@ returns-clause-taken g c =
       stays = c.execute_in.ensures.stays;
       takes = λ clean inside allows.
           took_ok old new (AddDocument c.args.number c.args.key.now c.args.text.now) c.execute_in.result (c.execute_in.ensures.stays.inside clean inside.inside) (c.execute_in.ensures.runs clean inside.inside)
-          (λ ran. document_added_stepped old new inside.schema ran.0 inside.tables c.args.number c.args.key.now allows.1 c.args.text.now allows.0 (rw (n, (of_kind c.args.key.now.kind).held) at (rw (c.number_of_kind.ensures, c.as_bytes.ensures, c.as_bytes-2.ensures, c.in_ok-version.ensures) at ran.1)));
+          (λ ran. document_added_stepped old new inside.schema ran.0 inside.tables c.args.number c.args.key.now allows.1 c.args.text.now allows.0 (rw (n, (of_kind c.args.key.now.kind).held) at (rw (c.kind_number.ensures, c.as_bytes.ensures, c.as_bytes-2.ensures, c.in_ok-version.ensures) at ran.1)));
     }

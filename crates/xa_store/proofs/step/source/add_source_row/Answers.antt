@@ -20,5 +20,5 @@ returns-clause-taken g c =
       takes = λ clean inside allows.
           took_ok old new (AddSourceRow c.args.number c.args.place row) c.execute_in.result (c.execute_in.ensures.stays.inside clean inside.inside) (c.execute_in.ensures.runs clean inside.inside)
           (λ ran. source_row_added_stepped old new inside.schema ran.0 inside.tables c.args.number c.args.place row allows.0 allows.1
-          (rw (n, p, (of_type (type_of row.value)).held) at (rw (c.number_of_type.ensures, c.as_bytes.ensures, c.as_bytes-2.ensures, c.as_bytes-3.ensures, c.as_bytes-4.ensures, c.text_or_null.ensures, c.in_ok-value.ensures) at ran.1)));
+          (rw (n, p, (of_type (type_of row.value)).held) at (rw (c.type_number.ensures, c.as_bytes.ensures, c.as_bytes-2.ensures, c.as_bytes-3.ensures, c.as_bytes-4.ensures, c.text_or_null.ensures, c.in_ok-value.ensures) at ran.1)));
     }

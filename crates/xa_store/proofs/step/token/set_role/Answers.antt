@@ -15,5 +15,5 @@ returns-clause-taken g c =
       stays = c.execute_in.ensures.stays;
       takes = λ clean inside allows.
           took_ok old new (SetRole c.args.number c.args.digest.now c.args.role) c.execute_in.result (c.execute_in.ensures.stays.inside clean inside.inside) (c.execute_in.ensures.runs clean inside.inside)
-          (λ ran. role_set_stepped old new inside.schema ran.0 inside.tables c.args.number c.args.digest.now c.args.role (rw (n, (of_role c.args.role).held) at (rw (c.as_bytes.ensures.value, c.number_of_role.ensures) at ran.1)));
+          (λ ran. role_set_stepped old new inside.schema ran.0 inside.tables c.args.number c.args.digest.now c.args.role (rw (n, (of_role c.args.role).held) at (rw (c.as_bytes.ensures.value, c.role_number.ensures) at ran.1)));
     }
