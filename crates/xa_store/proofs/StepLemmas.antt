@@ -4,7 +4,7 @@ use Rattle.xa_store.proofs.Common.{AllByRecursion, Row, Chosen, State, Executes,
 use Rattle.sqlite.specs.Cast.{cast}
 use Rattle.sqlite.specs.Kind.TheVariants.{Integer, Text as TextKind}
 use Rattle.sqlite.specs.Ops.{unary}
-use Rattle.xa_store.specs.declared.step.Revision.{Revision}
+use Rattle.xa_store.specs.declared.step.RaisedEpoch.{RaisedEpoch}
 use Rattle.xa_store.specs.declared.step.Step.{Step}
 use Rattle.xa_store.specs.declared.step.Step.TheVariants.{SetNext, SetEpoch, AddRoot, DropRoot}
 use Rattle.xa_store.specs.Steps.{after}
@@ -78,10 +78,10 @@ module _ (old new : State) (has : old.now.schema ≡ schema_2) (count : ℕ) (wa
   next = new.now.trees
 
   -- the domain's epoch
-  pub epoch_stepped : (revision : Revision) → Executes text.set_epoch (Int revision.number ∷ Int revision.epoch ∷ []) old new (Ok count) → Stepped old new (SetEpoch revision)
-  epoch_stepped revision h =
-      let n = revision.number in
-      let e = revision.epoch in
+  pub epoch_stepped : (raised : RaisedEpoch) → Executes text.set_epoch (Int raised.number ∷ Int raised.epoch ∷ []) old new (Ok count) → Stepped old new (SetEpoch raised)
+  epoch_stepped raised h =
+      let n = raised.number in
+      let e = raised.epoch in
       let ds = map domain_in (db 1) in
       let params = Int n ∷ Int e ∷ [] in
       let shown = col 1 0 ∷ col 1 0 ∷ lit Null ∷ col 1 2 ∷ col 0 1 ∷ [] in

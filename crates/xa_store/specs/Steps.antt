@@ -53,7 +53,7 @@ after (AddDomain number name) rows =
       domains = insert_by (λ d. d.number) rows.domains (record { number = number; name = name; epoch = pos 0 });
     }
 after (SetNext next) rows = record rows { next = next }
-after (SetEpoch revision) rows = record rows { domains = with_epoch revision.number revision.epoch rows.domains }
+after (SetEpoch raised) rows = record rows { domains = with_epoch raised.number raised.epoch rows.domains }
 after (DropDomain number) rows = without_domain number rows
 after (AddToken number digest role) rows =
     record rows {

@@ -19,7 +19,7 @@ pub(crate) mod source;
 pub(crate) mod token;
 
 use crate::step::transaction::run;
-use crate::step::{Revision, Step};
+use crate::step::{RaisedEpoch, Step};
 use sqlite::{Alter, Connection};
 use std::alloc::{AllocError, Global};
 use xa_records::ChangeError;
@@ -37,11 +37,11 @@ pub(crate) fn one_step(alloc: Global, step: Step) -> Result<Items<Step>, AllocEr
 /// The steps, and then that of the domain's epoch.
 pub(crate) fn with_epoch(
     mut steps: Items<Step>,
-    revision: Revision,
+    raised: RaisedEpoch,
 ) -> Result<Items<Step>, AllocError>
-    ensures { IfOk result (λ all. all ≡ steps ++ epoch_step revision.number revision.epoch ∷ []) }
+    ensures { IfOk result (λ all. all ≡ steps ++ epoch_step raised.number raised.epoch ∷ []) }
 {
-    steps.push(Step::SetEpoch(revision))?;
+    steps.push(Step::SetEpoch(raised))?;
     Ok(steps)
 }
 
@@ -49,12 +49,12 @@ pub(crate) fn with_epoch(
 pub(crate) fn step_and_epoch(
     alloc: Global,
     step: Step,
-    revision: Revision,
+    raised: RaisedEpoch,
 ) -> Result<Items<Step>, AllocError>
-    ensures { IfOk result (λ steps. steps ≡ step ∷ epoch_step revision.number revision.epoch ∷ []) }
+    ensures { IfOk result (λ steps. steps ≡ step ∷ epoch_step raised.number raised.epoch ∷ []) }
 {
     let steps = one_step(alloc, step)?;
-    with_epoch(steps, revision)
+    with_epoch(steps, raised)
 }
 
 /// Takes the steps of a plan in one transaction, or tells why there is no plan.

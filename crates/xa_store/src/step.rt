@@ -14,9 +14,9 @@ use xa_policy::{DocumentKey, Reference};
 use xa_records::Digest;
 use xa_value::{Items, Text};
 
-/// The revision that a change gives a domain.
+/// The epoch to which a change raises that of a domain.
 #[derive(Clone, Copy, Debug)]
-pub(crate) struct Revision {
+pub(crate) struct RaisedEpoch {
     /// The domain's number.
     pub(crate) number: i64,
     /// Its epoch after the change.
@@ -34,7 +34,7 @@ pub(crate) enum Step {
     /// Sets the number of the next domain.
     SetNext(i64),
     /// Sets the domain's epoch.
-    SetEpoch(Revision),
+    SetEpoch(RaisedEpoch),
     /// Drops the domain, with all its rows.
     DropDomain(i64),
     /// Adds a token that isn't there, with its role.

@@ -15,7 +15,7 @@ ghost use Rattle.xa_store.specs.World.{Rows, world_of};
 
 use crate::change::found::{document_to_change, domain_to_change};
 use crate::change::laws::key_reads_back;
-use crate::change::number::next_revision;
+use crate::change::number::raised_epoch;
 use crate::change::{carry_out, step_and_epoch};
 use crate::query::count::document_count;
 use crate::query::document::document_of;
@@ -70,14 +70,14 @@ fn plan_upload_new<S: Alter>(
     if !may_have_one_more_document(count) {
         return Err(ChangeError::Refused(Refusal::Quota));
     }
-    let revision = next_revision(found)?;
+    let raised = raised_epoch(found)?;
     let copy = copy_of_text(alloc, text)?;
     let step = Step::AddDocument {
         number: found.number,
         key,
         text: copy,
     };
-    Ok(step_and_epoch(alloc, step, revision)?)
+    Ok(step_and_epoch(alloc, step, raised)?)
 }
 
 /// The plan for a document that is there with that text: the same text again changes nothing. `found` is
@@ -184,14 +184,14 @@ fn plan_active_over(
     if is_same_activity(there.active, active) {
         return Ok(Items::new(alloc));
     }
-    let revision = next_revision(found)?;
+    let raised = raised_epoch(found)?;
     let copy = key.clone()?;
     let step = Step::SetActive {
         number: found.number,
         key: copy,
         active,
     };
-    Ok(step_and_epoch(alloc, step, revision)?)
+    Ok(step_and_epoch(alloc, step, raised)?)
 }
 
 /// The plan for the activity of a document of a domain that was found.
@@ -256,13 +256,13 @@ fn plan_delete_over(
     if there.active {
         return Err(ChangeError::Refused(Refusal::StillActive));
     }
-    let revision = next_revision(found)?;
+    let raised = raised_epoch(found)?;
     let copy = key.clone()?;
     let step = Step::DropDocument {
         number: found.number,
         key: copy,
     };
-    Ok(step_and_epoch(alloc, step, revision)?)
+    Ok(step_and_epoch(alloc, step, raised)?)
 }
 
 /// The plan to delete a document of a domain that was found.

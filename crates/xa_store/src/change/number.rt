@@ -3,7 +3,7 @@ ghost use Rattle.std.specs.Prelude.{◌≡◌, Ok, Err, IfErr, IfOk};
 ghost use Rattle.xa_store.specs.Plan.{RaisesTo};
 
 use crate::query::domain::DomainFound;
-use crate::step::Revision;
+use crate::step::RaisedEpoch;
 use xa_records::Failure;
 
 /// The number after this one; there is none after the greatest that a column holds.
@@ -16,14 +16,14 @@ pub(crate) fn next_after(number: i64) -> Result<i64, Failure>
     Ok(number + 1)
 }
 
-/// The revision that a change gives the domain: its number, and the next epoch.
-pub(crate) fn next_revision(found: DomainFound) -> Result<Revision, Failure>
-    ensures number { IfOk result (λ revision. revision.number ≡ found.number) }
-    ensures epoch { IfOk result (λ revision. RaisesTo found.epoch (Ok revision.epoch)) }
+/// The epoch to which a change raises that of the domain: the next one, with the domain's number.
+pub(crate) fn raised_epoch(found: DomainFound) -> Result<RaisedEpoch, Failure>
+    ensures number { IfOk result (λ raised. raised.number ≡ found.number) }
+    ensures epoch { IfOk result (λ raised. RaisesTo found.epoch (Ok raised.epoch)) }
     ensures fails { IfErr result (λ failure. RaisesTo found.epoch (Err failure)) }
 {
     let epoch = next_after(found.epoch)?;
-    Ok(Revision {
+    Ok(RaisedEpoch {
         number: found.number,
         epoch,
     })

@@ -9,11 +9,11 @@ ghost use Rattle.xa_store.specs.World.{root_at};
 
 use crate::change::found::domain_to_change;
 use crate::change::laws::root_reads_back;
-use crate::change::number::next_revision;
+use crate::change::number::raised_epoch;
 use crate::change::{carry_out, with_epoch};
 use crate::query::domain::DomainFound;
 use crate::query::root::root_of;
-use crate::step::{Revision, Step};
+use crate::step::{RaisedEpoch, Step};
 use sqlite::{Alter, Connection};
 use std::alloc::{AllocError, Global};
 use xa_policy::Reference;
@@ -23,22 +23,22 @@ use xa_value::{Items, Text};
 /// The steps that set the root.
 fn root_steps(
     alloc: Global,
-    revision: Revision,
+    raised: RaisedEpoch,
     root: Option<Reference>,
 ) -> Result<Items<Step>, AllocError>
-    ensures { IfOk result (λ steps. steps ≡ root_steps revision.number revision.epoch root) }
+    ensures { IfOk result (λ steps. steps ≡ root_steps raised.number raised.epoch root) }
 {
     let mut steps = Items::new(alloc);
-    steps.push(Step::DropRoot(revision.number))?;
+    steps.push(Step::DropRoot(raised.number))?;
     match root {
         Some(root) => {
             steps.push(Step::AddRoot {
-                number: revision.number,
+                number: raised.number,
                 root,
             })?;
-            with_epoch(steps, revision)
+            with_epoch(steps, raised)
         }
-        None => with_epoch(steps, revision),
+        None => with_epoch(steps, raised),
     }
 }
 
@@ -56,8 +56,8 @@ fn plan_root_over(
         return Ok(Items::new(alloc));
     }
     root_reads_back(&root);
-    let revision = next_revision(found)?;
-    Ok(root_steps(alloc, revision, root)?)
+    let raised = raised_epoch(found)?;
+    Ok(root_steps(alloc, raised, root)?)
 }
 
 /// The plan, or why the root isn't set.

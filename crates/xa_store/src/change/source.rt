@@ -13,11 +13,11 @@ ghost use Rattle.xa_store.specs.World.{state_at};
 
 use crate::change::found::domain_to_change;
 use crate::change::laws::{bytes_are_utf8, bytes_are_utf8_if_any};
-use crate::change::number::next_revision;
+use crate::change::number::raised_epoch;
 use crate::change::{carry_out, with_epoch};
 use crate::query::domain::DomainFound;
 use crate::query::source::source_of;
-use crate::step::{Revision, Step};
+use crate::step::{RaisedEpoch, Step};
 use sqlite::{Alter, Connection};
 use std::alloc::{AllocError, Global};
 use xa_decide::SourceRow;
@@ -85,16 +85,16 @@ fn row_steps(
 /// The steps that set the source.
 fn source_steps(
     alloc: Global,
-    revision: Revision,
+    raised: RaisedEpoch,
     rows: Items<SourceRow>,
 ) -> Result<Items<Step>, AllocError>
     requires { length rows ≤ 4_096 }
-    ensures { IfOk result (λ steps. steps ≡ source_steps revision.number revision.epoch rows) }
+    ensures { IfOk result (λ steps. steps ≡ source_steps raised.number raised.epoch rows) }
 {
     let mut steps = Items::new(alloc);
-    steps.push(Step::DropSource(revision.number))?;
-    let steps = with_epoch(steps, revision)?;
-    row_steps(steps, revision.number, rows)
+    steps.push(Step::DropSource(raised.number))?;
+    let steps = with_epoch(steps, raised)?;
+    row_steps(steps, raised.number, rows)
 }
 
 /// The plan for a domain that was found with that source.
@@ -115,8 +115,8 @@ fn plan_source_over(
         return Ok(Items::new(alloc));
     }
     check_rows(alloc, rows.as_slice())?;
-    let revision = next_revision(found)?;
-    Ok(source_steps(alloc, revision, rows)?)
+    let raised = raised_epoch(found)?;
+    Ok(source_steps(alloc, raised, rows)?)
 }
 
 /// The plan, or why the source isn't set.

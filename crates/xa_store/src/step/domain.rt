@@ -4,7 +4,7 @@ ghost use Rattle.xa_store.specs.declared.step.Step.TheVariants.{AddDomain, DropD
 ghost use Rattle.xa_store.specs.Execution.{IsTakenBy};
 
 use crate::sql;
-use crate::step::Revision;
+use crate::step::RaisedEpoch;
 use crate::step::execution::execute_in;
 use sqlite::types::ValueRef;
 use sqlite::{Alter, Transaction};
@@ -38,17 +38,17 @@ pub(crate) fn set_next<S: Alter>(tx: &mut Transaction<'_, S>, next: i64) -> Resu
 /// Sets the domain's epoch.
 pub(crate) fn set_epoch<S: Alter>(
     tx: &mut Transaction<'_, S>,
-    revision: Revision,
+    raised: RaisedEpoch,
 ) -> Result<(), Failure>
     ensures same_reference { tx.new.conn.ghost_name ≡ tx.old.conn.ghost_name }
-    ensures taken { IsTakenBy S.Store (SetEpoch revision) tx.old.conn.now tx.new.conn.now result }
+    ensures taken { IsTakenBy S.Store (SetEpoch raised) tx.old.conn.now tx.new.conn.now result }
 {
     execute_in(
         tx,
         sql::SET_EPOCH,
         &[
-            ValueRef::Int(revision.number),
-            ValueRef::Int(revision.epoch),
+            ValueRef::Int(raised.number),
+            ValueRef::Int(raised.epoch),
         ],
     )
 }

@@ -53,7 +53,7 @@ fn take<S: Alter>(alloc: Global, tx: &mut Transaction<'_, S>, step: &Step) -> Re
     match step {
         Step::AddDomain { number, name } => add_domain(tx, *number, name),
         Step::SetNext(next) => set_next(tx, *next),
-        Step::SetEpoch(revision) => set_epoch(tx, *revision),
+        Step::SetEpoch(raised) => set_epoch(tx, *raised),
         Step::DropDomain(number) => drop_domain(tx, *number),
         Step::AddToken {
             number,

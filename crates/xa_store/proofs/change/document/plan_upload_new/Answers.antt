@@ -16,7 +16,7 @@ returns-clause-plans g c clean ours name is finds =
     let n = to_z-of_z w64 c.args.found.number (search rules) in
     let rows = rows_of (state g.S.Store c.args.conn.now).now.trees in
     let room : nat_lt c.in_ok-count.count 1_024 ≡ true = sym c.may_have_one_more_document.ensures ∙ c.if-not-may_have_one_more_document.false in
-    let steps = rw (n, c.in_ok-revision.ensures.number) at (rw c.in_ok-copy.ensures at c.in_ok-step_and_epoch.ensures) in
+    let steps = rw (n, c.in_ok-raised.ensures.number) at (rw c.in_ok-copy.ensures at c.in_ok-step_and_epoch.ensures) in
     subst (λ steps. IsUploadPlanned c.args.key c.args.text.now name rows (Ok steps)) (sym steps)
-    (plan_upload rows name c.args.found ours.domains ours.tables.domains.rise is c.args.key c.key_reads_back.ensures c.in_ok-revision.revision.epoch c.in_ok-revision.ensures.epoch
+    (plan_upload rows name c.args.found ours.domains ours.tables.domains.rise is c.args.key c.key_reads_back.ensures c.in_ok-raised.raised.epoch c.in_ok-raised.ensures.epoch
     c.args.text.now c.requires c.in_ok-count.count (rw n at (c.in_ok-count.ensures.reads clean ours)) finds room)

@@ -13,9 +13,9 @@ returns-then-is_same_root c = record {
 
 pub returns : goal.returns
 returns c =
-    let steps = rw c.in_ok-revision.ensures.number at c.in_ok-root_steps.ensures in
+    let steps = rw c.in_ok-raised.ensures.number at c.in_ok-root_steps.ensures in
     record {
       plans = λ name rows are up found at.
           subst (λ steps. Plans steps (within (root_set c.args.root)) name rows) (sym steps)
-          (plan_new rows name c.args.found c.args.there.now c.args.root are up found at (λ same. both_ways _ c.if-is_same_root.false (c.is_same_root.ensures.1 same)) c.root_reads_back.ensures.reads c.root_reads_back.ensures.texts c.in_ok-revision.revision.epoch c.in_ok-revision.ensures.epoch);
+          (plan_new rows name c.args.found c.args.there.now c.args.root are up found at (λ same. both_ways _ c.if-is_same_root.false (c.is_same_root.ensures.1 same)) c.root_reads_back.ensures.reads c.root_reads_back.ensures.texts c.in_ok-raised.raised.epoch c.in_ok-raised.ensures.epoch);
     }

@@ -20,12 +20,12 @@ returns-then-is_same_source c = record {
 
 pub returns : goal.returns
 returns c =
-    let steps = rw c.in_ok-revision.ensures.number at c.in_ok-source_steps.ensures in
+    let steps = rw c.in_ok-raised.ensures.number at c.in_ok-source_steps.ensures in
     record {
       plans = λ name rows are up found at.
           subst (λ steps. Plans steps (within (source_set c.args.rows)) name rows) (sym steps)
           (plan_new rows name c.args.found c.args.there.now c.args.rows are up found at (sym c.may_be_kept.ensures ∙ c.if-not-may_be_kept.false)
-          (λ same. both_ways _ c.if-is_same_source.false (c.is_same_source.ensures.1 same)) (rw c.as_slice.ensures at c.in_ok-check_rows.ensures.reads) (rw c.as_slice.ensures at c.in_ok-check_rows.ensures.texts) c.in_ok-revision.revision.epoch
-          c.in_ok-revision.ensures.epoch);
-      steps = inr (c.in_ok-revision.revision.epoch, steps);
+          (λ same. both_ways _ c.if-is_same_source.false (c.is_same_source.ensures.1 same)) (rw c.as_slice.ensures at c.in_ok-check_rows.ensures.reads) (rw c.as_slice.ensures at c.in_ok-check_rows.ensures.texts) c.in_ok-raised.raised.epoch
+          c.in_ok-raised.ensures.epoch);
+      steps = inr (c.in_ok-raised.raised.epoch, steps);
     }
