@@ -36,19 +36,18 @@ fn copy_of_text(alloc: Global, text: &[u8]) -> Result<Items<u8>, AllocError>
     Ok(Items::from_vec(Vec::from_slice(alloc, text)?))
 }
 
-/// Whether a domain of so many documents may have one more.
+/// Whether a domain of so many documents may have one more. For the proof: in a function of its own, the
+/// answer is an equation.
 fn may_have_one_more_document(count: usize) -> bool
     ensures { result ≡ nat_lt count 1_024 }
 {
-    // in a function of its own, the proof has the answer as an equation
     count < MAX_DOCUMENTS
 }
 
-/// Whether the two texts are one.
+/// Whether the two texts are one. For the proof: in a function of its own, the answer is an equation.
 fn is_same_body(one: &[u8], other: &[u8]) -> bool
     ensures { result ≡ bytes_eq one.now other.now }
 {
-    // in a function of its own, as `may_have_one_more_document`, for the proof
     one == other
 }
 
@@ -65,6 +64,7 @@ fn plan_upload_new<S: Alter>(
     ensures plans { OverRows S.Store conn.old conn.new (λ rows. (name : List ℕ) → IsDomain name rows found
         → FindsDocument found.number key rows None → IsUploadPlanned key text.now name rows result) }
 {
+    // For the proof: the key reads back from its row.
     key_reads_back(&key);
     let count = document_count(conn, found.number)?;
     if !may_have_one_more_document(count) {
@@ -93,6 +93,7 @@ fn plan_upload_again(
         → IsDomain name rows found → FindsDocument found.number key.now rows (Some there.now)
         → IsUploadPlanned key.now text.now name rows result }
 {
+    // For the proof: the key reads back from its row.
     key_reads_back(key);
     if is_same_body(there.text.as_slice(), text) {
         return Ok(Items::new(alloc));
@@ -180,6 +181,7 @@ fn plan_active_over(
     ensures plans { PlansOver (within (activity_set key.now active)) found
         (λ rows. FindsDocument found.number key.now rows (Some there.now)) result }
 {
+    // For the proof: the key reads back from its row.
     key_reads_back(key);
     if is_same_activity(there.active, active) {
         return Ok(Items::new(alloc));
@@ -206,6 +208,7 @@ fn plan_active_in_domain<S: Alter>(
     ensures plans { PlansFound S.Store (within (activity_set key.now active)) found
         conn.old conn.new result }
 {
+    // For the proof: the key reads back from its row.
     key_reads_back(key);
     let there = document_to_change(alloc, conn, found.number, key)?;
     plan_active_over(alloc, found, &there, key, active)
@@ -252,6 +255,7 @@ fn plan_delete_over(
     ensures plans { PlansOver (within (deleted key.now)) found
         (λ rows. FindsDocument found.number key.now rows (Some there.now)) result }
 {
+    // For the proof: the key reads back from its row.
     key_reads_back(key);
     if there.active {
         return Err(ChangeError::Refused(Refusal::StillActive));
@@ -275,6 +279,7 @@ fn plan_delete_in_domain<S: Alter>(
     ensures only_reads { OnlyReadsForChangeOver S.Store conn.old conn.new result }
     ensures plans { PlansFound S.Store (within (deleted key.now)) found conn.old conn.new result }
 {
+    // For the proof: the key reads back from its row.
     key_reads_back(key);
     let there = document_to_change(alloc, conn, found.number, key)?;
     plan_delete_over(alloc, found, &there, key)

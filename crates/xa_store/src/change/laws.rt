@@ -18,6 +18,7 @@ use xa_value::Text;
 pub(crate) fn bytes_are_utf8(text: &Text)
     ensures { is_utf8 text.now ≡ true }
 {
+    // For the proof: a `str` is UTF-8.
     let _text = text.as_str();
 }
 
@@ -34,6 +35,7 @@ pub(crate) fn bytes_are_utf8_if_any(text: &Option<Text>)
 pub(crate) fn has_all_bytes(digest: &Digest)
     ensures { is_digest digest.now ≡ true }
 {
+    // For the proof: an array of 32 bytes has 32.
     let _bytes = digest.as_bytes();
 }
 
@@ -52,6 +54,7 @@ fn pattern_reads_back(pattern: &Option<Pattern>)
 {
     match pattern {
         Some(pattern) => {
+            // For the proof: the parts of a pattern are valid.
             let _parts = pattern.parts();
             pattern.reads_back()
         }
@@ -67,6 +70,7 @@ fn version_reads_back(version: &Option<Version>)
 {
     match version {
         Some(version) => {
+            // For the proof: the numbers of a version are valid.
             let _numbers = version.numbers();
             version.reads_back()
         }

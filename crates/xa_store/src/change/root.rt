@@ -55,6 +55,7 @@ fn plan_root_over(
     if is_same_root(there, &root) {
         return Ok(Items::new(alloc));
     }
+    // For the proof: the root reads back from its row.
     root_reads_back(&root);
     let raised = raised_epoch(found)?;
     Ok(root_steps(alloc, raised, root)?)

@@ -43,10 +43,12 @@ fn check_row(alloc: Global, row: &SourceRow) -> Result<(), Failure>
     ensures reads { OnOk result (ReadsBack row.now.value) }
     ensures texts { OnOk result (AreSourceTexts row.now) }
 {
+    // For the proof: the names and the issuer are UTF-8.
     bytes_are_utf8(&row.category);
     bytes_are_utf8(&row.entity);
     bytes_are_utf8(&row.attribute_id);
     bytes_are_utf8_if_any(&row.issuer);
+
     check_value(alloc, &row.value)
 }
 

@@ -20,11 +20,11 @@ use xa_notation::Role;
 use xa_records::{ChangeError, Digest, MAX_TOKENS, Refusal};
 use xa_value::{Items, Text};
 
-/// Whether a domain of so many tokens may have one more.
+/// Whether a domain of so many tokens may have one more. For the proof: in a function of its own, the answer
+/// is an equation.
 fn may_have_one_more_token(count: usize) -> bool
     ensures { result ≡ nat_lt count 32 }
 {
-    // in a function of its own, the proof has the answer as an equation
     count < MAX_TOKENS
 }
 
@@ -41,6 +41,7 @@ fn plan_put_new<S: Alter>(
         → FindsRole found.number digest rows None
         → IsPlanned (within (token_put digest role)) name rows result) }
 {
+    // For the proof: the digest has 32 bytes.
     has_all_bytes(&digest);
     let count = token_count(conn, found.number)?;
     if !may_have_one_more_token(count) {

@@ -101,8 +101,8 @@ pub(crate) fn walk<S: Alter>(
         Ok(rows) => rows,
         Err(error) => return Err(error_of_check(error)),
     };
-    // bounded, as no clause of the kit bounds what a query shows; the count never ends a walk that a file
-    // could hold. By its label the proof names the loop
+    // Bounded, as no clause of the kit bounds what a query shows; the count never ends a walk that a file
+    // could hold. For the proof: the label names the loop.
     'rows: for _ in 0..u64::MAX {
         match next_row_number(alloc, table, checking.next, last, &mut rows)? {
             Some(number) => last = Some(number),

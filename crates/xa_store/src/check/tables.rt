@@ -63,8 +63,8 @@ fn check_table<S: Alter>(
     check_order(conn, table)
 }
 
-/// Checks two tables, one after the other. For the proof, which puts two checks together at a time: a loop's
-/// invariant can't hold `CheckedBy`, which is too large a type.
+/// Checks two tables, one after the other. For the proof: it puts two checks together at a time, since a
+/// loop's invariant can't hold `CheckedBy`, which is too large a type.
 fn check_both<S: Alter>(
     alloc: Global,
     conn: &mut Connection<S>,
@@ -82,8 +82,8 @@ fn check_both<S: Alter>(
     check_table(alloc, conn, second, checking)
 }
 
-/// Checks the tables that both schemas have, but `meta` and those of the rows of sources. Two pairs, as the
-/// proof puts two checks together at a time.
+/// Checks the tables that both schemas have, but `meta` and those of the rows of sources. For the proof:
+/// in two pairs, since it puts two checks together at a time.
 fn check_common<S: Alter>(
     alloc: Global,
     conn: &mut Connection<S>,
@@ -227,7 +227,7 @@ pub(crate) fn check<S: Alter>(
 ) -> Result<(), OpenError>
     ensures { Checked version (state S.Store conn.old) (state S.Store conn.new) result }
 {
-    // for the proof: an open store holds a database
+    // For the proof: an open store holds a database.
     let _schema = conn.schema();
     let next = next_domain(conn, version)?;
     check_all(alloc, conn, Checking { version, next })

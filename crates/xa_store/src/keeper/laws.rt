@@ -17,7 +17,7 @@ impl<S: Alter> SqlRecords<S> {
         ensures { IsTrue self.now.ours → IsTrue (state S.Store self.now.conn).is_open
             → IsSound S.Store self.now }
     {
-        // for the proof: what the invariant says of the fields
+        // For the proof: what the invariant says of the fields.
         let _ours = self.ours;
     }
 
@@ -33,7 +33,7 @@ impl<S: Alter> SqlRecords<S> {
     pub fn reopens<T: Alter>(&self, conn: &Connection<T>)
         ensures { Reopens (state S.Store self.now.conn) (state T.Store conn.now) }
     {
-        // for the proof: an open store holds a database, and its schema is schema 2 or isn't
+        // For the proof: an open store holds a database, and its schema is schema 2 or isn't.
         let _is_schema_2 = is_schema_2(conn.schema());
     }
 }

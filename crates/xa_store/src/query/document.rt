@@ -102,6 +102,7 @@ pub(crate) fn document_of<S: Alter>(
     ensures only_reads { OnlyReadsOver S.Store conn.old conn.new result }
     ensures finds { ReadsRows S.Store conn.old conn.new result (FindsDocument number key.now) }
 {
+    // For the proof: the version reads back from its text.
     key.version.reads_back();
     let version = key.version.to_text(alloc)?;
     let rows = document_rows(conn, number, key, &version)?;

@@ -1,5 +1,5 @@
-//! The columns that each table has in a keeper's store. A group that is used once, as `are_key_columns`, is
-//! a function for the prover alone, which takes a conjunction of so many parts only in groups.
+//! The columns that each table has in a keeper's store. For the proof: a group that is used once,
+//! as `are_key_columns`, is a function, since the prover takes a conjunction of so many parts only in groups.
 ghost use Rattle.std.specs.Prelude.{◌≡◌, ◌↔◌, ◌∷◌, [], true, IsTrue, codes};
 ghost use Rattle.sqlite.specs.Collation.TheVariants.{Binary};
 ghost use Rattle.sqlite.specs.declared.types.Value.TheVariants.{Null};

@@ -1,7 +1,7 @@
 //! The tables and indexes that a keeper's store has, with no others beside them. The trees of tables and of
-//! their automatic indexes are numbered from 0 as they are made: a table's index comes after it. A group
-//! that is used once, as `are_meta_domains_and_tokens`, is a function for the prover alone, which takes a
-//! conjunction of so many parts only in groups.
+//! their automatic indexes are numbered from 0 as they are made: a table's index comes after it. For the
+//! proof: a group that is used once, as `are_meta_domains_and_tokens`, is a function, since the prover takes
+//! a conjunction of so many parts only in groups.
 ghost use Rattle.std.specs.Prelude.{◌≡◌, ◌↔◌, false, [], ◌∷◌, None, Some, IsTrue, codes};
 ghost use Rattle.xa_store.specs.Opened.{schema_of};
 ghost use Rattle.xa_store.specs.Opening.{has_room, is_free, schema_version_in};
