@@ -1,5 +1,5 @@
 -- How the tables are read and checked when a store is opened: one query for the rows of each, in the order of their
--- numbers, and one for whether the table has them in that order. It is said of tables of a schema, whichever that is.
+-- numbers, and one for whether the table has them in that order. The schema is either of the two.
 use Rattle.std.specs.Prelude.{◌≡◌, ◌≢◌, ◌⊎◌, ℕ, ◌+ℤ◌, ℤ, pos, negsuc, FitsSigned, Bool, true, false, ◌&&◌, List}
 use Rattle.std.specs.Prelude.{[], ◌∷◌, ◌++◌, map, int_lt, codes, IsPermutation, IsTrue, if◌then◌else◌, Option, Some}
 use Rattle.std.specs.Prelude.{None, option_map, option_and_then, unwrap_or, Result, Ok, Err, OnOk, OnErr, IfOk, IfErr}
@@ -33,6 +33,7 @@ use Rattle.xa_store.specs.Rows.{placed_row, placed_row_in}
 use Rattle.xa_store.specs.Sound.{AreRows, Ours, Rests, RestsIn, SameNow, same_place}
 use Rattle.xa_store.specs.Tables.{schema_1, tree_of}
 
+-- the query of all rows of the table, in the order of their rowids
 abbrev pub rows_query : CheckedTable → List ℕ
 rows_query Domains = codes "SELECT number, name, epoch FROM domains ORDER BY number"
 rows_query Tokens = codes "SELECT rowid, number, digest, role FROM tokens ORDER BY rowid"
@@ -43,8 +44,8 @@ rows_query Attributes =
 rows_query Sources =
     codes "SELECT rowid, number, place, category, entity, attribute, value_type, value, issuer FROM sources ORDER BY rowid"
 
--- it shows a row exactly if the rowids, as the table has them, are other than in their order: then the texts of
--- both differ. The six texts differ in the name of the table alone.
+-- the query that shows a row exactly if the table has its rowids in another order than the rising one: then the
+-- texts of both differ. The six texts differ in the name of the table alone.
 abbrev pub order_query : CheckedTable → List ℕ
 order_query Domains =
     codes "WITH s(n) AS (SELECT rowid FROM domains ORDER BY rowid) SELECT 1 WHERE (SELECT group_concat(rowid) FROM domains) IS NOT (SELECT group_concat(n) FROM s)"
@@ -59,7 +60,7 @@ order_query Attributes =
 order_query Sources =
     codes "WITH s(n) AS (SELECT rowid FROM sources ORDER BY rowid) SELECT 1 WHERE (SELECT group_concat(rowid) FROM sources) IS NOT (SELECT group_concat(n) FROM s)"
 
--- the domains and places of the rows of sources
+-- the query of the domains and places of the rows of sources
 abbrev pub places_query : SchemaVersion → List ℕ
 places_query Schema1 = codes "SELECT number, place FROM attributes ORDER BY number, place"
 places_query Schema2 = codes "SELECT number, place FROM sources ORDER BY number, place"
@@ -71,24 +72,24 @@ has_table _ _ = true
 
 -- ---- what a call that only reads leaves
 
--- its tables aren't those of the schema alone, and no transaction is under way
+-- a connection whose tables aren't those of the schema alone, without a transaction
 abbrev pub IsUnguarded : SchemaVersion → State → Type 0
 IsUnguarded version s = (s.now.schema ≢ schema_of version) × (s.in_transaction ≡ false)
 
--- the transaction goes on, and tables that were those of the schema are
+-- the transaction goes on, and tables that were those of the schema still are
 pub record GoesOn (version : SchemaVersion) (old new : State) : Type 0 where
   pub was_open : IsTrue old.is_open
   pub is_open : IsTrue new.is_open
   pub schema : old.now.schema ≡ schema_of version → new.now.schema ≡ schema_of version
   pub mode : new.in_transaction ≡ old.in_transaction
 
--- of a transaction: nothing was committed, and if it has ended all is undone
+-- a transaction has committed nothing, and if it has ended, all of it is undone
 pub record HoldsBack (old new : State) : Type 0 where
   pub committed : new.committed ≡ old.committed
   pub undone : new.in_transaction ≡ false → new.now ≡ old.committed
 
--- The connection holds what it held, if the tables are those of the schema, and in a transaction it commits nothing.
--- A crash leaves what it left.
+-- A call that only asks: the connection holds what it held, if its tables are those of the schema, and it commits
+-- nothing of a transaction. A crash leaves what it left before.
 pub record Asks {X : Type 0} (version : SchemaVersion) (old new : State) (result : Result X OpenError) : Type 0 where
   pub survives : Survives old new (λ db. IsUnguarded version old)
   pub was_open : HasCleanDisk new → IsTrue new.is_open → IsTrue old.is_open
@@ -96,14 +97,14 @@ pub record Asks {X : Type 0} (version : SchemaVersion) (old new : State) (result
   pub held : HasCleanDisk new → IsTrue old.in_transaction → IsTrue new.is_open → HoldsBack old new
   pub goes_on : HasCleanDisk new → OnOk result (GoesOn version old new)
 
--- what an error means for opening
+-- what opening answers, if a query of the check fails with that error
 abbrev pub error_of_check : Error → OpenError
 error_of_check (SqlInputError fault) = NotThisSchema
 error_of_check (SqliteFailure NameTaken) = NotThisSchema
 error_of_check (SqliteFailure OutOfMemory) = Memory
 error_of_check _ = Store
 
--- sound, or damaged; or want of memory or a failure of the store
+-- the answer tells whether the tables are sound, or want of memory or a failure of the store
 abbrev pub TellsSound : Bool → Result (Unit {0}) OpenError → Type 0
 TellsSound sound (Ok x) = sound ≡ true
 TellsSound sound (Err Damaged) = sound ≡ false
@@ -112,11 +113,11 @@ TellsSound sound (Err Store) = Unit {0}
 TellsSound sound (Err Memory) = Unit {0}
 
 module _ {S : Type 0} (g : Ghosts S) where
-  -- what a call that only reads leaves, of the connection before and after
+  -- `Asks`, of the connection before and after
   abbrev pub AsksOver : {X : Type 0} → SchemaVersion → Held S → Held S → Result X OpenError → Type 0
   AsksOver version old new result = Asks version (state g old) (state g new) result
 
-  -- this is found, of tables of the schema that are at rest
+  -- the claim holds, if the tables are those of the schema and at rest
   abbrev pub FindsIn : SchemaVersion → Held S → Held S → Type 0 → Type 0
   FindsIn version old new claim = HasCleanDisk (state g new) → RestsIn (schema_of version) (state g old) → claim
 
@@ -128,24 +129,26 @@ pub record CheckedBy (version : SchemaVersion) (sound : Trees → Bool) (old new
 
 -- ---- the rows of one table, in the order of their numbers
 
--- each row begins with a number
+-- each row of the table begins with a number
 abbrev pub HasNumbers : CheckedTable → Trees → Type 0
 HasNumbers table db = AllByRecursion (λ row. is_number (column row 0) ≡ true) (db (tree_of table))
 
--- the rows are those of the table, and in its order if that rises
+-- the rows that a query gave are those of the table, and in its order if that rises
 pub record IsRead (table : CheckedTable) (db : Trees) (rows : List Row) : Type 0 where
   pub all : IsPermutation (map (as_read table) (db (tree_of table))) rows
   pub ordered : HasNumbers table db → are_rising (map row_number (map (as_read table) (db (tree_of table)))) ≡ true
       → rows ≡ map (as_read table) (db (tree_of table))
 
+-- the number is above the last, if there was one
 abbrev pub comes_after : Option ℤ → ℤ → Bool
 comes_after None number = true
 comes_after (Some last) number = int_lt last number
 
+-- the row is sound, and its number above the last
 abbrev pub is_next_sound_row : CheckedTable → ℤ → Option ℤ → Row → Bool
 is_next_sound_row table next last row = is_whole_row table next row && comes_after last (row_number row)
 
--- each row is sound, and its number above the last
+-- each row is sound, and its number above that of the row before it
 abbrev pub checks : CheckedTable → ℤ → Option ℤ → List Row → Bool
 checks table next last [] = true
 checks table next last (row ∷ rows) =
@@ -155,6 +158,7 @@ checks table next last (row ∷ rows) =
 abbrev pub AreHeld : List Row → Type 0
 AreHeld = AllByRecursion (λ row. FitsSigned w64 (row_number row))
 
+-- the answer tells whether all rows of the table are sound and rise, as a query gave them
 abbrev pub Walks : CheckedTable → ℤ → Trees → Result (Unit {0}) OpenError → Type 0
 Walks table next db (Ok x) =
     (rows : List Row) × IsRead table db rows × (checks table next None rows ≡ true) × AreHeld rows
@@ -163,12 +167,13 @@ Walks table next db (Err NotThisSchema) = ⊥
 Walks table next db (Err Store) = Unit {0}
 Walks table next db (Err Memory) = Unit {0}
 
+-- all rows of the table were walked through
 pub record Walked (version : SchemaVersion) (table : CheckedTable) (next : ℤ) (old new : State)
     (result : Result (Unit {0}) OpenError) : Type 0 where
   pub asks : Asks version old new result
   pub finds : HasCleanDisk new → RestsIn (schema_of version) old → Walks table next old.now.trees result
 
--- the number of a sound row after the last, or that it is none
+-- a row's number is told, if it is a sound row after the last, and else that it is damaged
 abbrev pub TellsNumber : CheckedTable → ℤ → Option ℤ → Row → Result ℤ OpenError → Type 0
 TellsNumber table next last row (Ok number) = (number ≡ row_number row) × (is_next_sound_row table next last row ≡ true)
 TellsNumber table next last row (Err Damaged) = is_next_sound_row table next last row ≡ false
@@ -176,7 +181,7 @@ TellsNumber table next last row (Err NotThisSchema) = ⊥
 TellsNumber table next last row (Err Store) = Unit {0}
 TellsNumber table next last row (Err Memory) = Unit {0}
 
--- of the row at which a query stands, if it isn't at its end
+-- `TellsNumber` of the row at which a query stands, and no number at the query's end
 abbrev pub TellsNext : CheckedTable → ℤ → Option ℤ → Option Row → Result (Option ℤ) OpenError → Type 0
 TellsNext table next last (Some row) (Ok (Some number)) = TellsNumber table next last row (Ok number)
 TellsNext table next last (Some row) (Ok None) = ⊥
@@ -195,7 +200,7 @@ module _ {S : Type 0} (g : Ghosts S) where
   IsKeptOrUndone old new = IsUnchanged (state g old) (state g new) ⊎ IsRolledBack (state g old) (state g new)
 
 module _ {S : Type 0} (g : Ghosts S) (table : CheckedTable) (next : ℤ) (last : Option ℤ) (old new : Held S) where
-  -- one more row, which is a sound one after the last, or isn't
+  -- the query has given one more row, which is a sound one after the last, or isn't
   abbrev pub GivesRow : Bool → List ℕ → List Row → Option ℤ → Type 0
   GivesRow is sql given number =
       (row : Row) × HasGiven g sql [] new (given ++ row ∷ []) × (is_next_sound_row table next last row ≡ is)
@@ -215,7 +220,7 @@ module _ {S : Type 0} (g : Ghosts S) (table : CheckedTable) (next : ℤ) (last :
 
 -- ---- the order of the table
 
--- of a table that was walked to its end
+-- the answer tells whether the table's rows rise, if it was walked to its end
 abbrev pub Orders : CheckedTable → Trees → Result (Unit {0}) OpenError → Type 0
 Orders table db result =
     (next : ℤ) → Walks table next db (Ok tt)
@@ -223,7 +228,7 @@ Orders table db result =
 
 -- ---- the places of the rows of sources
 
--- the place comes after the one before: the first of a domain is 0
+-- the place comes next after the last: the first of a domain is 0
 abbrev pub follows : SourcePlace → SourcePlace → Bool
 follows last place =
     if int_eq place.domain last.domain then int_eq place.index (last.index +ℤ pos 1) else int_eq place.index (pos 0)
@@ -238,6 +243,7 @@ place_told row =
     option_and_then (λ domain. option_map (λ index. record { domain = domain; index = index }) (int_in (column row 1)))
     (int_in (column row 0))
 
+-- the place that a row shows comes next after the last
 abbrev pub is_next : SourcePlace → Option SourcePlace → Bool
 is_next last None = false
 is_next last (Some place) = follows last place
@@ -252,7 +258,7 @@ are_consecutive last (row ∷ rows) =
 abbrev pub AreSources : SchemaVersion → Trees → Type 0
 AreSources version db = AreRows placed_row placed_row_in (λ p. p.rowid) same_place (db (tree_of (sources_in version)))
 
--- their places were checked, and whether none of them stands where the schema has none
+-- the places of the rows of sources were checked, and whether no such row stands where the schema has none
 abbrev pub FindsRest : SchemaVersion → State → State → Result (Unit {0}) OpenError → Type 0
 FindsRest version old new result =
     HasCleanDisk new → RestsIn (schema_of version) old → AreSources version old.now.trees
@@ -269,18 +275,18 @@ GivesNext known (Err Damaged) = ⊥
 GivesNext known (Err Store) = Unit {0}
 GivesNext known (Err Memory) = Unit {0}
 
--- what opening answers, whatever is found beside it
+-- the answer is that of opening, whatever is given beside it
 abbrev pub GivesAs : {X : Type 0} → Result X OpenError → Result (Unit {0}) OpenError → Type 0
 GivesAs (Ok x) given = given ≡ Ok tt
 GivesAs (Err e) given = GivesOrFails (Err e) given
 
--- the tables were checked
+-- all tables were checked
 pub record Checked (version : SchemaVersion) (old new : State) (result : Result (Unit {0}) OpenError) : Type 0 where
   pub asks : Asks version old new result
   pub opened : HasCleanDisk new → RestsIn (schema_of version) old → GivesAs result (opened version old.now.trees)
   pub live : HasCleanDisk new → OnOk result (IsDatabase old.now)
 
--- nothing waits for a commit
+-- a connection on which nothing waits for a commit
 pub record IsIdle (s : State) : Type 0 where
   pub idle : s.in_transaction ≡ false
   pub settled : IsTrue s.is_open → s.now ≡ s.committed
@@ -298,19 +304,20 @@ pub record IsUndone (old new : State) : Type 0 where
   pub now : IsTrue new.is_open → new.now ≡ (if old.in_transaction then old.committed else old.now)
   pub idle : new.in_transaction ≡ false
 
+-- a transaction that was under way is undone, after success
 pub record Undoes (old new : State) (result : Result (Unit {0}) OpenError) : Type 0 where
   pub survives : Survives old new (λ _. ⊥)
   pub undone : HasCleanDisk new → OnOk result (IsUndone old new)
   pub fails : IfErr result IsFailure
 
--- the connection holds the tables of that schema, and they are sound
+-- a connection at rest, whose tables are those of the schema and sound
 pub record IsSoundIn (version : SchemaVersion) (s : State) : Type 0 where
   pub rests : RestsIn (schema_of version) s
   pub database : IsDatabase s.now
   pub opens : opened version s.now.trees ≡ Ok tt
 
--- the tables were checked, and nothing has changed: of those that aren't the schema's alone that is said if the
--- answer is about them
+-- All tables were checked, and nothing has changed. Of tables that aren't the schema's alone that is said if the
+-- answer is about them.
 pub record Tested (version : SchemaVersion) (old new : State) (result : Result Bool OpenError) : Type 0 where
   pub survives : Survives old new (λ _. ⊥)
   pub refused : HasCleanDisk new → IsTrue new.is_open → IfErr result (λ e. IsRefusal e → SameNow old new)
@@ -335,20 +342,24 @@ pub record MigratesTables {X : Type 0} (old new : State) (result : Result X Open
   pub same : HasCleanDisk new → RestsIn schema_1 old → IsTrue new.is_open → OnErr result (SameNow old new)
   pub fails : IfErr result IsFailure
 
+-- what loading answers of tables of schema 2
 abbrev pub OpensAs : State → State → Result Bool OpenError → Type 0
 OpensAs old new result =
     GivesAs result (opened Schema2 old.now.trees) × IfOk result IsTrue × (IsTrue new.is_open → SameNow old new)
 
+-- what loading answers of tables of schema 1, and what it leaves
 abbrev pub MigratesAs : State → State → Result Bool OpenError → Type 0
 MigratesAs old new (Ok ours) =
     (opened Schema1 old.now.trees ≡ Ok tt) × IsTrue ours × IsMigrated old.committed.trees new.now.trees
 MigratesAs old new (Err e) =
     GivesOrFails (Err e) (opened Schema1 old.now.trees) × (IsTrue new.is_open → SameNow old new)
 
+-- what loading answers of a store without tables, and what it leaves
 abbrev pub MakesAs : State → State → Result Bool OpenError → Type 0
 MakesAs old new (Ok ours) = IsTrue ours × AreNewTables new.now.trees
 MakesAs old new (Err e) = IsTrue new.is_open → SameNow old new ⊎ AreNewTables new.now.trees
 
+-- a store was loaded: its tables were checked, brought into schema 2 or made
 pub record Loads (old new : State) (result : Result Bool OpenError) : Type 0 where
   pub survives : Survives old new (MayLeaveTables old)
   pub left : IfErr result (λ e. IsRefusal e → Survives old new (λ _. ⊥))

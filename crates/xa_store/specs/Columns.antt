@@ -14,7 +14,7 @@ use Rattle.xa_records.specs.declared.active_text.ActiveText.{ActiveText}
 use Rattle.xa_store.specs.declared.query.document_row.DocumentFound.{DocumentFound}
 use Rattle.xa_store.specs.Rows.{flag_in, given, kind_in, role_in, value_in, version_in}
 
--- the one row tells this, or there is none
+-- what is found is what the one row tells, and nothing if there is no row
 abbrev pub TellsOne : {X : Type 0} → (Row → X) → List Row → Option X → Type 0
 TellsOne told [] None = Unit {0}
 TellsOne told (row ∷ []) (Some x) = x ≡ told row

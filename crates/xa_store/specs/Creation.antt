@@ -12,7 +12,7 @@ use Rattle.xa_store.specs.Opening.{no_tables, AreNewTables}
 use Rattle.xa_store.specs.Tables.{meta, domains, tokens, policies, roots, schema_1, schema_2, meta_tree, tree_of}
 use Rattle.xa_store.specs.Texts as text
 
--- the statement that makes it
+-- the statement that makes the part
 abbrev pub part_statement : Part → List ℕ
 part_statement part.Meta = text.create_meta
 part_statement part.Domains = text.create_domains
@@ -42,7 +42,7 @@ with_roots = created with_policies roots
 
 -- ---- what stands before a part is made, and after it
 
--- the schema under which it is made
+-- the schema under which the part is made
 abbrev pub before : Part → Schema
 before part.Meta = no_tables
 before part.Domains = with_meta
@@ -53,7 +53,7 @@ before part.Attributes = with_roots
 before part.Sources = schema_1
 before part.FirstRow = schema_2
 
--- the tables that were made before it
+-- the trees of the tables that were made before the part
 abbrev pub trees_before : Part → List ℕ
 trees_before part.Meta = []
 trees_before part.Domains = meta_tree ∷ []
@@ -68,19 +68,21 @@ trees_before part.FirstRow =
     meta_tree ∷ tree_of Domains ∷ tree_of Tokens ∷ tree_of Documents ∷ tree_of Roots ∷ tree_of Attributes
     ∷ tree_of Sources ∷ []
 
--- these tables are there, without rows
+-- a database of that schema, in which the tables of these trees have no rows
 pub record AreEmpty (under : Schema) (trees : List ℕ) (db : Database) : Type 0 where
   pub schema : db.schema ≡ under
   pub empty : AllByRecursion (λ t. db.trees t ≡ []) trees
 
+-- what stands before the part is made
 abbrev pub IsBefore : Part → Database → Type 0
 IsBefore part = AreEmpty (before part) (trees_before part)
 
--- all are there
+-- a database in which all parts are made
 pub record AreMade (db : Database) : Type 0 where
   pub schema : db.schema ≡ schema_2
   pub made : AreNewTables db.trees
 
+-- what stands when the part is made
 abbrev pub IsAfter : Part → Database → Type 0
 IsAfter part.Meta = IsBefore part.Domains
 IsAfter part.Domains = IsBefore part.Tokens

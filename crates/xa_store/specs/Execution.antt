@@ -40,7 +40,7 @@ pub record StaysInside {X : Type 0} (old new : State) (result : Result X Failure
   pub kept : HasCleanDisk new → IsTrue old.in_transaction → KeepsCommit old new
   pub inside : HasCleanDisk new → IsTrue old.in_transaction → OnOk result (IsTrue new.in_transaction)
 
--- after success the step was taken, if it might be
+-- after success the step was taken, if the rows allow it
 abbrev pub Takes : {X : Type 0} → Step → State → State → Result X Failure → Type 0
 Takes step old new result =
     HasCleanDisk new → IsInside old → Allows step (rows_of old.now.trees) → OnOk result (Took (step ∷ []) old new)
@@ -51,10 +51,11 @@ pub record IsTaken {X : Type 0} (step : Step) (old new : State) (result : Result
   pub takes : Takes step old new result
 
 module _ {S : Type 0} (g : Ghosts S) where
-  -- and so of the connection before and after
+  -- `StaysInside`, of the connection before and after
   abbrev pub StaysInsideOver : {X : Type 0} → Held S → Held S → Result X Failure → Type 0
   StaysInsideOver old new result = StaysInside (state g old) (state g new) result
 
+  -- `IsTaken`, of the connection before and after
   abbrev pub IsTakenBy : {X : Type 0} → Step → Held S → Held S → Result X Failure → Type 0
   IsTakenBy step old new result = IsTaken step (state g old) (state g new) result
 
@@ -62,7 +63,7 @@ module _ {S : Type 0} (g : Ghosts S) where
   abbrev pub Ran : List ℕ → Row → Held S → Held S → Type 0
   Ran sql given old new = (count : ℕ) × Executes sql given (state g old) (state g new) (Ok count)
 
--- the tables are the rows after the steps
+-- the tables hold the rows that the steps leave
 pub record Holds (steps : List Step) (before : Rows) (db : Trees) : Type 0 where
   pub database : IsOurDatabase db
   pub tables : AreTables db
@@ -80,14 +81,15 @@ Committed old new =
     IsTrue old.in_transaction × Shows old new old.now old.now false × KeepsCounts old new × (new.marks ≡ [])
 
 module _ {S : Type 0} (g : Ghosts S) where
-  -- the transaction's connection before and after: it was committed, or why it wasn't
+  -- `Committed`, of the connection before and after
   abbrev pub CommittedOver : Held S → Held S → Type 0
   CommittedOver old new = Committed (state g old) (state g new)
 
+  -- `FailsToCommit`, of the connection before and after
   abbrev pub FailsToCommitOver : Held S → Held S → Error → Type 0
   FailsToCommitOver old new = FailsToCommit (state g old) (state g new)
 
--- All the steps or none of them, also over a crash.
+-- All the steps were taken or none of them, also over a crash.
 pub record Runs {X : Type 0} (steps : List Step) (old new : State) (result : Result X Failure) : Type 0 where
   pub was_open : HasCleanDisk new → IsTrue new.is_open → IsTrue old.is_open
   pub clean : HasCleanDisk new → HasCleanDisk old

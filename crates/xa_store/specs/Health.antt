@@ -17,7 +17,7 @@ pub record Looks (old new : State) : Type 0 where
   pub same : HasCleanDisk new → Rests old → IsTrue new.is_open → SameNow old new
   pub crash : HasCleanDisk new → (db : Trees) → new.may_leave db → old.may_leave db
 
--- whether the store is open, if there was memory to look
+-- a look at the store tells whether it is open, if there was memory to look
 abbrev pub Sees : State → Option Bool → Type 0
 Sees s None = Unit {0}
 Sees s (Some is) = (IsTrue is → HasCleanDisk s → IsTrue s.is_open) × (IsTrue s.is_open → IsTrue is)
@@ -28,7 +28,7 @@ abbrev pub TellsFailure : State → Bool → ℕ → ℕ → Failure → Type 0
 TellsFailure new after faults next Memory = IsTrue after × (next ≡ faults)
 TellsFailure new after faults next Store = IsOneMore faults next × Sees new (Some after)
 
--- What is told of a reading: what was read, or a failure. Of a keeper that was shut before, that its store failed.
+-- What is told of a reading: what was read, or a failure. A keeper that was shut before tells that its store failed.
 pub record TellsReading {X : Type 0} (old new : State) (before after : Bool) (faults next : ℕ)
     (read told : Result X Failure) : Type 0 where
   pub looks : Looks old new
@@ -46,7 +46,7 @@ AnswersAs before done (Ok x) = done ≡ Ok x
 AnswersAs before done (Err (Refused e)) = done ≡ Err (Refused e)
 AnswersAs before done (Err (Failed failure)) = IsTrue before → (first : Failure) × (done ≡ Err (Failed first))
 
--- and of a change
+-- What is told of a change: its answer, or a failure. A keeper that was shut before tells that its store failed.
 pub record TellsChange {X : Type 0} (old new : State) (before after : Bool) (faults next : ℕ)
     (done told : Result X ChangeError) : Type 0 where
   pub looks : Looks old new

@@ -5,8 +5,8 @@ use Rattle.sqlite.specs.Held.{Held, held_code, state}
 use Rattle.sqlite.specs.Store.{Ghosts}
 use Rattle.xa_store.specs.Sound.{IsSoundStore, Ours}
 
--- its connection; whether that was found to have our tables and no others when it was opened; whether its store was
--- not found to be shut; and how many calls failed with `Store`
+-- The keeper: its connection; whether that was found to have our tables and no others when it was opened; whether its
+-- store was not found to be shut; and how many calls failed with `Store`.
 pub record Keeper (S : Type 0) : Type 0 where
   pub conn : Held S
   pub ours : Bool
@@ -25,6 +25,6 @@ IsKeeper g k =
     (IsTrue k.ours → IsTrue (state g k.conn).is_open → Ours (state g k.conn))
     × (IsTrue (state g k.conn).is_open → IsTrue k.is_open)
 
--- what is kept is what the tables mean
+-- the keeper has our tables and no others, and its store is sound
 abbrev pub IsSound : {S : Type 0} → Ghosts S → Keeper S → Type 0
 IsSound g k = IsTrue k.ours × IsSoundStore (state g k.conn)

@@ -12,7 +12,7 @@ use Rattle.xa_store.specs.World.{world_of}
 abbrev pub kept_by : {S : Type 0} → Ghosts S → Keeper S → Kept
 kept_by g k = world_of (state g k.conn).now.trees
 
--- what is told of the keeper
+-- what the trait says of a keeper, said of this one
 abbrev pub custody_by : {S : Type 0} → Ghosts S → Keeper S → Custody
 custody_by g k =
     record {

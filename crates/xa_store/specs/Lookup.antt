@@ -28,6 +28,7 @@ pub record IsDomain (name : List ℕ) (rows : Rows) (found : DomainFound) : Type
   pub has_number : row.number ≡ pos (nat_of row.number)
   pub has_epoch : row.epoch ≡ pos (nat_of row.epoch)
 
+-- the look for the domain of that name has found it, or no row has the name
 abbrev pub FindsDomain : List ℕ → Rows → Option DomainFound → Type 0
 FindsDomain name rows (Some found) = IsDomain name rows found
 FindsDomain name rows None = filter (is_named name) rows.domains ≡ []
@@ -40,7 +41,7 @@ TellDomain (row ∷ []) (Some found) =
     × (pos 0 ≤ℤ found.epoch)
 TellDomain _ _ = ⊥
 
--- one record passes the test, and this is told of it; or none does
+-- the look for the one record that passes the test has found what is told of it, or none passes
 abbrev pub FindsOne : {X Y : Type 0} → (X → Bool) → (X → Y) → List X → Option Y → Type 0
 FindsOne {X} p tells xs (Some y) = (x : X) × (filter p xs ≡ x ∷ []) × (tells x ≡ y)
 FindsOne p tells xs None = filter p xs ≡ []

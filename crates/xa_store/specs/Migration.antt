@@ -17,7 +17,7 @@ use Rattle.xa_store.specs.Rows.{meta_row, next_in}
 use Rattle.xa_store.specs.Tables.{meta_tree, schema_1, schema_2, tree_of}
 use Rattle.xa_store.specs.Texts as text
 
--- the statement
+-- the statement of the stage
 abbrev pub stage_statement : Stage → List ℕ
 stage_statement stage.Sources = text.create_sources
 stage_statement stage.Rows = text.copy_attributes
@@ -30,7 +30,7 @@ moved_row rowid row =
     Int rowid ∷ column row 1 ∷ column row 2 ∷ column row 3 ∷ column row 4 ∷ column row 5 ∷ column row 6
     ∷ column row 7 ∷ Null ∷ []
 
--- all of them, in their order, under rowids that count on from this
+-- all rows of sources as they stand there, in their order, under rowids that count on from this
 abbrev pub moved_rows : ℕ → List Row → List Row
 moved_rows rowid [] = []
 moved_rows rowid (row ∷ rows) = moved_row (pos rowid) row ∷ moved_rows (rowid + 1) rows
@@ -46,7 +46,7 @@ KeepsOthers first db =
     AllByRecursion (λ t. db t ≡ first t)
     (tree_of Domains ∷ tree_of Tokens ∷ tree_of Documents ∷ tree_of Roots ∷ [])
 
--- under schema 2, whose rules they obey, with these rows in the three tables that the stages touch
+-- a database of schema 2, whose rules it obeys, with these rows in the three tables that the stages touch
 pub record Stands (first : Trees) (first_rows left moved : List Row) (db : Database) : Type 0 where
   pub schema : db.schema ≡ schema_2
   pub database : IsDatabase db
@@ -55,13 +55,14 @@ pub record Stands (first : Trees) (first_rows left moved : List Row) (db : Datab
   pub sources : db.trees (tree_of Sources) ≡ moved
   pub others : KeepsOthers first db.trees
 
--- the tables are those of schema 1
+-- a database of schema 1, whose tables are as they were
 pub record HasSchema1 (first : Trees) (db : Database) : Type 0 where
   pub schema : db.schema ≡ schema_1
   pub meta : db.trees meta_tree ≡ first meta_tree
   pub attributes : db.trees (tree_of Attributes) ≡ first (tree_of Attributes)
   pub others : KeepsOthers first db.trees
 
+-- what stands before the stage
 abbrev pub IsBefore : Stage → Trees → Database → Type 0
 IsBefore stage.Sources first = HasSchema1 first
 IsBefore stage.Rows first = Stands first (first meta_tree) (first (tree_of Attributes)) []
@@ -69,10 +70,11 @@ IsBefore stage.Attributes first =
     Stands first (first meta_tree) (first (tree_of Attributes)) (moved_rows 1 (first (tree_of Attributes)))
 IsBefore stage.Number first = Stands first (first meta_tree) [] (moved_rows 1 (first (tree_of Attributes)))
 
--- all are done
+-- what stands when all stages are done
 abbrev pub IsDone : Trees → Database → Type 0
 IsDone first = Stands first (meta_row (next_in (first meta_tree)) ∷ []) [] (moved_rows 1 (first (tree_of Attributes)))
 
+-- what stands after the stage
 abbrev pub IsAfter : Stage → Trees → Database → Type 0
 IsAfter stage.Sources = IsBefore stage.Rows
 IsAfter stage.Rows = IsBefore stage.Attributes

@@ -104,7 +104,7 @@ holds_value number text = is_utf8 text && is_value text (type_numbered number)
 
 -- ---- a row of each table, as its columns are read; `next` is the number of the next domain
 
--- a row of a source, whoever says so
+-- the row is one of a source, whoever says so
 abbrev pub is_row_of_source : ℤ → Row → Bool
 is_row_of_source next row =
     holds_int (is_assigned next) (column row 1) && holds_text is_utf8 (column row 3)
@@ -137,6 +137,7 @@ read_columns Roots = 0 ∷ 2 ∷ 3 ∷ 4 ∷ 5 ∷ 6 ∷ []
 read_columns Attributes = 0 ∷ 1 ∷ 2 ∷ 3 ∷ 4 ∷ 5 ∷ 6 ∷ 7 ∷ []
 read_columns Sources = 0 ∷ 1 ∷ 2 ∷ 3 ∷ 4 ∷ 5 ∷ 6 ∷ 7 ∷ 8 ∷ []
 
+-- a row as the check's query shows it
 abbrev pub as_read : CheckedTable → Row → Row
 as_read table row = map (column row) (read_columns table)
 
@@ -158,6 +159,7 @@ are_rising (n ∷ ns) = list_all (int_lt n) ns && are_rising ns
 abbrev pub row_number : Row → ℤ
 row_number row = int_of (column row 0)
 
+-- the rows of the table hold what they should, and their numbers rise
 abbrev pub are_sound_rows : CheckedTable → ℤ → List Row → Bool
 are_sound_rows table next rows = list_all (is_whole_row table next) rows && are_rising (map row_number rows)
 
@@ -171,7 +173,7 @@ abbrev pub places_of : List SourcePlace → ℤ → List ℤ
 places_of places number =
     sort_by int_cmp (map (λ place. place.index) (filter (λ place. int_eq place.domain number) places))
 
--- they are that number, the one after it, and so on
+-- the places are that number, the one after it, and so on
 abbrev pub count_from : ℤ → List ℤ → Bool
 count_from n [] = true
 count_from n (place ∷ places) = int_eq place n && count_from (n +ℤ pos 1) places
@@ -186,7 +188,7 @@ abbrev pub schema_of : SchemaVersion → Schema
 schema_of Schema1 = schema_1
 schema_of Schema2 = schema_2
 
--- the number that `meta` has for it
+-- the number that `meta` has for the schema
 abbrev pub number_of : SchemaVersion → ℤ
 number_of Schema1 = pos 1
 number_of Schema2 = pos 2
@@ -196,6 +198,7 @@ abbrev pub sources_in : SchemaVersion → CheckedTable
 sources_in Schema1 = Attributes
 sources_in Schema2 = Sources
 
+-- the table has no row
 abbrev pub is_empty : List Row → Bool
 is_empty [] = true
 is_empty (row ∷ rows) = false
@@ -218,28 +221,33 @@ next_of version row =
     then int_in (column row 2)
     else None
 
+-- the number of the next domain, if `meta` has one row, of that schema
 abbrev pub known_next : SchemaVersion → List Row → Option ℤ
 known_next version (row ∷ []) = next_of version row
 known_next version _ = None
 
+-- a row of `meta` as the check's query shows it
 abbrev pub read_meta : Row → Row
 read_meta row = map (column row) (0 ∷ 2 ∷ 3 ∷ [])
 
 abbrev pub is_sound_table : Trees → ℤ → CheckedTable → Bool
 is_sound_table db next table = are_sound_rows table next (map (as_read table) (db (tree_of table)))
 
+-- the tables of the schema that are checked row by row
 abbrev pub tables_in : SchemaVersion → List CheckedTable
 tables_in version = Domains ∷ Tokens ∷ Documents ∷ Roots ∷ sources_in version ∷ []
 
+-- all tables are sound; `next` is the number of the next domain
 abbrev pub is_sound : SchemaVersion → Trees → ℤ → Bool
 is_sound version db next =
     is_count next && list_all (is_sound_table db next) (tables_in version)
     && (are_counted (map place_in (db (tree_of (sources_in version)))) && is_left_empty version db)
 
+-- what opening answers, if `meta` tells that number of the next domain
 abbrev pub checked : SchemaVersion → Trees → Option ℤ → Result (Unit {0}) OpenError
 checked version db None = Err NotThisSchema
 checked version db (Some next) = if is_sound version db next then Ok tt else Err Damaged
 
--- of tables of that schema: so with the number of the other they are none of a keeper's
+-- what opening answers of tables of that schema: with the number of the other they are none of a keeper's
 abbrev pub opened : SchemaVersion → Trees → Result (Unit {0}) OpenError
 opened version db = checked version db (known_next version (map read_meta (db meta_tree)))

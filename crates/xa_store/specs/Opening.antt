@@ -28,18 +28,18 @@ abbrev pub is_free : Schema → List ℕ → Bool
 is_free schema name =
     is_none (table_named schema name) && is_none (index_named schema name) && is_none (view_named schema name)
 
--- none has the name of one of a keeper's tables, so these can be made
+-- no table, index or view has the name of one of a keeper's tables, so these can be made
 abbrev pub has_room : Schema → Bool
 has_room schema =
     is_free schema (codes "meta") && is_free schema (codes "domains") && is_free schema (codes "tokens")
     && is_free schema (codes "policies") && is_free schema (codes "roots") && is_free schema (codes "attributes")
     && is_free schema (codes "sources")
 
--- which schema it is, if it has a keeper's tables: schema 1 has nothing named `sources`, and schema 2 has that table
+-- which schema a keeper's tables have: schema 1 has nothing named `sources`, and schema 2 has that table
 abbrev pub schema_version_in : Schema → SchemaVersion
 schema_version_in schema = if is_free schema (codes "sources") then Schema1 else Schema2
 
--- there is no table, and nothing waits for a commit
+-- a store without tables, in which nothing waits for a commit
 pub record IsBlank (s : State) : Type 0 where
   pub schema : s.now.schema ≡ no_tables
   pub settled : s.now ≡ s.committed
@@ -66,16 +66,16 @@ GivesOrFails (Err Store) given = Unit {0}
 GivesOrFails (Err Memory) given = Unit {0}
 GivesOrFails answer given = given ≡ answer
 
--- it tells of a call that failed: the store did, or there was no memory
+-- the error tells of a call that failed: the store did, or there was no memory
 abbrev pub IsFailure : OpenError → Type 0
 IsFailure e = (e ≡ Store) ⊎ (e ≡ Memory)
 
--- it tells of the tables, and not of a call that failed
+-- the error tells of the tables, and not of a call that failed
 abbrev pub IsRefusal : OpenError → Type 0
 IsRefusal e = (e ≡ NotThisSchema) ⊎ (e ≡ Damaged)
 
 module _ {S : Type 0} (g : Ghosts S) where
-  -- what is handed back
+  -- the connection that opening hands back
   abbrev pub held_in : Result (Keeper S) (OpenError × Held S) → Held S
   held_in (Ok k) = k.conn
   held_in (Err e) = e.1
@@ -86,7 +86,7 @@ module _ {S : Type 0} (g : Ghosts S) where
     pub is_open : IsTrue k.is_open
     pub faults : k.faults ≡ 0
 
-  -- of a store with our tables: sound ones are taken as they are, and others are left as they are
+  -- what opening a store with our tables gives: sound ones are taken as they are, and others are left as they are
   abbrev pub Opens : State → Result (Keeper S) (OpenError × Held S) → Type 0
   Opens old (Ok k) =
       HasCleanDisk (state g k.conn)
@@ -97,7 +97,8 @@ module _ {S : Type 0} (g : Ghosts S) where
       → GivesOrFails (Err e.0) (opened Schema2 old.now.trees)
       × (IsTrue (state g e.1).is_open → SameNow old (state g e.1))
 
-  -- of a store with the tables of schema 1: sound ones are brought into schema 2, and others are left as they are
+  -- what opening a store with the tables of schema 1 gives: sound ones are brought into schema 2, and others are left
+  -- as they are
   abbrev pub Migrates : State → Result (Keeper S) (OpenError × Held S) → Type 0
   Migrates old (Ok k) =
       HasCleanDisk (state g k.conn)
@@ -107,7 +108,7 @@ module _ {S : Type 0} (g : Ghosts S) where
       → GivesOrFails (Err e.0) (opened Schema1 old.now.trees)
       × (IsTrue (state g e.1).is_open → SameNow old (state g e.1))
 
-  -- of a store without any table: all are made, or none
+  -- what opening a store without tables gives: all are made, or none
   abbrev pub Makes : State → Result (Keeper S) (OpenError × Held S) → Type 0
   Makes old (Ok k) =
       HasCleanDisk (state g k.conn)

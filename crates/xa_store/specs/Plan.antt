@@ -27,15 +27,15 @@ use Rattle.xa_store.specs.declared.step.Step.TheVariants.{DropRoot, AddSourceRow
 use Rattle.xa_store.specs.Sound.{AreNumbered, AreRootTexts, AreSourceTexts, Ours}
 use Rattle.xa_store.specs.Steps.{ReadsBack}
 
--- a domain of that name gets the number, and the next domain gets the one after it
+-- the steps that make a domain: it gets the number, and the next domain gets the one after it
 abbrev pub create_steps : List ℕ → ℤ → ℤ → List Step
 create_steps name number next = AddDomain number name ∷ SetNext next ∷ []
 
--- the domain of that number gets this epoch
+-- the step that gives the domain of that number this epoch
 abbrev pub epoch_step : ℤ → ℤ → Step
 epoch_step number epoch = SetEpoch (record { number = number; epoch = epoch })
 
--- the root of the domain of that number is another, and its epoch this
+-- the steps that give the domain of that number this root and this epoch
 abbrev pub root_steps : ℤ → ℤ → Option Reference → List Step
 root_steps number epoch None = DropRoot number ∷ epoch_step number epoch ∷ []
 root_steps number epoch (Some root) = DropRoot number ∷ AddRoot number root ∷ epoch_step number epoch ∷ []
@@ -45,21 +45,21 @@ abbrev pub RootReads : ℤ → Option Reference → Type 0
 RootReads number None = Unit {0}
 RootReads number (Some root) = reference_of (root_of number root) ≡ root
 
--- the texts of its row are such as read
+-- the texts of the root's row are such as read
 abbrev pub HasRootTexts : ℤ → Option Reference → Type 0
 HasRootTexts number None = Unit {0}
 HasRootTexts number (Some root) = AreRootTexts (root_of number root)
 
--- the rows come, at places that count on from this
+-- the steps that add the rows, at places that count on from this
 abbrev pub row_steps : ℤ → ℕ → List SourceRow → List Step
 row_steps number place [] = []
 row_steps number place (row ∷ rows) = AddSourceRow number (pos place) row ∷ row_steps number (place + 1) rows
 
--- the source of the domain of that number has these rows, and its epoch is this
+-- the steps that give the domain of that number a source of these rows and this epoch
 abbrev pub source_steps : ℤ → ℤ → List SourceRow → List Step
 source_steps number epoch rows = DropSource number ∷ epoch_step number epoch ∷ row_steps number 0 rows
 
--- the steps give it these rows, at places that count from 0; or there is nothing to do
+-- the steps give the domain these rows, at places that count from 0; or there is nothing to do
 abbrev pub SetsSource : ℤ → List SourceRow → List Step → Type 0
 SetsSource number rows steps = (steps ≡ []) ⊎ ((epoch : ℤ) × (steps ≡ source_steps number epoch rows))
 
@@ -72,7 +72,7 @@ RowsRead (row ∷ rows) = ReadsBack row.value × RowsRead rows
 abbrev pub HaveTexts : List SourceRow → Type 0
 HaveTexts = AllByRecursion AreSourceTexts
 
--- one more, if a column holds that
+-- a number is raised by one, if a column holds that, or the store fails
 abbrev pub RaisesTo : ℤ → Result ℤ Failure → Type 0
 RaisesTo number (Ok next) = (old : ℕ) → number ≡ pos old → (next ≡ pos (old + 1)) × (old + 1 < 2 ^ 63)
 RaisesTo number (Err Store) = (old : ℕ) → number ≡ pos old → 2 ^ 63 ≤ old + 1

@@ -24,32 +24,33 @@ pub record OnlyReads {X E : Type 0} (old new : State) (result : Result X E) : Ty
   pub quiet : Quiet old new
   pub opens : HasCleanDisk new → OnOk result (IsTrue new.is_open)
 
--- and for a change: if it is refused, the store is open too
+-- a call that only reads for a change: if it is answered, be it by a refusal, the store is open
 pub record OnlyReadsForChange {X : Type 0} (old new : State) (result : Result X ChangeError) : Type 0 where
   pub quiet : Quiet old new
   pub opens : HasCleanDisk new → IfAnswered result (IsTrue new.is_open)
 
 module _ {S : Type 0} (g : Ghosts S) where
-  -- the rows that a query shows, and why it fails, by the connection before and after
+  -- `Shown`, of the connection before and after
   abbrev pub ShownOver : List ℕ → Row → Held S → Held S → List Row → Type 0
   ShownOver sql given old new = Shown sql given (state g old) (state g new)
 
+  -- `FailsToQuery`, of the connection before and after
   abbrev pub FailsToQueryOver : List ℕ → Row → Held S → Held S → Error → Type 0
   FailsToQueryOver sql given old new = FailsToQuery sql given (state g old) (state g new)
 
-  -- a call that only reads, of the connection before and after
+  -- `OnlyReads`, of the connection before and after
   abbrev pub OnlyReadsOver : {X E : Type 0} → Held S → Held S → Result X E → Type 0
   OnlyReadsOver old new result = OnlyReads (state g old) (state g new) result
 
-  -- and one for a change
+  -- `OnlyReadsForChange`, of the connection before and after
   abbrev pub OnlyReadsForChangeOver : {X : Type 0} → Held S → Held S → Result X ChangeError → Type 0
   OnlyReadsForChangeOver old new result = OnlyReadsForChange (state g old) (state g new) result
 
-  -- over our tables: this holds of their rows
+  -- the claim holds of the rows, if the tables are ours
   abbrev pub OverRows : Held S → Held S → (Rows → Type 0) → Type 0
   OverRows old new claim = HasCleanDisk (state g new) → Ours (state g old) → claim (rows_now (state g old))
 
-  -- over our tables: what was read, if it was, stands so to their rows
+  -- what was read, if it was, stands so to the rows, if the tables are ours
   abbrev pub ReadsRows : {X E : Type 0} → Held S → Held S → Result X E → (Rows → X → Type 0) → Type 0
   ReadsRows old new result reads =
       HasCleanDisk (state g new) → Ours (state g old) → IfOk result (reads (rows_now (state g old)))

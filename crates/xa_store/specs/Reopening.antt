@@ -7,20 +7,21 @@ use Rattle.xa_store.specs.Opened.{opened}
 use Rattle.xa_store.specs.Sound.{LeavesWorld, Rests}
 use Rattle.xa_store.specs.World.{world_of}
 
--- it was just opened, over trees that a crash of the other may leave
+-- a connection was just opened, over trees that a crash of the other may leave
 pub record IsOverRest (crashed new : State) : Type 0 where
   pub fresh : IsJustOpened new
   pub left : crashed.may_leave new.committed.trees
 
--- a crash doesn't leave just anything
+-- a crash of the connection doesn't leave just anything
 abbrev pub LeavesNotAll : State → Type 0
 LeavesNotAll s = (other : Kept) × ¬ LeavesWorld s other
 
--- it rests on our tables, which opening finds sound, and they mean one of those maps that a crash may leave
+-- a connection rests on our tables, which opening finds sound, and they mean one of those maps that a crash may leave
 pub record Resumes (crashed new : State) : Type 0 where
   pub rests : Rests new
   pub opens : opened Schema2 new.now.trees ≡ Ok tt
   pub kept : LeavesWorld crashed (world_of new.now.trees)
 
+-- a connection over what a crash of the other has left resumes it
 abbrev pub Reopens : State → State → Type 0
 Reopens crashed new = IsOverRest crashed new → LeavesNotAll crashed → Resumes crashed new

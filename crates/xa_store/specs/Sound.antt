@@ -50,6 +50,7 @@ pub record AreRows {X : Type 0} (write : X → Row) (read : Row → X) (rowid : 
   pub rise : IsKeyedBy rowid (map read rows)
   pub apart : AreApart same (map read rows)
 
+-- our tables, with rows as the keeper writes them
 pub record AreTables (db : Trees) : Type 0 where
   pub meta : db meta_tree ≡ meta_row (next_in (db meta_tree)) ∷ []
   pub domains : AreRows domain_row domain_in (λ d. d.number) same_name (db (tree_of Domains))
@@ -91,6 +92,7 @@ AreSourceTexts row =
     (is_utf8 row.category ≡ true) × (is_utf8 row.entity ≡ true) × (is_utf8 row.attribute_id ≡ true)
     × (holds_value (type_number row.value) (value_text row.value) ≡ true) × (is_if_any is_utf8 row.issuer ≡ true)
 
+-- the domain and the place of a row of a source
 abbrev pub place_of : PlacedRow → SourcePlace
 place_of p = record { domain = p.number; index = p.place }
 
@@ -112,29 +114,30 @@ pub record AreWhole (rows : Rows) : Type 0 where
 abbrev pub IsOurDatabase : Trees → Type 0
 IsOurDatabase = ObeysRules schema_2
 
--- and opening finds them sound
+-- our tables and no others, which opening finds sound
 pub record AreOurs (db : Trees) : Type 0 where
   pub database : IsOurDatabase db
   pub opens : opened Schema2 db ≡ Ok tt
 
 -- ---- a connection between two calls of the keeper
 
--- its tables are those of the schema, and nothing waits for a commit
+-- a connection whose tables are those of the schema, and on which nothing waits for a commit
 pub record RestsIn (under : Schema) (s : State) : Type 0 where
   pub schema : s.now.schema ≡ under
   pub settled : s.now ≡ s.committed
   pub idle : s.in_transaction ≡ false
 
--- its tables are ours
+-- a connection that rests on our tables
 abbrev pub Rests : State → Type 0
 Rests = RestsIn schema_2
 
--- it holds what it held
+-- the connection holds what it held
 pub record SameNow (old new : State) : Type 0 where
   pub now : new.now ≡ old.now
   pub committed : new.committed ≡ old.committed
   pub idle : new.in_transaction ≡ false
 
+-- a connection that rests on our tables, which are as the keeper writes them
 pub record Ours (s : State) : Type 0 where
   pub rests : Rests s
   pub database : IsOurDatabase s.now.trees

@@ -32,6 +32,7 @@ is_place number place p = int_eq p.number number && int_eq p.place place
 
 -- ---- what a step makes of the rows
 
+-- the domain of that number gets the epoch
 abbrev pub with_epoch : ℤ → ℤ → List DomainRow → List DomainRow
 with_epoch number epoch = update_where (λ d. int_eq d.number number) (λ d. record d { epoch = epoch })
 
@@ -46,7 +47,7 @@ without_domain number rows = record {
   sources = delete_where (λ p. int_eq p.number number) rows.sources;
 }
 
--- a row that is added stands last, but that domains and roots stand in the order of their numbers
+-- the rows after the step: a row that is added stands last, but domains and roots stand in the order of their numbers
 abbrev pub after : Step → Rows → Rows
 after (AddDomain number name) rows =
     record rows {
@@ -92,6 +93,7 @@ after (AddSourceRow number place row) rows =
     }
 after (DropSource number) rows = record rows { sources = delete_where (λ p. int_eq p.number number) rows.sources }
 
+-- the rows after all the steps
 abbrev pub after_all : List Step → Rows → Rows
 after_all steps rows = fold (λ rows step. after step rows) rows steps
 
@@ -112,6 +114,7 @@ KeyReads key = version_in (version_text key.version) ≡ key.version
 unfoldable pub IsOfKey : DocumentKey → List ℕ → Type 0
 IsOfKey key text = IsDocumentOf key text
 
+-- the step may be taken of these rows
 abbrev pub Allows : Step → Rows → Type 0
 Allows (AddDomain number name) rows = filter (is_named name) rows.domains ≡ []
 Allows (AddToken number digest role) rows = filter (is_token number digest) rows.tokens ≡ []
@@ -123,7 +126,7 @@ Allows (AddSourceRow number place row) rows = (filter (is_place number place) ro
 Allows (DropDomain number) rows = (d : DomainRow) × (filter (λ x. int_eq x.number number) rows.domains ≡ d ∷ [])
 Allows _ rows = Unit {0}
 
--- each step after those before it
+-- each step may be taken after those before it
 abbrev pub AllowsAll : List Step → Rows → Type 0
 AllowsAll [] rows = Unit {0}
 AllowsAll (step ∷ steps) rows = Allows step rows × AllowsAll steps (after step rows)

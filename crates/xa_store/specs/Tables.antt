@@ -38,16 +38,17 @@ abbrev pub needed : List ℕ → Kind → Column
 needed name kind =
     record { name = name; kind = kind; is_strict = true; not_null = true; default = Null; collation = Binary }
 
+-- a column of texts that may be NULL
 abbrev pub text_if_any : List ℕ → Column
 text_if_any name =
     record { name = name; kind = Text; is_strict = true; not_null = false; default = Null; collation = Binary }
 
--- the INTEGER PRIMARY KEY, which is never NULL
+-- a column that is the INTEGER PRIMARY KEY, which is never NULL
 abbrev pub own_key : List ℕ → Column
 own_key name =
     record { name = name; kind = Integer; is_strict = true; not_null = false; default = Null; collation = Binary }
 
--- to the domain of that number, with which the row goes
+-- a reference to the domain of that number, with which the row is dropped
 abbrev pub of_domain : Reference
 of_domain =
     record {
@@ -95,7 +96,7 @@ of_domains name tree columns places order = record {
   is_counted = false;
 }
 
--- rising in each column
+-- the order that rises in each column
 abbrev pub rising : Order
 rising = record { digits = 0 }
 

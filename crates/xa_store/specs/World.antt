@@ -30,6 +30,7 @@ pub record Rows : Type 0 where
   pub roots : List RootRow
   pub sources : List PlacedRow
 
+-- the rows of the tables of schema 2
 abbrev pub rows_of : Trees → Rows
 rows_of db = record {
   next = next_in (db meta_tree);
@@ -40,11 +41,11 @@ rows_of db = record {
   sources = map placed_row_in (db (tree_of Sources));
 }
 
--- of the tables that a connection has now
+-- the rows of the tables that a connection has now
 abbrev pub rows_now : State → Rows
 rows_now store = rows_of store.now.trees
 
--- in schema 1
+-- the rows of the tables of schema 1
 abbrev pub rows_of_schema_1 : Trees → Rows
 rows_of_schema_1 db = record (rows_of db) { sources = map unissued_in (db (tree_of Attributes)) }
 
@@ -97,9 +98,10 @@ domain_entry rows d = (d.name, domain_of rows d)
 abbrev pub kept_of : Rows → Kept
 kept_of rows = record { domains = from_entries (map (domain_entry rows) rows.domains); next = nat_of rows.next }
 
+-- what the tables of schema 2 mean
 abbrev pub world_of : Trees → Kept
 world_of db = kept_of (rows_of db)
 
--- in schema 1
+-- what the tables of schema 1 mean
 abbrev pub world_of_schema_1 : Trees → Kept
 world_of_schema_1 db = kept_of (rows_of_schema_1 db)
