@@ -25,6 +25,7 @@ use Rattle.xa_store.specs.declared.schema.checked_table.CheckedTable.TheVariants
 use Rattle.xa_store.specs.declared.schema.checked_table.CheckedTable.TheVariants.{Attributes, Sources}
 use Rattle.xa_store.specs.declared.schema.version.SchemaVersion.{SchemaVersion}
 use Rattle.xa_store.specs.declared.schema.version.SchemaVersion.TheVariants.{Schema1, Schema2}
+use Rattle.xa_store.specs.CheckedColumns as shown
 use Rattle.xa_store.specs.Opened.{are_counted, as_read, is_left_empty, place_in, sources_in, are_rising}
 use Rattle.xa_store.specs.Opened.{int_in, is_number, is_whole_row, row_number, opened, schema_of}
 use Rattle.xa_store.specs.Opening.{AreNewTables, GivesOrFails, IsBlank, IsFailure, IsKnown, IsMigrated}
@@ -131,7 +132,7 @@ pub record CheckedBy (version : SchemaVersion) (sound : Trees → Bool) (old new
 
 -- each row of the table begins with a number
 abbrev pub HasNumbers : CheckedTable → Trees → Type 0
-HasNumbers table db = AllByRecursion (λ row. is_number (column row 0) ≡ true) (db (tree_of table))
+HasNumbers table db = AllByRecursion (λ row. is_number (column row shown.rowid) ≡ true) (db (tree_of table))
 
 -- the rows that a query gave are those of the table, and in its order if that rises
 pub record IsRead (table : CheckedTable) (db : Trees) (rows : List Row) : Type 0 where
@@ -240,8 +241,9 @@ no_place = record { domain = negsuc 0; index = negsuc 0 }
 -- a row shows a domain and a place
 abbrev pub place_told : Row → Option SourcePlace
 place_told row =
-    option_and_then (λ domain. option_map (λ index. record { domain = domain; index = index }) (int_in (column row 1)))
-    (int_in (column row 0))
+    option_and_then
+    (λ domain. option_map (λ index. record { domain = domain; index = index }) (int_in (column row shown.place_index)))
+    (int_in (column row shown.place_domain))
 
 -- the place that a row shows comes next after the last
 abbrev pub is_next : SourcePlace → Option SourcePlace → Bool

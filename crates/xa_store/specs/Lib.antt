@@ -11,6 +11,7 @@ pub mod Execution
 pub mod Turns
 pub mod Plan
 pub mod Columns
+pub mod CheckedColumns
 pub mod KeeperReading
 pub mod Health
 pub mod Opened

@@ -36,6 +36,7 @@ use Rattle.xa_store.specs.declared.schema.checked_table.CheckedTable.TheVariants
 use Rattle.xa_store.specs.declared.schema.checked_table.CheckedTable.TheVariants.{Attributes, Sources}
 use Rattle.xa_store.specs.declared.schema.version.SchemaVersion.{SchemaVersion}
 use Rattle.xa_store.specs.declared.schema.version.SchemaVersion.TheVariants.{Schema1, Schema2}
+use Rattle.xa_store.specs.CheckedColumns as shown
 use Rattle.xa_store.specs.Rows.{nat_of, kind_number}
 use Rattle.xa_store.specs.Tables.{meta_tree, schema_1, schema_2, tree_of}
 
@@ -104,29 +105,48 @@ holds_value number text = is_utf8 text && is_value text (type_numbered number)
 
 -- ---- a row of each table, as its columns are read; `next` is the number of the next domain
 
+-- the columns hold the key of a document that was read
+abbrev pub holds_key_of : Row → Result Parsed NotationError → Bool
+holds_key_of row parsed =
+    holds_key (column row shown.document_kind) (column row shown.document_id) (column row shown.document_version) parsed
+
+-- a column holds a body of the key that the others hold
+abbrev pub holds_body : Row → Bool
+holds_body row = holds_blob (λ body. holds_key_of row (document_of body)) (column row shown.document_body)
+
+-- a column holds the printed text of a value of the type of that number
+abbrev pub holds_value_text : Row → ℤ → Bool
+holds_value_text row number = holds_text (holds_value number) (column row shown.source_value)
+
+-- two columns hold a value, by its type and its printed text
+abbrev pub holds_typed_value : Row → Bool
+holds_typed_value row = holds_int (λ number. holds_value_text row number) (column row shown.source_value_type)
+
 -- the row is one of a source, whoever says so
 abbrev pub is_row_of_source : ℤ → Row → Bool
 is_row_of_source next row =
-    holds_int (is_assigned next) (column row 1) && holds_text is_utf8 (column row 3)
-    && holds_text is_utf8 (column row 4) && holds_text is_utf8 (column row 5)
-    && holds_int (λ number. holds_text (holds_value number) (column row 7)) (column row 6)
+    holds_int (is_assigned next) (column row shown.source_number)
+    && holds_text is_utf8 (column row shown.source_category) && holds_text is_utf8 (column row shown.source_entity)
+    && holds_text is_utf8 (column row shown.source_attribute) && holds_typed_value row
 
 abbrev pub is_sound_row : CheckedTable → ℤ → Row → Bool
 is_sound_row Domains next row =
-    holds_int (is_assigned next) (column row 0) && holds_text is_domain_name (column row 1)
-    && holds_int is_count (column row 2)
+    holds_int (is_assigned next) (column row shown.domain_number)
+    && holds_text is_domain_name (column row shown.domain_name) && holds_int is_count (column row shown.domain_epoch)
 is_sound_row Tokens next row =
-    holds_int (is_assigned next) (column row 1) && holds_blob is_digest (column row 2)
-    && holds_int is_bit (column row 3)
+    holds_int (is_assigned next) (column row shown.token_number)
+    && holds_blob is_digest (column row shown.token_digest) && holds_int is_bit (column row shown.token_role)
 is_sound_row Documents next row =
-    holds_int (is_assigned next) (column row 1) && holds_int is_bit (column row 6)
-    && holds_blob (λ body. holds_key (column row 2) (column row 3) (column row 4) (document_of body)) (column row 5)
+    holds_int (is_assigned next) (column row shown.document_number)
+    && holds_int is_bit (column row shown.document_active) && holds_body row
 is_sound_row Roots next row =
-    holds_int (is_assigned next) (column row 0) && holds_int is_bit (column row 1) && holds_text is_utf8 (column row 2)
-    && holds_text_if_any is_pattern (column row 3) && holds_text_if_any is_version (column row 4)
-    && holds_text_if_any is_version (column row 5)
+    holds_int (is_assigned next) (column row shown.root_number) && holds_int is_bit (column row shown.root_kind)
+    && holds_text is_utf8 (column row shown.root_id) && holds_text_if_any is_pattern (column row shown.root_pattern)
+    && holds_text_if_any is_version (column row shown.root_earliest)
+    && holds_text_if_any is_version (column row shown.root_latest)
 is_sound_row Attributes next row = is_row_of_source next row
-is_sound_row Sources next row = is_row_of_source next row && holds_text_if_any is_utf8 (column row 8)
+is_sound_row Sources next row =
+    is_row_of_source next row && holds_text_if_any is_utf8 (column row shown.source_issuer)
 
 -- the columns that are read, of those that are kept: that of an INTEGER PRIMARY KEY is kept as the rowid
 abbrev pub read_columns : CheckedTable → List ℕ
@@ -149,7 +169,7 @@ is_number _ = false
 
 -- the row has a number, and its columns hold what they should
 abbrev pub is_whole_row : CheckedTable → ℤ → Row → Bool
-is_whole_row table next row = is_number (column row 0) && is_sound_row table next row
+is_whole_row table next row = is_number (column row shown.rowid) && is_sound_row table next row
 
 -- each number is below those after it
 abbrev pub are_rising : List ℤ → Bool
@@ -157,7 +177,7 @@ are_rising [] = true
 are_rising (n ∷ ns) = list_all (int_lt n) ns && are_rising ns
 
 abbrev pub row_number : Row → ℤ
-row_number row = int_of (column row 0)
+row_number row = int_of (column row shown.rowid)
 
 -- the rows of the table hold what they should, and their numbers rise
 abbrev pub are_sound_rows : CheckedTable → ℤ → List Row → Bool
@@ -166,7 +186,8 @@ are_sound_rows table next rows = list_all (is_whole_row table next) rows && are_
 -- ---- places
 
 abbrev pub place_in : Row → SourcePlace
-place_in row = record { domain = int_of (column row 1); index = int_of (column row 2) }
+place_in row =
+    record { domain = int_of (column row shown.source_number); index = int_of (column row shown.source_place) }
 
 -- the places in the source of one domain, sorted
 abbrev pub places_of : List SourcePlace → ℤ → List ℤ
@@ -217,8 +238,9 @@ int_in _ = None
 -- the number of the next domain, in the one row of `meta` as it is read, if that has the schema's number
 abbrev pub next_of : SchemaVersion → Row → Option ℤ
 next_of version row =
-    if holds_int (int_eq (pos 1)) (column row 0) && holds_int (int_eq (number_of version)) (column row 1)
-    then int_in (column row 2)
+    if holds_int (int_eq (pos 1)) (column row shown.meta_id)
+    && holds_int (int_eq (number_of version)) (column row shown.meta_schema)
+    then int_in (column row shown.meta_next)
     else None
 
 -- the number of the next domain, if `meta` has one row, of that schema

@@ -1,5 +1,5 @@
-//! The columns that the queries of the check show, by the places at which they show them. Definitions have
-//! the numbers.
+//! The columns that the queries of the check show, by the places at which they show them. For definitions
+//! `CheckedColumns` has the numbers.
 
 /// The column of the row's own number, which each query of rows shows first.
 pub(crate) const ROWID: usize = 0;

@@ -3,8 +3,9 @@ ghost use Rattle.std.specs.Prelude.{◌≡◌, IfOk};
 ghost use Rattle.sqlite.specs.Order.{column};
 ghost use Rattle.xa_notation.specs.Document.{document_of};
 ghost use Rattle.xa_value.specs.Reading.{read};
-ghost use Rattle.xa_store.specs.Opened.{holds_blob, holds_int, holds_key, holds_text};
-ghost use Rattle.xa_store.specs.Opened.{holds_value, int_in, is_printed, is_sound_row};
+ghost use Rattle.xa_store.specs.CheckedColumns.{rowid};
+ghost use Rattle.xa_store.specs.Opened.{holds_body, holds_key_of, holds_typed_value, holds_value};
+ghost use Rattle.xa_store.specs.Opened.{holds_value_text, int_in, is_printed, is_sound_row};
 ghost use Rattle.xa_store.specs.Opened.{is_value, known_next, next_of, type_numbered};
 ghost use Rattle.xa_store.specs.Check.{follows, place_told};
 ghost use Rattle.xa_store.specs.declared.schema.checked_table.CheckedTable.TheVariants.{Attributes, Sources};
@@ -67,8 +68,7 @@ fn is_root(next: i64, row: &Row) -> bool
 
 /// Whether the columns hold the key of the document.
 fn holds_key_of(alloc: Global, row: &Row, parsed: &Parsed) -> Result<bool, AllocError>
-    ensures { IfOk result (λ b.
-        b ≡ holds_key (column row.now 2) (column row.now 3) (column row.now 4) (Ok parsed.now)) }
+    ensures { IfOk result (λ b. b ≡ holds_key_of row.now (Ok parsed.now)) }
 {
     let version = parsed.version().to_text(alloc)?;
     let kind = i64::from(parsed.kind().place());
@@ -82,8 +82,7 @@ fn holds_key_of(alloc: Global, row: &Row, parsed: &Parsed) -> Result<bool, Alloc
 /// Whether the body is a document of the key that the columns hold.
 #[tactic(auto, using(xa_value::proofs::GivesLemmas::told_apart))]
 fn is_body(alloc: Global, row: &Row, body: &[u8]) -> Result<bool, AllocError>
-    ensures { IfOk result (λ b.
-        b ≡ holds_key (column row.now 2) (column row.now 3) (column row.now 4) (document_of body.now)) }
+    ensures { IfOk result (λ b. b ≡ holds_key_of row.now (document_of body.now)) }
 {
     match memory_apart(Parsed::read(alloc, body))? {
         Ok(parsed) => holds_key_of(alloc, row, &parsed),
@@ -93,9 +92,7 @@ fn is_body(alloc: Global, row: &Row, body: &[u8]) -> Result<bool, AllocError>
 
 /// Whether a column holds a body of the key that the others hold.
 fn holds_body(alloc: Global, row: &Row) -> Result<bool, AllocError>
-    ensures { IfOk result (λ b. b ≡ holds_blob
-        (λ body. holds_key (column row.now 2) (column row.now 3) (column row.now 4) (document_of body))
-        (column row.now 5)) }
+    ensures { IfOk result (λ b. b ≡ holds_body row.now) }
 {
     match row.get_ref(document::BODY) {
         Ok(ValueRef::Blob(body)) => is_body(alloc, row, body),
@@ -148,7 +145,7 @@ fn is_value_text(alloc: Global, number: i64, bytes: &[u8]) -> Result<bool, Alloc
 
 /// Whether a column holds the printed text of a value of the type of that number.
 fn holds_value_text(alloc: Global, row: &Row, number: i64) -> Result<bool, AllocError>
-    ensures { IfOk result (λ b. b ≡ holds_text (holds_value number) (column row.now 7)) }
+    ensures { IfOk result (λ b. b ≡ holds_value_text row.now number) }
 {
     match row.get_ref(source::VALUE) {
         Ok(ValueRef::Text(bytes)) => is_value_text(alloc, number, bytes),
@@ -158,8 +155,7 @@ fn holds_value_text(alloc: Global, row: &Row, number: i64) -> Result<bool, Alloc
 
 /// Whether two columns hold a value, by its type and its printed text.
 fn holds_typed_value(alloc: Global, row: &Row) -> Result<bool, AllocError>
-    ensures { IfOk result (λ b.
-        b ≡ holds_int (λ number. holds_text (holds_value number) (column row.now 7)) (column row.now 6)) }
+    ensures { IfOk result (λ b. b ≡ holds_typed_value row.now) }
 {
     match row.get_ref(source::VALUE_TYPE) {
         Ok(ValueRef::Int(number)) => holds_value_text(alloc, row, number),
@@ -220,7 +216,7 @@ fn number_at(row: &Row, at: usize) -> Option<i64>
 
 /// The number by which the row is kept.
 pub(crate) fn row_number(row: &Row) -> Option<i64>
-    ensures { result ≡ int_in (column row.now 0) }
+    ensures { result ≡ int_in (column row.now rowid) }
 {
     number_at(row, ROWID)
 }
