@@ -102,12 +102,12 @@ rising = record { digits = 0 }
 
 abbrev pub meta : Table
 meta =
-    with_own_key (codes "meta") 0
+    with_own_key (codes "meta") meta_tree
     (own_key (codes "id") ∷ needed (codes "schema_no") Integer ∷ needed (codes "next_number") Integer ∷ [])
 
 abbrev pub domains : Table
 domains =
-    record (with_own_key (codes "domains") 1
+    record (with_own_key (codes "domains") (tree_of Domains)
     (own_key (codes "number") ∷ needed (codes "name") Text ∷ needed (codes "epoch") Integer ∷ [])) {
       uniques = (2 ∷ []) ∷ [];
       orders = rising ∷ [];
@@ -115,20 +115,20 @@ domains =
 
 abbrev pub tokens : Table
 tokens =
-    of_domains (codes "tokens") 3
+    of_domains (codes "tokens") (tree_of Tokens)
     (needed (codes "number") Integer ∷ needed (codes "digest") Blob ∷ needed (codes "role") Integer ∷ [])
     (1 ∷ 2 ∷ []) rising
 
 abbrev pub policies : Table
 policies =
-    of_domains (codes "policies") 5
+    of_domains (codes "policies") (tree_of Documents)
     (needed (codes "number") Integer ∷ needed (codes "kind") Integer ∷ needed (codes "id") Text
     ∷ needed (codes "version") Text ∷ needed (codes "body") Blob ∷ needed (codes "active") Integer ∷ [])
     (1 ∷ 2 ∷ 3 ∷ 4 ∷ []) rising
 
 abbrev pub roots : Table
 roots =
-    record (with_own_key (codes "roots") 7
+    record (with_own_key (codes "roots") (tree_of Roots)
     (own_key (codes "number") ∷ needed (codes "kind") Integer ∷ needed (codes "id") Text ∷ text_if_any (codes "pattern")
     ∷ text_if_any (codes "earliest") ∷ text_if_any (codes "latest") ∷ [])) {
       references = record of_domain { columns = 0 ∷ [] } ∷ [];
@@ -137,13 +137,16 @@ roots =
 -- the rows of sources in schema 1, and no row in schema 2
 abbrev pub attributes : Table
 attributes =
-    of_domains (codes "attributes") 8 (needed (codes "number") Integer ∷ needed (codes "place") Integer
+    of_domains (codes "attributes") (tree_of Attributes)
+    (needed (codes "number") Integer ∷ needed (codes "place") Integer
     ∷ needed (codes "category") Text ∷ needed (codes "entity") Text ∷ needed (codes "attribute") Text
     ∷ needed (codes "value_type") Integer ∷ needed (codes "value") Text ∷ []) (1 ∷ 2 ∷ []) rising
 
 -- the rows of sources in schema 2: the same columns, and who says so
 abbrev pub sources : Table
-sources = of_domains (codes "sources") 10 (attributes.columns ++ text_if_any (codes "issuer") ∷ []) (1 ∷ 2 ∷ []) rising
+sources =
+    of_domains (codes "sources") (tree_of Sources)
+    (attributes.columns ++ text_if_any (codes "issuer") ∷ []) (1 ∷ 2 ∷ []) rising
 
 -- ---- their automatic indexes
 
@@ -153,14 +156,15 @@ index_of name tree table columns =
 
 abbrev pub indexes_of_schema_1 : List Index
 indexes_of_schema_1 =
-    index_of (codes "sqlite_autoindex_domains_1") 2 1 (2 ∷ [])
-    ∷ index_of (codes "sqlite_autoindex_tokens_1") 4 3 (1 ∷ 2 ∷ [])
-    ∷ index_of (codes "sqlite_autoindex_policies_1") 6 5 (1 ∷ 2 ∷ 3 ∷ 4 ∷ [])
-    ∷ index_of (codes "sqlite_autoindex_attributes_1") 9 8 (1 ∷ 2 ∷ [])
+    index_of (codes "sqlite_autoindex_domains_1") 2 (tree_of Domains) (2 ∷ [])
+    ∷ index_of (codes "sqlite_autoindex_tokens_1") 4 (tree_of Tokens) (1 ∷ 2 ∷ [])
+    ∷ index_of (codes "sqlite_autoindex_policies_1") 6 (tree_of Documents) (1 ∷ 2 ∷ 3 ∷ 4 ∷ [])
+    ∷ index_of (codes "sqlite_autoindex_attributes_1") 9 (tree_of Attributes) (1 ∷ 2 ∷ [])
     ∷ []
 
 abbrev pub indexes_of_schema_2 : List Index
-indexes_of_schema_2 = indexes_of_schema_1 ++ index_of (codes "sqlite_autoindex_sources_1") 11 10 (1 ∷ 2 ∷ []) ∷ []
+indexes_of_schema_2 =
+    indexes_of_schema_1 ++ index_of (codes "sqlite_autoindex_sources_1") 11 (tree_of Sources) (1 ∷ 2 ∷ []) ∷ []
 
 -- ---- the schemas
 
