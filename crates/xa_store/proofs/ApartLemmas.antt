@@ -5,8 +5,10 @@ use Rattle.xa_store.proofs.Common.{Command, Begin, Rollback, IsPlain, Row, Schem
 use Rattle.sqlite.specs.Listing.{understood}
 use Rattle.sqlite.specs.State.{CommitsBy, text_of}
 use Rattle.sqlite_tied.specs.Compute.{everything}
-use Rattle.xa_store.specs.Check.{Begins, Checked, IsIdle, IsUndone, Tested, Undoes}
+use Rattle.xa_store.specs.Check.{Begins, Checked, IsIdle, IsUndone, Tested, Undoes, found_as}
 use Rattle.xa_store.specs.Opening.{IsFailure, IsRefusal}
+use Rattle.xa_store.specs.declared.keeper.tables.Tables.{Tables}
+use Rattle.xa_store.specs.declared.keeper.tables.Tables.TheVariants.{OnlyOurs, WithOthers}
 
 -- ---- the two statements
 
@@ -117,10 +119,10 @@ module _ (version : SchemaVersion) (a : State) (quiet : IsIdle a) (other : a.now
   no_rest rests = other rests.schema
 
   -- of an answer that isn't one of the tables of the schema alone
-  tested : (d : State) (r : Result Bool OpenError) → Survives a d (λ _. ⊥) → (HasCleanDisk d → IsTrue d.is_open → IfErr r (λ e. IsRefusal e → SameNow a d)) → (r ≡ Ok false) ⊎ ((e : OpenError) × (r ≡ Err e)) → Tested version a d r
-  tested d (Ok true) survived refused (inl is) = absurd (let e = is in cc)
-  tested d (Ok true) survived refused (inr is) = absurd (let e = is.1 in cc)
-  tested d (Ok false) survived refused is = record {
+  tested : (d : State) (r : Result Tables OpenError) → Survives a d (λ _. ⊥) → (HasCleanDisk d → IsTrue d.is_open → IfErr r (λ e. IsRefusal e → SameNow a d)) → (r ≡ Ok WithOthers) ⊎ ((e : OpenError) × (r ≡ Err e)) → Tested version a d r
+  tested d (Ok OnlyOurs) survived refused (inl is) = absurd (let e = is in cc)
+  tested d (Ok OnlyOurs) survived refused (inr is) = absurd (let e = is.1 in cc)
+  tested d (Ok WithOthers) survived refused is = record {
     survives = survived;
     refused = refused;
     same = λ clean rests. absurd (no_rest rests);
@@ -170,8 +172,13 @@ module _ (version : SchemaVersion) (a : State) (quiet : IsIdle a) (other : a.now
     pub apart_unended : (e : OpenError) → Undoes c d (Err e) → Tested version a d (Err e)
     apart_unended e last = tested d (Err e) (survived (Err e) last) (λ clean up refusal. absurd (fails_no_refusal e last.fails refusal)) (inr (e, refl))
 
-    pub apart_sound : (y : Unit {0}) → Undoes c d (Ok y) → Tested version a d (Ok false)
-    apart_sound y last = tested d (Ok false) (survived (Ok y) last) (λ clean up. tt) (inl refl)
+    pub apart_sound : (y : Unit {0}) → Undoes c d (Ok y) → Tested version a d (Ok WithOthers)
+    apart_sound y last = tested d (Ok WithOthers) (survived (Ok y) last) (λ clean up. tt) (inl refl)
 
     pub apart_refused : (e : OpenError) (y : Unit {0}) → Undoes c d (Ok y) → Tested version a d (Err e)
     apart_refused e y last = tested d (Err e) (survived (Ok y) last) (λ clean up refusal. same y last clean up) (inr (e, refl))
+
+  -- of the answer of the check
+  pub apart_told : (b c d : State) (x : Unit {0}) → Begins a b (Ok x) → (r : Result (Unit {0}) OpenError) → Checked version b c r → (y : Unit {0}) → Undoes c d (Ok y) → Tested version a d (found_as WithOthers r)
+  apart_told b c d x first (Ok z) check y last = apart_sound b c d x first (Ok z) check y last
+  apart_told b c d x first (Err e) check y last = apart_refused b c d x first (Err e) check e y last

@@ -3,9 +3,11 @@ use Rattle.std.proofs.Common.{◌≡◌, ◌⊎◌, inl, inr, Bool, true, false,
 use Rattle.xa_store.proofs.Common.{Database, IsDatabase, Held, state, State, HasCleanDisk, Survives, Ghosts, Trees, clean_if_open, survives_then, survives_weaker, second_of_both, OpenError, Store, SchemaVersion, Schema1, Schema2, opened, schema_of, Ours, Rests, RestsIn, SameNow, schema_1, world_of}
 use Rattle.sqlite_schema.specs.Names.{same_name}
 use Rattle.sqlite_catalog.specs.Listing.{IsSound as IsSoundUnder}
-use Rattle.xa_store.specs.Check.{Checked, IsIdle, IsSoundIn, Loads, MakesTables, MigratesTables, Tested}
-use Rattle.xa_store.specs.Keeper.{Keeper, IsKeeper, IsSound}
+use Rattle.xa_store.specs.Check.{Checked, IsIdle, IsSoundIn, Loads, MakesTables, MigratesTables, Tested, found_as}
+use Rattle.xa_store.specs.Keeper.{Keeper, IsKeeper, IsSound, are_only_ours}
 use Rattle.xa_store.specs.Opening.{AreNewTables, GivesOrFails, IsBlank, IsFailure, IsKnown, IsMigrated, IsRefusal, LeavesAlone, Makes, MayLeaveTables, Migrates, Opens, Settles, has_room, is_free, no_tables, schema_version_in}
+use Rattle.xa_store.specs.declared.keeper.tables.Tables.{Tables}
+use Rattle.xa_store.specs.declared.keeper.tables.Tables.TheVariants.{OnlyOurs}
 use Rattle.xa_store.proofs.ApartLemmas.{fails_no_refusal, survives_still}
 use Rattle.xa_store.proofs.AskedLemmas.{same_then}
 use Rattle.xa_store.proofs.KeeperReadingLemmas.{sound_store}
@@ -63,7 +65,7 @@ module _ (version : SchemaVersion) (a c : State) (quiet : IsIdle a) (schema : a.
     same : HasCleanDisk c → IsTrue c.is_open → SameNow a c
     same clean up = check.asks.same clean (at_rest (check.asks.was_open clean up)) up
 
-  pub ours_sound : (x : Unit {0}) → Checked version a c (Ok x) → Tested version a c (Ok true)
+  ours_sound : (x : Unit {0}) → Checked version a c (Ok x) → Tested version a c (Ok OnlyOurs)
   ours_sound x check = record {
     survives = survived (Ok x) check;
     refused = λ clean up. tt;
@@ -82,7 +84,7 @@ module _ (version : SchemaVersion) (a c : State) (quiet : IsIdle a) (schema : a.
         };
   }
 
-  pub ours_refused : (e : OpenError) → Checked version a c (Err e) → Tested version a c (Err e)
+  ours_refused : (e : OpenError) → Checked version a c (Err e) → Tested version a c (Err e)
   ours_refused e check = record {
     survives = survived (Err e) check;
     refused = λ clean up refusal. same (Err e) check clean up;
@@ -92,6 +94,10 @@ module _ (version : SchemaVersion) (a c : State) (quiet : IsIdle a) (schema : a.
     stays = λ clean rests. tt;
     sound = λ clean. tt;
   }
+
+  pub ours_told : (r : Result (Unit {0}) OpenError) → Checked version a c r → Tested version a c (found_as OnlyOurs r)
+  ours_told (Ok x) check = ours_sound x check
+  ours_told (Err e) check = ours_refused e check
 
 -- a transaction is under way, and nothing is asked
 pub not_tested : (version : SchemaVersion) (a : State) → Tested version a a (Err Store)
@@ -133,7 +139,7 @@ module _ (a b : State) (room : IsTrue (has_room a.now.schema)) where
   not_made e made = failed_loads b e made.fails (survives_weaker a b _ (MayLeaveTables a) (λ _ db h. leaves db h) made.survives) (λ clean blank up. inl (made.same clean blank up))
 
   module _ (c : State) (x : Unit {0}) (made : MakesTables a b (Ok x)) where
-    module _ (r : Result Bool OpenError) (test : Tested Schema2 b c r) where
+    module _ (r : Result Tables OpenError) (test : Tested Schema2 b c r) where
       between : HasCleanDisk c → HasCleanDisk b
       between clean = omega (arith, test.survives.clean)
 
@@ -148,7 +154,7 @@ module _ (a b : State) (room : IsTrue (has_room a.now.schema)) where
     pub made_failed : (e other : OpenError) → IsFailure e → Tested Schema2 b c (Err other) → Loads a c (Err e)
     made_failed e other is test = failed_loads c e is (left_at_last (Err other) test) (λ clean blank up. inr (is_made (Err other) test clean blank up))
 
-    pub made_sound : (own : Bool) → Tested Schema2 b c (Ok own) → Loads a c (Ok own)
+    pub made_sound : (own : Tables) → Tested Schema2 b c (Ok own) → Loads a c (Ok own)
     made_sound own test = record {
       survives = left_at_last (Ok own) test;
       left = tt;
@@ -165,7 +171,7 @@ module _ (a b : State) (room : IsTrue (has_room a.now.schema)) where
 
 -- tables of schema 2
 module _ (a c : State) (full : has_room a.now.schema ≡ false) (second : schema_version_in a.now.schema ≡ Schema2) where
-  pub tested_loads : (r : Result Bool OpenError) → Tested Schema2 a c r → Loads a c r
+  pub tested_loads : (r : Result Tables OpenError) → Tested Schema2 a c r → Loads a c r
   tested_loads r test = record {
     survives = survives_weaker a c (λ _. ⊥) (MayLeaveTables a) (λ _ db h. absurd h) test.survives;
     left = left r;
@@ -178,11 +184,11 @@ module _ (a c : State) (full : has_room a.now.schema ≡ false) (second : schema
     stays = λ clean. stays (test.stays clean);
   }
     where
-      left : (r2 : Result Bool OpenError) → IfErr r2 (λ e. IsRefusal e → Survives a c (λ _. ⊥))
+      left : (r2 : Result Tables OpenError) → IfErr r2 (λ e. IsRefusal e → Survives a c (λ _. ⊥))
       left (Ok own) = tt
       left (Err e) = λ refusal. test.survives
 
-      ours : (r2 : Result Bool OpenError) → IfOk r2 (λ own. IsTrue own → IsSoundIn Schema2 c) → IfOk r2 (λ own. IsTrue own → Ours c)
+      ours : (r2 : Result Tables OpenError) → IfOk r2 (λ own. IsTrue (are_only_ours own) → IsSoundIn Schema2 c) → IfOk r2 (λ own. IsTrue (are_only_ours own) → Ours c)
       ours (Ok own) sound = λ is. sound_ours c (sound is)
       ours (Err e) sound = tt
 
@@ -218,7 +224,7 @@ module _ (a b : State) (full : has_room a.now.schema ≡ false) (first : schema_
     stays = λ clean h. tt;
   }
 
-  module _ (c : State) (own : Bool) (test : Tested Schema1 a b (Ok own)) where
+  module _ (c : State) (own : Tables) (test : Tested Schema1 a b (Ok own)) where
     first_same : HasCleanDisk b → RestsIn schema_1 a → SameNow a b
     first_same clean rests = test.same clean rests (test.stays clean rests)
 
@@ -292,33 +298,33 @@ module _ {S : Type 0} (g : Ghosts S) (shut : (s : S) → (g.view s).is_clean ≡
   clean_up : IsTrue (state g last).is_open → HasCleanDisk (state g last)
   clean_up up = clean_if_open (g.view last.store) (shut last.store) up
 
-  abbrev pub keeper : Bool → Keeper S
-  keeper ours = record { conn = last; ours = ours; is_open = true; faults = 0 }
+  abbrev pub keeper : Tables → Keeper S
+  keeper tables = record { conn = last; ours = are_only_ours tables; is_open = true; faults = 0 }
 
-  pub is_keeper : (ours : Bool) → Loads old (state g last) (Ok ours) → IsKeeper g (keeper ours)
-  is_keeper ours loads = (λ own up. loads.ours (clean_up up) own, λ up. refl)
+  pub is_keeper : (tables : Tables) → Loads old (state g last) (Ok tables) → IsKeeper g (keeper tables)
+  is_keeper tables loads = (λ own up. loads.ours (clean_up up) own, λ up. refl)
 
-  pub opens_keeper : (ours : Bool) → Loads old (state g last) (Ok ours) → Rests old → Opens g old (Ok (keeper ours))
-  opens_keeper ours loads rests clean =
+  pub opens_keeper : (tables : Tables) → Loads old (state g last) (Ok tables) → Rests old → Opens g old (Ok (keeper tables))
+  opens_keeper tables loads rests clean =
       let it = loads.opens clean rests in
       let same = it.2 (loads.stays clean (inl rests)) in
       (it.0, same, record { ours = it.1; is_open = refl; faults = refl }, ap (λ (d : Database). world_of d.trees) (same.now ∙ rests.settled))
 
-  pub migrates_keeper : (ours : Bool) → Loads old (state g last) (Ok ours) → RestsIn schema_1 old → Migrates g old (Ok (keeper ours))
-  migrates_keeper ours loads rests clean =
+  pub migrates_keeper : (tables : Tables) → Loads old (state g last) (Ok tables) → RestsIn schema_1 old → Migrates g old (Ok (keeper tables))
+  migrates_keeper tables loads rests clean =
       let it = loads.migrates clean rests in
       (it.0, record { ours = it.1; is_open = refl; faults = refl }, it.2)
 
-  pub makes_keeper : (ours : Bool) → Loads old (state g last) (Ok ours) → IsBlank old → Makes g old (Ok (keeper ours))
-  makes_keeper ours loads blank clean =
+  pub makes_keeper : (tables : Tables) → Loads old (state g last) (Ok tables) → IsBlank old → Makes g old (Ok (keeper tables))
+  makes_keeper tables loads blank clean =
       let it = loads.makes clean blank in
       (it.1, record { ours = it.0; is_open = refl; faults = refl }, made_nothing (state g last).now.trees it.1)
 
-  pub sound_keeper : (ours : Bool) → Loads old (state g last) (Ok ours) → IsTrue ours → IsTrue (state g last).is_open → IsSound g (keeper ours)
-  sound_keeper ours loads own up = (own, sound_store (state g last) up (loads.ours (clean_up up) own) (λ db may. settled last.store db up may))
+  pub sound_keeper : (tables : Tables) → Loads old (state g last) (Ok tables) → IsTrue (are_only_ours tables) → IsTrue (state g last).is_open → IsSound g (keeper tables)
+  sound_keeper tables loads own up = (own, sound_store (state g last) up (loads.ours (clean_up up) own) (λ db may. settled last.store db up may))
 
-  pub settles_keeper : (ours : Bool) → Loads old (state g last) (Ok ours) → Settles g (keeper ours)
-  settles_keeper ours loads own up = (sound_keeper ours loads own up).1.settled
+  pub settles_keeper : (tables : Tables) → Loads old (state g last) (Ok tables) → Settles g (keeper tables)
+  settles_keeper tables loads own up = (sound_keeper tables loads own up).1.settled
 
   pub opens_refused : (e : OpenError) → Loads old (state g last) (Err e) → Rests old → Opens g old (Err (e, last))
   opens_refused e loads rests clean = let it = loads.opens clean rests in (it.0, it.2)

@@ -20,12 +20,14 @@ use Rattle.sqlite.specs.declared.error.ErrorCode.TheVariants.{NameTaken, OutOfMe
 use Rattle.xa_store.specs.declared.check.row.SourcePlace.{SourcePlace}
 use Rattle.xa_store.specs.declared.error.OpenError.{OpenError}
 use Rattle.xa_store.specs.declared.error.OpenError.TheVariants.{NotThisSchema, Damaged, Store, Memory}
+use Rattle.xa_store.specs.declared.keeper.tables.Tables.{Tables}
 use Rattle.xa_store.specs.declared.schema.checked_table.CheckedTable.{CheckedTable}
 use Rattle.xa_store.specs.declared.schema.checked_table.CheckedTable.TheVariants.{Domains, Tokens, Documents, Roots}
 use Rattle.xa_store.specs.declared.schema.checked_table.CheckedTable.TheVariants.{Attributes, Sources}
 use Rattle.xa_store.specs.declared.schema.version.SchemaVersion.{SchemaVersion}
 use Rattle.xa_store.specs.declared.schema.version.SchemaVersion.TheVariants.{Schema1, Schema2}
 use Rattle.xa_store.specs.CheckedColumns as shown
+use Rattle.xa_store.specs.Keeper.{are_only_ours}
 use Rattle.xa_store.specs.Opened.{are_counted, as_read, is_left_empty, place_in, sources_in, are_rising}
 use Rattle.xa_store.specs.Opened.{int_in, is_number, is_whole_row, row_number, opened, schema_of}
 use Rattle.xa_store.specs.Opening.{AreNewTables, GivesOrFails, IsBlank, IsFailure, IsKnown, IsMigrated}
@@ -318,16 +320,21 @@ pub record IsSoundIn (version : SchemaVersion) (s : State) : Type 0 where
   pub database : IsDatabase s.now
   pub opens : opened version s.now.trees ≡ Ok tt
 
+-- a check of these tables tells which they are, or its error
+abbrev pub found_as : Tables → Result (Unit {0}) OpenError → Result Tables OpenError
+found_as tables (Ok x) = Ok tables
+found_as tables (Err e) = Err e
+
 -- All tables were checked, and nothing has changed. Of tables that aren't the schema's alone that is said if the
 -- answer is about them.
-pub record Tested (version : SchemaVersion) (old new : State) (result : Result Bool OpenError) : Type 0 where
+pub record Tested (version : SchemaVersion) (old new : State) (result : Result Tables OpenError) : Type 0 where
   pub survives : Survives old new (λ _. ⊥)
   pub refused : HasCleanDisk new → IsTrue new.is_open → IfErr result (λ e. IsRefusal e → SameNow old new)
   pub same : HasCleanDisk new → RestsIn (schema_of version) old → IsTrue new.is_open → SameNow old new
   pub opened : HasCleanDisk new → RestsIn (schema_of version) old → GivesAs result (opened version old.now.trees)
-  pub known : RestsIn (schema_of version) old → IfOk result IsTrue
+  pub known : RestsIn (schema_of version) old → IfOk result (λ tables. IsTrue (are_only_ours tables))
   pub stays : HasCleanDisk new → RestsIn (schema_of version) old → OnOk result (IsTrue new.is_open)
-  pub sound : HasCleanDisk new → IfOk result (λ ours. IsTrue ours → IsSoundIn version new)
+  pub sound : HasCleanDisk new → IfOk result (λ tables. IsTrue (are_only_ours tables) → IsSoundIn version new)
 
 -- the tables were made, all or none
 pub record MakesTables {X : Type 0} (old new : State) (result : Result X OpenError) : Type 0 where
@@ -345,24 +352,26 @@ pub record MigratesTables {X : Type 0} (old new : State) (result : Result X Open
   pub fails : IfErr result IsFailure
 
 -- what loading answers of tables of schema 2
-abbrev pub OpensAs : State → State → Result Bool OpenError → Type 0
+abbrev pub OpensAs : State → State → Result Tables OpenError → Type 0
 OpensAs old new result =
-    GivesAs result (opened Schema2 old.now.trees) × IfOk result IsTrue × (IsTrue new.is_open → SameNow old new)
+    GivesAs result (opened Schema2 old.now.trees) × IfOk result (λ tables. IsTrue (are_only_ours tables))
+    × (IsTrue new.is_open → SameNow old new)
 
 -- what loading answers of tables of schema 1, and what it leaves
-abbrev pub MigratesAs : State → State → Result Bool OpenError → Type 0
-MigratesAs old new (Ok ours) =
-    (opened Schema1 old.now.trees ≡ Ok tt) × IsTrue ours × IsMigrated old.committed.trees new.now.trees
+abbrev pub MigratesAs : State → State → Result Tables OpenError → Type 0
+MigratesAs old new (Ok tables) =
+    (opened Schema1 old.now.trees ≡ Ok tt) × IsTrue (are_only_ours tables)
+    × IsMigrated old.committed.trees new.now.trees
 MigratesAs old new (Err e) =
     GivesOrFails (Err e) (opened Schema1 old.now.trees) × (IsTrue new.is_open → SameNow old new)
 
 -- what loading answers of a store without tables, and what it leaves
-abbrev pub MakesAs : State → State → Result Bool OpenError → Type 0
-MakesAs old new (Ok ours) = IsTrue ours × AreNewTables new.now.trees
+abbrev pub MakesAs : State → State → Result Tables OpenError → Type 0
+MakesAs old new (Ok tables) = IsTrue (are_only_ours tables) × AreNewTables new.now.trees
 MakesAs old new (Err e) = IsTrue new.is_open → SameNow old new ⊎ AreNewTables new.now.trees
 
 -- a store was loaded: its tables were checked, brought into schema 2 or made
-pub record Loads (old new : State) (result : Result Bool OpenError) : Type 0 where
+pub record Loads (old new : State) (result : Result Tables OpenError) : Type 0 where
   pub survives : Survives old new (MayLeaveTables old)
   pub left : IfErr result (λ e. IsRefusal e → Survives old new (λ _. ⊥))
   pub refused : HasCleanDisk new → IsTrue new.is_open → IfErr result (λ e. IsRefusal e → SameNow old new)
@@ -370,5 +379,5 @@ pub record Loads (old new : State) (result : Result Bool OpenError) : Type 0 whe
   pub migrates : HasCleanDisk new → RestsIn schema_1 old → MigratesAs old new result
   pub makes : HasCleanDisk new → IsBlank old → MakesAs old new result
   pub fails : IsBlank old → IfErr result IsFailure
-  pub ours : HasCleanDisk new → IfOk result (λ ours. IsTrue ours → Ours new)
+  pub ours : HasCleanDisk new → IfOk result (λ tables. IsTrue (are_only_ours tables) → Ours new)
   pub stays : HasCleanDisk new → IsKnown old → OnOk result (IsTrue new.is_open)

@@ -1,9 +1,16 @@
 -- The keeper as contracts see it.
-use Rattle.std.specs.Prelude.{ℕ, Bool, IsTrue, refl}
+use Rattle.std.specs.Prelude.{ℕ, Bool, true, false, IsTrue, refl}
 use Rattle.std.specs.Coded.{Coded, code_by, coded×, coded_ℕ, coded_bool}
 use Rattle.sqlite.specs.Held.{Held, held_code, state}
 use Rattle.sqlite.specs.Store.{Ghosts}
+use Rattle.xa_store.specs.declared.keeper.tables.Tables.{Tables}
+use Rattle.xa_store.specs.declared.keeper.tables.Tables.TheVariants.{OnlyOurs, WithOthers}
 use Rattle.xa_store.specs.Sound.{IsSoundStore, Ours}
+
+-- the store has our tables as they are made, and no others
+abbrev pub are_only_ours : Tables → Bool
+are_only_ours OnlyOurs = true
+are_only_ours WithOthers = false
 
 -- The keeper: its connection; whether that was found to have our tables and no others when it was opened; whether its
 -- store was not found to be shut; and how many calls failed with `Store`.

@@ -1,13 +1,16 @@
 //! The keeper: a connection, and what is known of its store.
 ghost use Rattle.std.specs.Prelude.{◌≡◌, true, IsTrue};
 ghost use Rattle.sqlite.specs.Held.{state};
+ghost use Rattle.xa_store.specs.Keeper.{are_only_ours};
 ghost use Rattle.xa_store.specs.Sound.{Ours};
 
 pub(crate) mod health;
 pub(crate) mod laws;
 pub(crate) mod records;
+pub(crate) mod tables;
 
 use crate::keeper::health::Health;
+use crate::keeper::tables::Tables;
 use sqlite::{Alter, Connection};
 use std::marker::Model;
 
@@ -16,8 +19,8 @@ use std::marker::Model;
 pub struct SqlRecords<S: Alter> {
     /// The connection.
     conn: Connection<S>,
-    /// Whether its store had a keeper's tables and no others when it was opened.
-    ours: bool,
+    /// Which tables its store had when it was opened.
+    tables: Tables,
     /// What is known of its store.
     health: Health,
 }
@@ -30,22 +33,34 @@ impl<S: Alter> Model for SqlRecords<S> {
     ghost coded = { keeper_code S.code };
 
     ghost view = { λ r.
-        record { conn = r.conn; ours = r.ours; is_open = r.health.is_open; faults = r.health.faults } };
+        record {
+          conn = r.conn;
+          ours = are_only_ours r.tables;
+          is_open = r.health.is_open;
+          faults = r.health.faults;
+        } };
 
     ghost invariant = { λ r.
         IsKeeper S.Store
-        (record { conn = r.conn; ours = r.ours; is_open = r.health.is_open; faults = r.health.faults }) };
+        (record {
+          conn = r.conn;
+          ours = are_only_ours r.tables;
+          is_open = r.health.is_open;
+          faults = r.health.faults;
+        }) };
 }
 
 impl<S: Alter> SqlRecords<S> {
     /// A keeper over the connection, no call of which has failed.
-    pub(crate) fn over(conn: Connection<S>, ours: bool) -> SqlRecords<S>
-        requires { IsTrue ours → IsTrue (state S.Store conn).is_open → Ours (state S.Store conn) }
-        ensures { result ≡ record { conn = conn; ours = ours; is_open = true; faults = 0 } }
+    pub(crate) fn over(conn: Connection<S>, tables: Tables) -> SqlRecords<S>
+        requires { IsTrue (are_only_ours tables) → IsTrue (state S.Store conn).is_open
+            → Ours (state S.Store conn) }
+        ensures { result
+            ≡ record { conn = conn; ours = are_only_ours tables; is_open = true; faults = 0 } }
     {
         SqlRecords {
             conn,
-            ours,
+            tables,
             health: Health::fresh(),
         }
     }
@@ -55,7 +70,7 @@ impl<S: Alter> SqlRecords<S> {
     pub fn has_only_our_tables(&self) -> bool
         ensures { result ≡ self.now.ours }
     {
-        self.ours
+        self.tables.are_only_ours()
     }
 
     /// The connection that it was made over.

@@ -1,14 +1,15 @@
 //! Opening a connection as a keeper. Tables are made if there are none, else checked, and those of schema 1
 //! are brought into schema 2.
-ghost use Rattle.std.specs.Prelude.{◌≡◌, false, Err, IfErr, IfOk, IsTrue};
+ghost use Rattle.std.specs.Prelude.{◌≡◌, ◌≢◌, false, Err, IfErr, IfOk, IsTrue};
 ghost use Rattle.sqlite.specs.Held.{state};
 ghost use Rattle.sqlite.specs.State.{HasCleanDisk, Survives};
-ghost use Rattle.xa_store.specs.Check.{IsIdle, Loads, Tested};
+ghost use Rattle.xa_store.specs.Check.{IsIdle, Loads, Tested, found_as};
 ghost use Rattle.xa_store.specs.Keeper.{IsSound};
 ghost use Rattle.xa_store.specs.Opened.{schema_of};
 ghost use Rattle.xa_store.specs.Opening.{has_room, held_in, schema_version_in, IsBlank, IsKnown, IsRefusal};
 ghost use Rattle.xa_store.specs.Opening.{LeavesAlone, Makes, MayLeaveTables, Migrates, Opens, Settles};
 ghost use Rattle.xa_store.specs.declared.error.OpenError.TheVariants.{Store};
+ghost use Rattle.xa_store.specs.declared.keeper.tables.Tables.TheVariants.{OnlyOurs, WithOthers};
 ghost use Rattle.xa_store.specs.declared.schema.version.SchemaVersion.TheVariants.{Schema1};
 ghost use Rattle.xa_store.specs.Sound.{Rests, RestsIn};
 ghost use Rattle.xa_store.specs.Tables.{schema_1};
@@ -18,11 +19,13 @@ use crate::check::tables::check;
 use crate::error::OpenError;
 use crate::failure::error_after_making;
 use crate::keeper::SqlRecords;
+use crate::keeper::tables::Tables;
 use crate::schema::creation::make;
 use crate::schema::migration::migrate;
 use crate::schema::shape::{has_room, is_of, schema_version_in};
 use crate::schema::version::SchemaVersion;
 use sqlite::{Alter, Connection};
+use sqlite_schema::schema::Schema;
 use std::alloc::Global;
 
 impl<S: Alter> SqlRecords<S> {
@@ -51,47 +54,62 @@ impl<S: Alter> SqlRecords<S> {
             → IfOk result (λ k. IsTrue (state S.Store k.conn).is_open) }
     {
         match load(alloc, &mut conn) {
-            Ok(ours) => Ok(SqlRecords::over(conn, ours)),
+            Ok(tables) => Ok(SqlRecords::over(conn, tables)),
             Err(error) => Err((error, conn)),
         }
     }
 }
 
-/// Checks the tables, which are those of that schema and no others: so it gives true.
-fn check_ours<S: Alter>(
+/// Which tables there are: those of that schema and no others, or others, too.
+fn found_tables(version: SchemaVersion, schema: &Schema) -> Tables
+    ensures ours { result ≡ OnlyOurs → schema.now ≡ schema_of version }
+    ensures others { result ≡ WithOthers → schema.now ≢ schema_of version }
+{
+    if is_of(version, schema) {
+        Tables::OnlyOurs
+    } else {
+        Tables::WithOthers
+    }
+}
+
+/// Checks the tables that were found, as those of that schema. If there are others, too, all stay as they
+/// were, whatever the queries do.
+fn check_found<S: Alter>(
     alloc: Global,
     conn: &mut Connection<S>,
     version: SchemaVersion,
-) -> Result<bool, OpenError>
+    tables: Tables,
+) -> Result<(), OpenError>
     requires quiet { IsIdle (state S.Store conn.old) }
-    requires ours { (state S.Store conn.old).now.schema ≡ schema_of version }
-    ensures { Tested version (state S.Store conn.old) (state S.Store conn.new) result }
+    requires ours { tables ≡ OnlyOurs → (state S.Store conn.old).now.schema ≡ schema_of version }
+    requires others { tables ≡ WithOthers → (state S.Store conn.old).now.schema ≢ schema_of version }
+    ensures { Tested version (state S.Store conn.old) (state S.Store conn.new) (found_as tables result) }
 {
-    check(alloc, conn, version)?;
-    Ok(true)
+    match tables {
+        Tables::OnlyOurs => check(alloc, conn, version),
+        Tables::WithOthers => check_in_undone_transaction(alloc, conn, version),
+    }
 }
 
-/// Checks the tables as those of that schema, and says whether they are these and no others.
+/// Checks the tables as those of that schema, and says which they are.
 fn check_as<S: Alter>(
     alloc: Global,
     conn: &mut Connection<S>,
     version: SchemaVersion,
-) -> Result<bool, OpenError>
+) -> Result<Tables, OpenError>
     ensures { Tested version (state S.Store conn.old) (state S.Store conn.new) result }
 {
     if !conn.is_autocommit() {
         return Err(OpenError::Store);
     }
-    if is_of(version, conn.schema()) {
-        check_ours(alloc, conn, version)
-    } else {
-        check_in_undone_transaction(alloc, conn, version)
-    }
+    let tables = found_tables(version, conn.schema());
+    check_found(alloc, conn, version, tables)?;
+    Ok(tables)
 }
 
 /// Makes the tables beside what is there, and then checks them as any others. If these aren't sound, the
-/// store has failed. It says whether they are a keeper's tables and no others.
-fn make_and_check<S: Alter>(alloc: Global, conn: &mut Connection<S>) -> Result<bool, OpenError>
+/// store has failed. It says which tables there are now.
+fn make_and_check<S: Alter>(alloc: Global, conn: &mut Connection<S>) -> Result<Tables, OpenError>
     requires { IsTrue (has_room (state S.Store conn.old).now.schema) }
     ensures { Loads (state S.Store conn.old) (state S.Store conn.new) result }
 {
@@ -99,21 +117,22 @@ fn make_and_check<S: Alter>(alloc: Global, conn: &mut Connection<S>) -> Result<b
     check_as(alloc, conn, SchemaVersion::Schema2).map_err(error_after_making)
 }
 
-/// Checks tables of schema 1, and then brings them into schema 2. It says whether they were those of schema
-/// 1 and no others.
-fn check_and_migrate<S: Alter>(alloc: Global, conn: &mut Connection<S>) -> Result<bool, OpenError>
+/// Checks tables of schema 1, and then brings them into schema 2. It says which tables there were.
+fn check_and_migrate<S: Alter>(
+    alloc: Global,
+    conn: &mut Connection<S>,
+) -> Result<Tables, OpenError>
     requires taken { has_room (state S.Store conn.old).now.schema ≡ false }
     requires first { schema_version_in (state S.Store conn.old).now.schema ≡ Schema1 }
     ensures { Loads (state S.Store conn.old) (state S.Store conn.new) result }
 {
-    let ours = check_as(alloc, conn, SchemaVersion::Schema1)?;
+    let tables = check_as(alloc, conn, SchemaVersion::Schema1)?;
     migrate(conn)?;
-    Ok(ours)
+    Ok(tables)
 }
 
-/// Checks the tables that are there, and brings those of schema 1 into schema 2. It says whether they are
-/// a keeper's tables and no others.
-fn load_kept<S: Alter>(alloc: Global, conn: &mut Connection<S>) -> Result<bool, OpenError>
+/// Checks the tables that are there, and brings those of schema 1 into schema 2. It says which they are.
+fn load_kept<S: Alter>(alloc: Global, conn: &mut Connection<S>) -> Result<Tables, OpenError>
     requires { has_room (state S.Store conn.old).now.schema ≡ false }
     ensures { Loads (state S.Store conn.old) (state S.Store conn.new) result }
 {
@@ -123,8 +142,8 @@ fn load_kept<S: Alter>(alloc: Global, conn: &mut Connection<S>) -> Result<bool, 
     }
 }
 
-/// Makes the tables or checks them, and says whether they are a keeper's tables and no others.
-fn load<S: Alter>(alloc: Global, conn: &mut Connection<S>) -> Result<bool, OpenError>
+/// Makes the tables or checks them, and says which they are.
+fn load<S: Alter>(alloc: Global, conn: &mut Connection<S>) -> Result<Tables, OpenError>
     ensures loads { Loads (state S.Store conn.old) (state S.Store conn.new) result }
     ensures busy { IsTrue (state S.Store conn.old).in_transaction
         → (result ≡ Err Store) × (conn.new ≡ conn.old) }

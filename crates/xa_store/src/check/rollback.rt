@@ -2,8 +2,9 @@
 //! they were, whatever the queries do.
 ghost use Rattle.std.specs.Prelude.{◌≢◌};
 ghost use Rattle.sqlite.specs.Held.{state};
-ghost use Rattle.xa_store.specs.Check.{Begins, IsIdle, Tested, Undoes};
+ghost use Rattle.xa_store.specs.Check.{Begins, IsIdle, Tested, Undoes, found_as};
 ghost use Rattle.xa_store.specs.Opened.{schema_of};
+ghost use Rattle.xa_store.specs.declared.keeper.tables.Tables.TheVariants.{WithOthers};
 
 use crate::check::tables::check;
 use crate::error::OpenError;
@@ -36,19 +37,18 @@ fn undo_transaction<S: Alter>(conn: &mut Connection<S>) -> Result<(), OpenError>
     }
 }
 
-/// Checks the tables as those of that schema. They aren't these alone: so it gives false.
+/// Checks the tables as those of that schema, beside others.
 pub(crate) fn check_in_undone_transaction<S: Alter>(
     alloc: Global,
     conn: &mut Connection<S>,
     version: SchemaVersion,
-) -> Result<bool, OpenError>
+) -> Result<(), OpenError>
     requires quiet { IsIdle (state S.Store conn.old) }
     requires other { (state S.Store conn.old).now.schema ≢ schema_of version }
-    ensures { Tested version (state S.Store conn.old) (state S.Store conn.new) result }
+    ensures { Tested version (state S.Store conn.old) (state S.Store conn.new) (found_as WithOthers result) }
 {
     begin_transaction(conn)?;
     let checked = check(alloc, conn, version);
     undo_transaction(conn)?;
-    checked?;
-    Ok(false)
+    checked
 }

@@ -18,7 +18,7 @@ impl<S: Alter> SqlRecords<S> {
             → IsSound S.Store self.now }
     {
         // For the proof: what the invariant says of the fields.
-        let _ours = self.ours;
+        let _tables = self.tables;
     }
 
     /// Law: the tables of a sound keeper open again.

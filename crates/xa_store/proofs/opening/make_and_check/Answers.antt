@@ -1,14 +1,15 @@
-use Rattle.std.proofs.Common.{◌≡◌, Bool, Result, Ok, Err, MatchResult, IsErrAnd, sym, subst, rules}
+use Rattle.std.proofs.Common.{◌≡◌, Result, Ok, Err, MatchResult, IsErrAnd, sym, subst, rules}
 use Rattle.xa_store.proofs.Common.{state, State, OpenError, Schema2}
 use Rattle.xa_store.specs.Check.{Loads, Tested}
 use Rattle.xa_store.specs.Opening.{IsFailure}
+use Rattle.xa_store.specs.declared.keeper.tables.Tables.{Tables}
 use Rattle.xa_store.proofs.OpenLemmas.{made_failed, made_sound, not_made}
 use Rattle.xa_store.proofs.opening.make_and_check.Goals as goal
 
 -- an answer whose error is told as a failure
-loads_as : (P : OpenError → OpenError → Type 0) (old new : State) (Knows : Result Bool OpenError → Type 0) → ((e d : OpenError) → P e d → IsFailure d) → ((own : Bool) → Knows (Ok own) → Loads old new (Ok own))
-    → ((e d : OpenError) → IsFailure d → Knows (Err e) → Loads old new (Err d)) → (a b : Result Bool OpenError) → MatchResult a (λ x. b ≡ Ok x) (λ e. IsErrAnd b (P e)) → Knows a → Loads old new b
-loads_as P old new Knows told ok err (Ok own) b h knows = subst (λ (r : Result Bool OpenError). Loads old new r) (sym h) (ok own knows)
+loads_as : (P : OpenError → OpenError → Type 0) (old new : State) (Knows : Result Tables OpenError → Type 0) → ((e d : OpenError) → P e d → IsFailure d) → ((own : Tables) → Knows (Ok own) → Loads old new (Ok own))
+    → ((e d : OpenError) → IsFailure d → Knows (Err e) → Loads old new (Err d)) → (a b : Result Tables OpenError) → MatchResult a (λ x. b ≡ Ok x) (λ e. IsErrAnd b (P e)) → Knows a → Loads old new b
+loads_as P old new Knows told ok err (Ok own) b h knows = subst (λ (r : Result Tables OpenError). Loads old new r) (sym h) (ok own knows)
 loads_as P old new Knows told ok err (Err e) (Ok own) h knows = absurd h
 loads_as P old new Knows told ok err (Err e) (Err d) h knows = err e d (told e d h) knows
 
