@@ -166,7 +166,7 @@ pub record Sharing {X : Type 0} (old new : Custody) (before after : ResourcesMod
   pub stands : AllStand old.kept before → new.sound → AllStand new.kept after
   pub views : OnErr result (after.views ≡ before.views)
 
--- of all that a server shares no more was touched than a gate that was remembered
+-- no more of what a server shares was touched than a gate that was remembered
 pub record OnlyForgets (old new : Custody) (before after : ResourcesModel) : Type 0 where
   pub stands : AllStand old.kept before → new.sound → AllStand new.kept after
   pub decisions : after.decisions ≡ before.decisions
