@@ -23,7 +23,7 @@ pub record SendsNone (before now : Option (List ℕ)) (written writing : Option 
   pub grows : Grows written writing (write ∷ [])
   pub appends : Appends before now []
 
--- `writes` writes took so many bytes from the front of the bytes
+-- `tried` writes took the first `count` of the bytes
 pub record SendsPart (bytes : List ℕ) (count tried : ℕ) (before now : Option (List ℕ))
     (written writing : Option (List WriteEnd)) : Type 0 where
   pub tries : List WriteEnd
