@@ -22,7 +22,7 @@ mod wall_clock;
 use crate::command_line::ServeCommand;
 use crate::fault::Fault;
 use crate::serve::listening::Listening;
-use crate::serve::settings::{Settings, front_of_tables};
+use crate::serve::settings::{Settings, front_over};
 use crate::serve::token::operator_of_file;
 use crate::serve::wall_clock::WallClock;
 use crate::store::{StoreInFile, records_in_file};
@@ -175,7 +175,7 @@ fn front_of_files<S: StoreInFile>(
 {
     let operator = operator_of_file(rt, serving.token_file.as_str())?;
     let records = records_in_file::<S>(rt, serving.database.as_str())?;
-    front_of_tables(rt.alloc(), records, operator, settings)
+    front_over(rt.alloc(), records, operator, settings)
 }
 
 /// Serves connections over the store in the file, for the operator whose token is the first line of the
