@@ -73,57 +73,57 @@ one_outcome event old new (first ∷ rest) outcome [] plays = absurd plays
 one_outcome event old new (first ∷ []) outcome (given ∷ nexts) plays = absurd plays.2
 one_outcome event old new (first ∷ other ∷ rest) outcome (given ∷ nexts) plays = absurd plays.2
 
-pub played_one : (event : Event) (old new : FrontState) (found finding : Option (List Bool)) (outcomes rest : List Outcome) (outcome : Outcome)
-    → outcomes ≡ rest ++ option_to_list (Some outcome) → IsPlayed old new (event ∷ []) outcomes → Grows found finding (map outcome_found_memory outcomes)
-    → PlaysOne {E = Unit {0}} event old new found finding (Ok outcome)
-played_one event old new found finding outcomes rest outcome same played grows =
+pub played_one : (event : Event) (old new : FrontState) (memory_old memory_new : Option (List Bool)) (outcomes rest : List Outcome) (outcome : Outcome)
+    → outcomes ≡ rest ++ option_to_list (Some outcome) → IsPlayed old new (event ∷ []) outcomes → Grows memory_old memory_new (map outcome_found_memory outcomes)
+    → PlaysOne {E = Unit {0}} event old new memory_old memory_new (Ok outcome)
+played_one event old new memory_old memory_new outcomes rest outcome same played grows =
     let plays : Plays (event ∷ []) (rest ++ outcome ∷ []) played.nexts old new = subst (λ (os : List Outcome). Plays (event ∷ []) os played.nexts old new) same played.plays in
     let none : rest ≡ [] = one_outcome event old new rest outcome played.nexts plays in
     let only : rest ++ outcome ∷ [] ≡ outcome ∷ [] = ap (λ (os : List Outcome). os ++ outcome ∷ []) none in (
       does_one event old new outcome played.nexts (subst (λ (os : List Outcome). Plays (event ∷ []) os played.nexts old new) only plays),
-      subst (λ (os : List Outcome). Grows found finding (map outcome_found_memory os)) (same ∙ only) grows,
+      subst (λ (os : List Outcome). Grows memory_old memory_new (map outcome_found_memory os)) (same ∙ only) grows,
     )
 
 -- what an answer that was played alone came to
-answered_as : (conn : Conn) (moment : ℤ) (old new : FrontState) (found finding : Option (List Bool)) (given : Option Next) (result : Result (Option Answer) FrontError)
-    → Does (event.Answer conn moment) old given (Answered result) new → Grows found finding (outcome_found_memory (Answered result) ∷ []) → AnswersOne conn moment old new found finding result
-answered_as conn moment old new found finding (Some given) (Ok answer) is grows = (given, is, grows)
-answered_as conn moment old new found finding None (Err Memory) is grows = inl (is.3, grows)
-answered_as conn moment old new found finding None (Err NoSuchConnection) is grows = inr is.0
-answered_as conn moment old new found finding None (Ok answer) none grows = absurd none
-answered_as conn moment old new found finding None (Err TooManyConnections) none grows = absurd none
-answered_as conn moment old new found finding None (Err Full) none grows = absurd none
-answered_as conn moment old new found finding (Some given) (Err Memory) none grows = absurd none
-answered_as conn moment old new found finding (Some given) (Err NoSuchConnection) none grows = absurd none
-answered_as conn moment old new found finding (Some given) (Err TooManyConnections) none grows = absurd none
-answered_as conn moment old new found finding (Some given) (Err Full) none grows = absurd none
+answered_as : (conn : Conn) (moment : ℤ) (old new : FrontState) (memory_old memory_new : Option (List Bool)) (given : Option Next) (result : Result (Option Answer) FrontError)
+    → Does (event.Answer conn moment) old given (Answered result) new → Grows memory_old memory_new (outcome_found_memory (Answered result) ∷ []) → AnswersOne conn moment old new memory_old memory_new result
+answered_as conn moment old new memory_old memory_new (Some given) (Ok answer) is grows = (given, is, grows)
+answered_as conn moment old new memory_old memory_new None (Err Memory) is grows = inl (is.3, grows)
+answered_as conn moment old new memory_old memory_new None (Err NoSuchConnection) is grows = inr is.0
+answered_as conn moment old new memory_old memory_new None (Ok answer) none grows = absurd none
+answered_as conn moment old new memory_old memory_new None (Err TooManyConnections) none grows = absurd none
+answered_as conn moment old new memory_old memory_new None (Err Full) none grows = absurd none
+answered_as conn moment old new memory_old memory_new (Some given) (Err Memory) none grows = absurd none
+answered_as conn moment old new memory_old memory_new (Some given) (Err NoSuchConnection) none grows = absurd none
+answered_as conn moment old new memory_old memory_new (Some given) (Err TooManyConnections) none grows = absurd none
+answered_as conn moment old new memory_old memory_new (Some given) (Err Full) none grows = absurd none
 
-pub answered_one : (conn : Conn) (moment : ℤ) (old new : FrontState) (found finding : Option (List Bool)) (outcome : Outcome) (result : Result (Option Answer) FrontError)
-    → outcome ≡ Answered result → PlaysOne {E = Unit {0}} (event.Answer conn moment) old new found finding (Ok outcome) → AnswersOne conn moment old new found finding result
-answered_one conn moment old new found finding outcome result is played =
-    let one : PlaysOne {E = Unit {0}} (event.Answer conn moment) old new found finding (Ok (Answered result)) =
-    subst (λ (o : Outcome). PlaysOne {E = Unit {0}} (event.Answer conn moment) old new found finding (Ok o)) is played in
-    answered_as conn moment old new found finding one.0.0 result one.0.1 one.1
+pub answered_one : (conn : Conn) (moment : ℤ) (old new : FrontState) (memory_old memory_new : Option (List Bool)) (outcome : Outcome) (result : Result (Option Answer) FrontError)
+    → outcome ≡ Answered result → PlaysOne {E = Unit {0}} (event.Answer conn moment) old new memory_old memory_new (Ok outcome) → AnswersOne conn moment old new memory_old memory_new result
+answered_one conn moment old new memory_old memory_new outcome result is played =
+    let one : PlaysOne {E = Unit {0}} (event.Answer conn moment) old new memory_old memory_new (Ok (Answered result)) =
+    subst (λ (o : Outcome). PlaysOne {E = Unit {0}} (event.Answer conn moment) old new memory_old memory_new (Ok o)) is played in
+    answered_as conn moment old new memory_old memory_new one.0.0 result one.0.1 one.1
 
 -- and what a piece did
-held_as : (conn : Conn) (piece : List ℕ) (old new : FrontState) (found finding : Option (List Bool)) (result : Result (Unit {0}) FrontError)
-    → IsHeld conn piece old.lines result new.lines → new.server ≡ old.server → Grows found finding (outcome_found_memory (Held result) ∷ [])
-    → FeedsOne conn piece old new found finding result
-held_as conn piece old new found finding (Ok done) is server grows = (is.0, is.1, is.3, server, grows)
-held_as conn piece old new found finding (Err Memory) is server grows =
+held_as : (conn : Conn) (piece : List ℕ) (old new : FrontState) (memory_old memory_new : Option (List Bool)) (result : Result (Unit {0}) FrontError)
+    → IsHeld conn piece old.lines result new.lines → new.server ≡ old.server → Grows memory_old memory_new (outcome_found_memory (Held result) ∷ [])
+    → FeedsOne conn piece old new memory_old memory_new result
+held_as conn piece old new memory_old memory_new (Ok done) is server grows = (is.0, is.1, is.3, server, grows)
+held_as conn piece old new memory_old memory_new (Err Memory) is server grows =
     let same : new ≡ old = λ i. record { server = server i; lines = is.3 i } in inl (same, grows)
-held_as conn piece old new found finding (Err NoSuchConnection) is server grows = inr (inl is.0)
-held_as conn piece old new found finding (Err Full) is server grows = inr (inr (is.0, is.1, is.2))
-held_as conn piece old new found finding (Err TooManyConnections) none server grows = absurd none
+held_as conn piece old new memory_old memory_new (Err NoSuchConnection) is server grows = inr (inl is.0)
+held_as conn piece old new memory_old memory_new (Err Full) is server grows = inr (inr (is.0, is.1, is.2))
+held_as conn piece old new memory_old memory_new (Err TooManyConnections) none server grows = absurd none
 
-held_by : (conn : Conn) (piece : Bor (List ℕ)) (old new : FrontState) (found finding : Option (List Bool)) (given : Option Next) (result : Result (Unit {0}) FrontError)
-    → Does (event.Piece conn piece) old given (Held result) new → Grows found finding (outcome_found_memory (Held result) ∷ []) → FeedsOne conn piece.now old new found finding result
-held_by conn piece old new found finding None result does grows = held_as conn piece.now old new found finding result does.0 does.1 grows
-held_by conn piece old new found finding (Some given) result none grows = absurd none
+held_by : (conn : Conn) (piece : Bor (List ℕ)) (old new : FrontState) (memory_old memory_new : Option (List Bool)) (given : Option Next) (result : Result (Unit {0}) FrontError)
+    → Does (event.Piece conn piece) old given (Held result) new → Grows memory_old memory_new (outcome_found_memory (Held result) ∷ []) → FeedsOne conn piece.now old new memory_old memory_new result
+held_by conn piece old new memory_old memory_new None result does grows = held_as conn piece.now old new memory_old memory_new result does.0 does.1 grows
+held_by conn piece old new memory_old memory_new (Some given) result none grows = absurd none
 
-pub held_one : (conn : Conn) (piece : Bor (List ℕ)) (old new : FrontState) (found finding : Option (List Bool)) (outcome : Outcome) (result : Result (Unit {0}) FrontError)
-    → outcome ≡ Held result → PlaysOne {E = Unit {0}} (event.Piece conn piece) old new found finding (Ok outcome) → FeedsOne conn piece.now old new found finding result
-held_one conn piece old new found finding outcome result is played =
-    let one : PlaysOne {E = Unit {0}} (event.Piece conn piece) old new found finding (Ok (Held result)) =
-    subst (λ (o : Outcome). PlaysOne {E = Unit {0}} (event.Piece conn piece) old new found finding (Ok o)) is played in
-    held_by conn piece old new found finding one.0.0 result one.0.1 one.1
+pub held_one : (conn : Conn) (piece : Bor (List ℕ)) (old new : FrontState) (memory_old memory_new : Option (List Bool)) (outcome : Outcome) (result : Result (Unit {0}) FrontError)
+    → outcome ≡ Held result → PlaysOne {E = Unit {0}} (event.Piece conn piece) old new memory_old memory_new (Ok outcome) → FeedsOne conn piece.now old new memory_old memory_new result
+held_one conn piece old new memory_old memory_new outcome result is played =
+    let one : PlaysOne {E = Unit {0}} (event.Piece conn piece) old new memory_old memory_new (Ok (Held result)) =
+    subst (λ (o : Outcome). PlaysOne {E = Unit {0}} (event.Piece conn piece) old new memory_old memory_new (Ok o)) is played in
+    held_by conn piece old new memory_old memory_new one.0.0 result one.0.1 one.1

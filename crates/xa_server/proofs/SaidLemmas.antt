@@ -20,37 +20,37 @@ use Rattle.xa_server.specs.Front.{FrontState, IsAnswered}
 use Rattle.xa_server.specs.Transfers.{Grows, WriteEnd}
 use Rattle.xa_server.proofs.TransferLemmas.{grows_none}
 
-pub asked_so : (is_open shut : Bool) (said saying : Option (List Bool)) → Grows said saying (is_open ∷ []) → shut ≡ not is_open → IsAskedAfter true (Refused Store) shut said saying
-asked_so true shut said saying grows same = subst (λ (b : Bool). IsAskedAfter true (Refused Store) b said saying) (sym same) grows
-asked_so false shut said saying grows same = subst (λ (b : Bool). IsAskedAfter true (Refused Store) b said saying) (sym same) grows
+pub asked_so : (is_open shut : Bool) (said_old said_new : Option (List Bool)) → Grows said_old said_new (is_open ∷ []) → shut ≡ not is_open → IsAskedAfter true (Refused Store) shut said_old said_new
+asked_so true shut said_old said_new grows same = subst (λ (b : Bool). IsAskedAfter true (Refused Store) b said_old said_new) (sym same) grows
+asked_so false shut said_old said_new grows same = subst (λ (b : Bool). IsAskedAfter true (Refused Store) b said_old said_new) (sym same) grows
 
-says_same : (said saying : Option (List Bool)) → saying ≡ said → Grows said saying []
-says_same said saying same = subst (λ (z : Option (List Bool)). Grows said z []) (sym same) (grows_none said)
+says_same : (said_old said_new : Option (List Bool)) → said_new ≡ said_old → Grows said_old said_new []
+says_same said_old said_new same = subst (λ (z : Option (List Bool)). Grows said_old z []) (sym same) (grows_none said_old)
 
 -- its keeper can go on
-pub asked_on : (reply : Reply) (said saying : Option (List Bool)) → IsAskedAfter true reply false said saying → Grows said saying (said_open_after (reply ∷ []))
-asked_on (Refused Store) said saying asked = asked
-asked_on (Refused Memory) said saying asked = says_same said saying asked.1
-asked_on (Sent bytes) said saying asked = says_same said saying asked.1
+pub asked_on : (reply : Reply) (said_old said_new : Option (List Bool)) → IsAskedAfter true reply false said_old said_new → Grows said_old said_new (said_open_after (reply ∷ []))
+asked_on (Refused Store) said_old said_new asked = asked
+asked_on (Refused Memory) said_old said_new asked = says_same said_old said_new asked.1
+asked_on (Sent bytes) said_old said_new asked = says_same said_old said_new asked.1
 
 -- or can't
-pub asked_shut : (reply : Reply) (said saying : Option (List Bool)) → IsAskedAfter true reply true said saying → (reply ≡ Refused Store) × Grows said saying (false ∷ [])
-asked_shut (Refused Store) said saying asked = (refl, asked)
-asked_shut (Refused Memory) said saying asked = absurd (false≢true (sym asked.0))
-asked_shut (Sent bytes) said saying asked = absurd (false≢true (sym asked.0))
+pub asked_shut : (reply : Reply) (said_old said_new : Option (List Bool)) → IsAskedAfter true reply true said_old said_new → (reply ≡ Refused Store) × Grows said_old said_new (false ∷ [])
+asked_shut (Refused Store) said_old said_new asked = (refl, asked)
+asked_shut (Refused Memory) said_old said_new asked = absurd (false≢true (sym asked.0))
+asked_shut (Sent bytes) said_old said_new asked = absurd (false≢true (sym asked.0))
 
 -- it isn't asked after a write that failed
-pub unasked : (reply : Reply) (shut : Bool) (said saying : Option (List Bool)) → IsAskedAfter false reply shut said saying → Grows said saying []
-unasked reply shut said saying asked = says_same said saying asked.1
+pub unasked : (reply : Reply) (shut : Bool) (said_old said_new : Option (List Bool)) → IsAskedAfter false reply shut said_old said_new → Grows said_old said_new []
+unasked reply shut said_old said_new asked = says_same said_old said_new asked.1
 
 -- nor after a message that wasn't refused
-pub asked_none : (whole shut : Bool) (reply : Reply) (bytes : List ℕ) (said saying : Option (List Bool)) → reply ≡ Sent bytes → IsAskedAfter whole reply shut said saying
-    → (shut ≡ false) × Grows said saying []
-asked_none whole shut reply bytes said saying same asked = by_write whole (subst (λ (r : Reply). IsAskedAfter whole r shut said saying) same asked)
+pub asked_none : (whole shut : Bool) (reply : Reply) (bytes : List ℕ) (said_old said_new : Option (List Bool)) → reply ≡ Sent bytes → IsAskedAfter whole reply shut said_old said_new
+    → (shut ≡ false) × Grows said_old said_new []
+asked_none whole shut reply bytes said_old said_new same asked = by_write whole (subst (λ (r : Reply). IsAskedAfter whole r shut said_old said_new) same asked)
   where
-    by_write : (w : Bool) → IsAskedAfter w (Sent bytes) shut said saying → (shut ≡ false) × Grows said saying []
-    by_write true is = (is.0, says_same said saying is.1)
-    by_write false is = (is.0, says_same said saying is.1)
+    by_write : (w : Bool) → IsAskedAfter w (Sent bytes) shut said_old said_new → (shut ≡ false) × Grows said_old said_new []
+    by_write true is = (is.0, says_same said_old said_new is.1)
+    by_write false is = (is.0, says_same said_old said_new is.1)
 
 -- ---- one reply after another
 

@@ -15,14 +15,14 @@ use Rattle.xa_server.proofs.TransferLemmas.{grows_none, grows_trans, taken_trans
 
 -- ---- one write
 
-pub took_none : (bytes : List ℕ) (before now : Option (List ℕ)) (written writing : Option (List WriteEnd))
-    → Appends before now (take 0 bytes) → Grows written writing (took (take 0 bytes) ∷ []) → SendsNone before now written writing
-took_none bytes before now written writing appends grows =
+pub took_none : (bytes : List ℕ) (contents_old contents_new : Option (List ℕ)) (writes_old writes_new : Option (List WriteEnd))
+    → Appends contents_old contents_new (take 0 bytes) → Grows writes_old writes_new (took (take 0 bytes) ∷ []) → SendsNone contents_old contents_new writes_old writes_new
+took_none bytes contents_old contents_new writes_old writes_new appends grows =
     record { write = took []; failed = refl; none = refl; grows = grows; appends = appends }
 
-pub took_some : (bytes : List ℕ) (count : ℕ) (before now : Option (List ℕ)) (written writing : Option (List WriteEnd)) → count ≢ 0 → count ≤ length bytes
-    → Appends before now (take count bytes) → Grows written writing (took (take count bytes) ∷ []) → SendsSome bytes count before now written writing
-took_some bytes count before now written writing some within appends grows = record {
+pub took_some : (bytes : List ℕ) (count : ℕ) (contents_old contents_new : Option (List ℕ)) (writes_old writes_new : Option (List WriteEnd)) → count ≢ 0 → count ≤ length bytes
+    → Appends contents_old contents_new (take count bytes) → Grows writes_old writes_new (took (take count bytes) ∷ []) → SendsSome bytes count contents_old contents_new writes_old writes_new
+took_some bytes count contents_old contents_new writes_old writes_new some within appends grows = record {
   write = took (take count bytes);
   on = omega (arith, some, length-take-le count bytes within);
   part = append-nil (take count bytes);
@@ -30,40 +30,40 @@ took_some bytes count before now written writing some within appends grows = rec
   appends = appends;
 }
 
-pub interrupted : (bytes : List ℕ) (error : Error) (before now : Option (List ℕ)) (written writing : Option (List WriteEnd)) → error_kind error ≡ Interrupted
-    → Keeps before now → Grows written writing (unwritten (error_kind error) ∷ []) → SendsSome bytes 0 before now written writing
-interrupted bytes error before now written writing kind kept grows = record {
+pub interrupted : (bytes : List ℕ) (error : Error) (contents_old contents_new : Option (List ℕ)) (writes_old writes_new : Option (List WriteEnd)) → error_kind error ≡ Interrupted
+    → Keeps contents_old contents_new → Grows writes_old writes_new (unwritten (error_kind error) ∷ []) → SendsSome bytes 0 contents_old contents_new writes_old writes_new
+interrupted bytes error contents_old contents_new writes_old writes_new kind kept grows = record {
   write = unwritten (error_kind error);
   on = kind;
   part = refl;
   grows = grows;
-  appends = appends_kept before now kept;
+  appends = appends_kept contents_old contents_new kept;
 }
 
-pub failed : (error : Error) (before now : Option (List ℕ)) (written writing : Option (List WriteEnd)) → error_kind error ≢ Interrupted
-    → Keeps before now → Grows written writing (unwritten (error_kind error) ∷ []) → SendsNone before now written writing
-failed error before now written writing kind kept grows = record {
+pub failed : (error : Error) (contents_old contents_new : Option (List ℕ)) (writes_old writes_new : Option (List WriteEnd)) → error_kind error ≢ Interrupted
+    → Keeps contents_old contents_new → Grows writes_old writes_new (unwritten (error_kind error) ∷ []) → SendsNone contents_old contents_new writes_old writes_new
+failed error contents_old contents_new writes_old writes_new kind kept grows = record {
   write = unwritten (error_kind error);
   failed = kind;
   none = refl;
   grows = grows;
-  appends = appends_kept before now kept;
+  appends = appends_kept contents_old contents_new kept;
 }
 
-pub unflushed_so : (error : Error) (before now : Option (List ℕ)) (written writing : Option (List WriteEnd)) → Keeps before now
-    → Grows written writing (unflushed (error_kind error) ∷ []) → IsFlushed false before now written writing
-unflushed_so error before now written writing kept grows = (error_kind error, kept, grows)
+pub unflushed_so : (error : Error) (contents_old contents_new : Option (List ℕ)) (writes_old writes_new : Option (List WriteEnd)) → Keeps contents_old contents_new
+    → Grows writes_old writes_new (unflushed (error_kind error) ∷ []) → IsFlushed false contents_old contents_new writes_old writes_new
+unflushed_so error contents_old contents_new writes_old writes_new kept grows = (error_kind error, kept, grows)
 
 -- ---- one after another
 
-pub nothing_sent : (bytes : List ℕ) (before : Option (List ℕ)) (written : Option (List WriteEnd)) → SendsPart bytes 0 0 before before written written
-nothing_sent bytes before written = record {
+pub nothing_sent : (bytes : List ℕ) (contents : Option (List ℕ)) (writes : Option (List WriteEnd)) → SendsPart bytes 0 0 contents contents writes writes
+nothing_sent bytes contents writes = record {
   tries = [];
   on = All-nil IsWrittenOn;
   counted = refl;
   part = refl;
-  grows = grows_none written;
-  appends = appends_none before;
+  grows = grows_none writes;
+  appends = appends_none contents;
 }
 
 take_none : (n : ℕ) → take {A = ℕ} n [] ≡ []
@@ -101,7 +101,7 @@ take_and_drop (suc n) (x ∷ xs) = ap (λ (l : List ℕ). x ∷ l) (take_and_dro
 pub failed_sending : (bytes : List ℕ) (sent tried : ℕ) (a b c : Option (List ℕ)) (k l m : Option (List WriteEnd))
     → SendsPart bytes sent tried a b k l → SendsNone b c l m → IsWritten false bytes a c k m
 failed_sending bytes sent tried a b c k l m before here = record {
-  writings = before.tries ++ here.write ∷ [];
+  writes = before.tries ++ here.write ∷ [];
   taken = record {
     tries = before.tries;
     rest = drop sent bytes;
@@ -118,7 +118,7 @@ failed_sending bytes sent tried a b c k l m before here = record {
 pub stopped_sending : (bytes : List ℕ) (sent tried : ℕ) (a b : Option (List ℕ)) (k l : Option (List WriteEnd)) → tried ≡ 2 ^ 64 - 1
     → SendsPart bytes sent tried a b k l → IsWritten false bytes a b k l
 stopped_sending bytes sent tried a b k l often before = record {
-  writings = before.tries;
+  writes = before.tries;
   taken = record {
     tries = before.tries;
     rest = drop sent bytes;
@@ -143,7 +143,7 @@ pub all_sent : (bytes : List ℕ) (sent tried : ℕ) (a b c : Option (List ℕ))
 all_sent bytes sent tried a b c k l m true before same is =
     let whole : bytes_taken before.tries ≡ bytes = before.part ∙ take_all sent bytes (omega (arith, same)) in
     record {
-      writings = before.tries ++ flushed ∷ [];
+      writes = before.tries ++ flushed ∷ [];
       taken = record { tries = before.tries; on = before.on; whole = whole; all = refl };
       grows = grows_trans k l m before.tries (flushed ∷ []) before.grows is.1;
       appends = flushed_after bytes sent tried a b c k l flushed before refl is.0;
@@ -151,7 +151,7 @@ all_sent bytes sent tried a b c k l m true before same is =
 all_sent bytes sent tried a b c k l m false before same is =
     let whole : bytes_taken before.tries ≡ bytes = before.part ∙ take_all sent bytes (omega (arith, same)) in
     record {
-      writings = before.tries ++ unflushed is.0 ∷ [];
+      writes = before.tries ++ unflushed is.0 ∷ [];
       taken = record {
         tries = before.tries;
         rest = [];

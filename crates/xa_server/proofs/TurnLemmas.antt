@@ -64,27 +64,27 @@ message_sent : (whole shut last : Bool) (turn : Turn) (conn : Conn) (old new : F
     → IsTurn turn conn old new s (known f l r c w k o) (known h l r d v j p)
 message_sent false shut last turn conn old new s after moment message reply f h l r c d w v k j o p first served work lines opens ended finds tells sent asked same =
     subst (λ (t : Turn). IsTurn t conn old new s (known f l r c w k o) (known h l r d v j p)) (sym same)
-    (ends_one WriteFault conn old new s after moment message reply (true ∷ true ∷ []) sent.writings [] (known f l r c w k o) (known h l r d v j p)
-    (made_unread (true ∷ true ∷ []) sent.writings (Some moment ∷ []) [] f h l r c d w v k j o p finds sent.appends sent.grows tells (unasked reply shut o p asked))
-    first served work lines refl (All-nil IsReadOn) refl (cut_short (bytes_of reply) sent.writings sent.taken) two_found ([], reply, refl, refl))
+    (ends_one WriteFault conn old new s after moment message reply (true ∷ true ∷ []) sent.writes [] (known f l r c w k o) (known h l r d v j p)
+    (made_unread (true ∷ true ∷ []) sent.writes (Some moment ∷ []) [] f h l r c d w v k j o p finds sent.appends sent.grows tells (unasked reply shut o p asked))
+    first served work lines refl (All-nil IsReadOn) refl (cut_short (bytes_of reply) sent.writes sent.taken) two_found ([], reply, refl, refl))
 message_sent true true last turn conn old new s after moment message reply f h l r c d w v k j o p first served work lines opens ended finds tells sent asked same =
     let shut = asked_shut reply o p asked in
     subst (λ (t : Turn). IsTurn t conn old new s (known f l r c w k o) (known h l r d v j p)) (sym same)
-    (ends_one Shut conn old new s after moment message reply (true ∷ true ∷ []) sent.writings (false ∷ []) (known f l r c w k o) (known h l r d v j p)
-    (made_unread (true ∷ true ∷ []) sent.writings (Some moment ∷ []) (false ∷ []) f h l r c d w v k j o p finds sent.appends sent.grows tells shut.1)
-    first served work lines refl (All-nil IsReadOn) refl (one_sent (bytes_of reply) sent.writings sent.taken) two_found
+    (ends_one Shut conn old new s after moment message reply (true ∷ true ∷ []) sent.writes (false ∷ []) (known f l r c w k o) (known h l r d v j p)
+    (made_unread (true ∷ true ∷ []) sent.writes (Some moment ∷ []) (false ∷ []) f h l r c d w v k j o p finds sent.appends sent.grows tells shut.1)
+    first served work lines refl (All-nil IsReadOn) refl (one_sent (bytes_of reply) sent.writes sent.taken) two_found
     ([], ap (λ (q : Reply). q ∷ []) shut.0, refl))
 message_sent true false true turn conn old new s after moment message reply f h l r c d w v k j o p first served work lines opens ended finds tells sent asked same =
     subst (λ (t : Turn). IsTurn t conn old new s (known f l r c w k o) (known h l r d v j p)) (sym same)
-    (ends_one Ended conn old new s after moment message reply (true ∷ true ∷ []) sent.writings (said_open_after (reply ∷ [])) (known f l r c w k o) (known h l r d v j p)
-    (made_unread (true ∷ true ∷ []) sent.writings (Some moment ∷ []) (said_open_after (reply ∷ [])) f h l r c d w v k j o p finds sent.appends sent.grows tells
+    (ends_one Ended conn old new s after moment message reply (true ∷ true ∷ []) sent.writes (said_open_after (reply ∷ [])) (known f l r c w k o) (known h l r d v j p)
+    (made_unread (true ∷ true ∷ []) sent.writes (Some moment ∷ []) (said_open_after (reply ∷ [])) f h l r c d w v k j o p finds sent.appends sent.grows tells
     (asked_on reply o p asked))
-    first served work lines (inr (sym ended, refl)) (inl (All-nil IsReadOn, sym ended)) refl (one_sent (bytes_of reply) sent.writings sent.taken) two_found refl)
+    first served work lines (inr (sym ended, refl)) (inl (All-nil IsReadOn, sym ended)) refl (one_sent (bytes_of reply) sent.writes sent.taken) two_found refl)
 message_sent true false false turn conn old new s after moment message reply f h l r c d w v k j o p first served work lines opens ended finds tells sent asked same =
     subst (λ (t : Turn). IsTurn t conn old new s (known f l r c w k o) (known h l r d v j p)) (sym same) (
       after,
-      goes_one conn old new s after moment message reply sent.writings (known f l r c w k o) (known h l r d v j p)
-          (made_unread (true ∷ true ∷ []) sent.writings (Some moment ∷ []) (said_open_after (reply ∷ [])) f h l r c d w v k j o p finds sent.appends sent.grows tells
+      goes_one conn old new s after moment message reply sent.writes (known f l r c w k o) (known h l r d v j p)
+          (made_unread (true ∷ true ∷ []) sent.writes (Some moment ∷ []) (said_open_after (reply ∷ [])) f h l r c d w v k j o p finds sent.appends sent.grows tells
           (asked_on reply o p asked))
           first served work lines opens sent.taken,
       first_shrinks s message after first,
@@ -98,16 +98,16 @@ fault_sent : (whole : Bool) (turn : Turn) (conn : Conn) (old new : FrontState) (
     → turn ≡ turn_after whole false true → IsTurn turn conn old new s (known f l r c w k o) (known h l r d v k p)
 fault_sent false turn conn old new s after fault reply f h l r c d w v k o p is bytes server lines finds sent says same =
     subst (λ (t : Turn). IsTurn t conn old new s (known f l r c w k o) (known h l r d v k p)) (sym same)
-    (ends_idle WriteFault conn old new s after (Some fault) (true ∷ true ∷ []) sent.writings [] (known f l r c w k o) (known h l r d v k p)
-    (made_unread (true ∷ true ∷ []) sent.writings [] [] f h l r c d w v k k o p finds sent.appends sent.grows (grows_none k) says)
+    (ends_idle WriteFault conn old new s after (Some fault) (true ∷ true ∷ []) sent.writes [] (known f l r c w k o) (known h l r d v k p)
+    (made_unread (true ∷ true ∷ []) sent.writes [] [] f h l r c d w v k k o p finds sent.appends sent.grows (grows_none k) says)
     server lines is (All-nil IsReadOn) refl
-    (cut_short (error_reply (code_of_session_fault fault)) sent.writings (subst (λ (b : List ℕ). IsTaken false b sent.writings) bytes sent.taken)) two_found refl)
+    (cut_short (error_reply (code_of_session_fault fault)) sent.writes (subst (λ (b : List ℕ). IsTaken false b sent.writes) bytes sent.taken)) two_found refl)
 fault_sent true turn conn old new s after fault reply f h l r c d w v k o p is bytes server lines finds sent says same =
     subst (λ (t : Turn). IsTurn t conn old new s (known f l r c w k o) (known h l r d v k p)) (sym same)
-    (ends_idle Ended conn old new s after (Some fault) (true ∷ true ∷ []) sent.writings [] (known f l r c w k o) (known h l r d v k p)
-    (made_unread (true ∷ true ∷ []) sent.writings [] [] f h l r c d w v k k o p finds sent.appends sent.grows (grows_none k) says)
+    (ends_idle Ended conn old new s after (Some fault) (true ∷ true ∷ []) sent.writes [] (known f l r c w k o) (known h l r d v k p)
+    (made_unread (true ∷ true ∷ []) sent.writes [] [] f h l r c d w v k k o p finds sent.appends sent.grows (grows_none k) says)
     server lines is (inl (All-nil IsReadOn, ap (λ (u : Stream). u.ended) is.2)) refl
-    (one_sent (error_reply (code_of_session_fault fault)) sent.writings (subst (λ (b : List ℕ). IsTaken true b sent.writings) bytes sent.taken)) two_found refl)
+    (one_sent (error_reply (code_of_session_fault fault)) sent.writes (subst (λ (b : List ℕ). IsTaken true b sent.writes) bytes sent.taken)) two_found refl)
 
 -- ---- without an answer
 

@@ -36,26 +36,26 @@ use Rattle.xa_server.specs.Work.{IsWorkOfRun}
 -- an event was played alone; or nothing was done, for want of memory
 abbrev pub PlaysOne : {E : Type 0} → Event → FrontState → FrontState → Option (List Bool) → Option (List Bool)
     → Result Outcome E → Type 0
-PlaysOne event old new found finding (Ok outcome) =
-    DoesEvent event old outcome new × Grows found finding (outcome_found_memory outcome ∷ [])
-PlaysOne event old new found finding (Err _) = (new ≡ old) × Grows found finding (false ∷ [])
+PlaysOne event old new memory_old memory_new (Ok outcome) =
+    DoesEvent event old outcome new × Grows memory_old memory_new (outcome_found_memory outcome ∷ [])
+PlaysOne event old new memory_old memory_new (Err _) = (new ≡ old) × Grows memory_old memory_new (false ∷ [])
 
 -- the next of an open connection was answered, or there was no memory
 abbrev pub AnswersOne : Conn → ℤ → FrontState → FrontState → Option (List Bool) → Option (List Bool)
     → Result (Option Answer) FrontError → Type 0
-AnswersOne conn moment old new found finding (Ok answer) =
-    (given : Next) × IsAnswered conn moment old (Some given) (Ok answer) new × Grows found finding (true ∷ [])
-AnswersOne conn moment old new found finding (Err _) =
-    ((new ≡ old) × Grows found finding (false ∷ [])) ⊎ (line_at conn old.lines ≡ None)
+AnswersOne conn moment old new memory_old memory_new (Ok answer) =
+    (given : Next) × IsAnswered conn moment old (Some given) (Ok answer) new × Grows memory_old memory_new (true ∷ [])
+AnswersOne conn moment old new memory_old memory_new (Err _) =
+    ((new ≡ old) × Grows memory_old memory_new (false ∷ [])) ⊎ (line_at conn old.lines ≡ None)
 
 -- a piece came to an open connection, or there was no memory
 abbrev pub FeedsOne : Conn → List ℕ → FrontState → FrontState → Option (List Bool) → Option (List Bool)
     → Result (Unit {0}) FrontError → Type 0
-FeedsOne conn piece old new found finding (Ok _) =
+FeedsOne conn piece old new memory_old memory_new (Ok _) =
     (stream : Stream) × IsOpen conn old.lines stream × (new.lines ≡ with_line conn (Some (fed stream piece)) old.lines)
-    × (new.server ≡ old.server) × Grows found finding (true ∷ [])
-FeedsOne conn piece old new found finding (Err _) =
-    ((new ≡ old) × Grows found finding (false ∷ []))
+    × (new.server ≡ old.server) × Grows memory_old memory_new (true ∷ [])
+FeedsOne conn piece old new memory_old memory_new (Err _) =
+    ((new ≡ old) × Grows memory_old memory_new (false ∷ []))
     ⊎ ((line_at conn old.lines ≡ None)
     ⊎ ((stream : Stream) × IsOpen conn old.lines stream × (1_048_576 < length stream.held + length piece)))
 
@@ -72,19 +72,20 @@ turn_after true false false = Answered
 -- what the front is asked after a reply that was written whole, and says: whether its keeper is open, if the message
 -- was refused for want of storage
 abbrev pub IsAskedAfter : Bool → Reply → Bool → Option (List Bool) → Option (List Bool) → Type 0
-IsAskedAfter true (Refused Store) true said saying = Grows said saying (false ∷ [])
-IsAskedAfter true (Refused Store) false said saying = Grows said saying (true ∷ [])
-IsAskedAfter _ reply shut said saying = (shut ≡ false) × (saying ≡ said)
+IsAskedAfter true (Refused Store) true said_old said_new = Grows said_old said_new (false ∷ [])
+IsAskedAfter true (Refused Store) false said_old said_new = Grows said_old said_new (true ∷ [])
+IsAskedAfter _ reply shut said_old said_new = (shut ≡ false) × (said_new ≡ said_old)
 
 -- an answer was written, or a part of it; without one there is no turn yet
 abbrev pub IsSentAs : Turn → Option Answer → Option (List ℕ) → Option (List ℕ) → Option (List WriteEnd)
     → Option (List WriteEnd) → Option (List Bool) → Option (List Bool) → Type 0
-IsSentAs turn (Some answer) before now written writing said saying =
-    (whole : Bool) × (shut : Bool) × IsWritten whole (bytes_of answer.reply) before now written writing
-    × IsAskedAfter whole answer.reply shut said saying
+IsSentAs turn (Some answer) contents_old contents_new writes_old writes_new said_old said_new =
+    (whole : Bool) × (shut : Bool)
+    × IsWritten whole (bytes_of answer.reply) contents_old contents_new writes_old writes_new
+    × IsAskedAfter whole answer.reply shut said_old said_new
     × (turn ≡ turn_after whole shut answer.last)
-IsSentAs turn None before now written writing said saying =
-    (turn ≡ Waits) × (now ≡ before) × (writing ≡ written) × (saying ≡ said)
+IsSentAs turn None contents_old contents_new writes_old writes_new said_old said_new =
+    (turn ≡ Waits) × (contents_new ≡ contents_old) × (writes_new ≡ writes_old) × (said_new ≡ said_old)
 
 -- the next of a connection was answered at that moment, and the reply was written; or there was no memory. Of the reads
 -- and the clock it says nothing

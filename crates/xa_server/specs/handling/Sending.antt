@@ -7,48 +7,50 @@ use Rattle.xa_server.specs.Transfers.{Grows, HasFailed, IsBrokenOff, IsWrittenWh
 use Rattle.xa_server.specs.Transfers.{flushed, unflushed}
 
 -- a write after which there is another took so many bytes from the front of the bytes
-pub record SendsSome (bytes : List ℕ) (count : ℕ) (before now : Option (List ℕ))
-    (written writing : Option (List WriteEnd)) : Type 0 where
+pub record SendsSome (bytes : List ℕ) (count : ℕ) (contents_old contents_new : Option (List ℕ))
+    (writes_old writes_new : Option (List WriteEnd)) : Type 0 where
   pub write : WriteEnd
   pub on : IsWrittenOn write
   pub part : bytes_taken (write ∷ []) ≡ take count bytes
-  pub grows : Grows written writing (write ∷ [])
-  pub appends : Appends before now (take count bytes)
+  pub grows : Grows writes_old writes_new (write ∷ [])
+  pub appends : Appends contents_old contents_new (take count bytes)
 
 -- a write failed, and took nothing
-pub record SendsNone (before now : Option (List ℕ)) (written writing : Option (List WriteEnd)) : Type 0 where
+pub record SendsNone (contents_old contents_new : Option (List ℕ)) (writes_old writes_new : Option (List WriteEnd))
+    : Type 0 where
   pub write : WriteEnd
   pub failed : HasFailed write
   pub none : bytes_taken (write ∷ []) ≡ []
-  pub grows : Grows written writing (write ∷ [])
-  pub appends : Appends before now []
+  pub grows : Grows writes_old writes_new (write ∷ [])
+  pub appends : Appends contents_old contents_new []
 
 -- `tried` writes took the first `count` of the bytes
-pub record SendsPart (bytes : List ℕ) (count tried : ℕ) (before now : Option (List ℕ))
-    (written writing : Option (List WriteEnd)) : Type 0 where
+pub record SendsPart (bytes : List ℕ) (count tried : ℕ) (contents_old contents_new : Option (List ℕ))
+    (writes_old writes_new : Option (List WriteEnd)) : Type 0 where
   pub tries : List WriteEnd
   pub on : All IsWrittenOn tries
   pub counted : length tries ≡ tried
   pub part : bytes_taken tries ≡ take count bytes
-  pub grows : Grows written writing tries
-  pub appends : Appends before now (take count bytes)
+  pub grows : Grows writes_old writes_new tries
+  pub appends : Appends contents_old contents_new (take count bytes)
 
 -- the bytes were taken whole and flushed, or a part from their front was taken
 abbrev pub IsTaken : Bool → List ℕ → List WriteEnd → Type 0
-IsTaken true bytes writings = IsWrittenWhole bytes writings
-IsTaken false bytes writings = IsBrokenOff bytes writings
+IsTaken true bytes writes = IsWrittenWhole bytes writes
+IsTaken false bytes writes = IsBrokenOff bytes writes
 
 -- the bytes went to the writer as `IsTaken` says
-pub record IsWritten (whole : Bool) (bytes : List ℕ) (before now : Option (List ℕ))
-    (written writing : Option (List WriteEnd)) : Type 0 where
-  pub writings : List WriteEnd
-  pub taken : IsTaken whole bytes writings
-  pub grows : Grows written writing writings
-  pub appends : Appends before now (bytes_taken writings)
+pub record IsWritten (whole : Bool) (bytes : List ℕ) (contents_old contents_new : Option (List ℕ))
+    (writes_old writes_new : Option (List WriteEnd)) : Type 0 where
+  pub writes : List WriteEnd
+  pub taken : IsTaken whole bytes writes
+  pub grows : Grows writes_old writes_new writes
+  pub appends : Appends contents_old contents_new (bytes_taken writes)
 
 -- the writer holds none of its bytes back any more, or failed to let them go
 abbrev pub IsFlushed : Bool → Option (List ℕ) → Option (List ℕ) → Option (List WriteEnd) → Option (List WriteEnd)
     → Type 0
-IsFlushed true before now written writing = Keeps before now × Grows written writing (flushed ∷ [])
-IsFlushed false before now written writing =
-    (kind : ErrorKind) × Keeps before now × Grows written writing (unflushed kind ∷ [])
+IsFlushed true contents_old contents_new writes_old writes_new =
+    Keeps contents_old contents_new × Grows writes_old writes_new (flushed ∷ [])
+IsFlushed false contents_old contents_new writes_old writes_new =
+    (kind : ErrorKind) × Keeps contents_old contents_new × Grows writes_old writes_new (unflushed kind ∷ [])
