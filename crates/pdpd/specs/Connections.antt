@@ -15,13 +15,13 @@ use Rattle.pdpd.specs.Fault.{fault_of_end}
 use Rattle.pdpd.specs.Token.{IsOperator}
 
 -- no connection was open. One was opened, of which nothing had come; it was driven to an end after which the next is
--- served, and closed. `before` and `now` are what is known of its reader, its writer and the clock
-pub record IsConnectionServed (old new : FrontState) (before now : Known) : Type 0 where
+-- served, and closed. `known_old` and `known_new` are what is known of its reader, its writer and the clock
+pub record IsConnectionServed (old new : FrontState) (known_old known_new : Known) : Type 0 where
   pub conn : Conn
   pub end : DriveEnd
   pub left : FrontState
   pub is_driven : IsDrivenWithin 1_000_000 end conn
-      (record old { lines = with_line conn (Some empty_stream) none_open }) left empty_stream before now
+      (record old { lines = with_line conn (Some empty_stream) none_open }) left empty_stream known_old known_new
   pub goes_on : fault_of_end end ≡ None
   pub closed : new ≡ record left { lines = none_open }
 
@@ -32,7 +32,7 @@ abbrev pub AreServed : ℕ → FrontState → FrontState → List Event → List
 AreServed zero old new events replies = (new ≡ old) × (events ≡ []) × (replies ≡ [])
 AreServed (suc count) old new events replies =
     (mid : FrontState) × (earlier : List Event) × (told : List Reply) × AreServed count old mid earlier told
-    × (before : Known) × (now : Known) × (last : IsConnectionServed mid new before now)
+    × (known_old : Known) × (known_new : Known) × (last : IsConnectionServed mid new known_old known_new)
     × (events ≡ earlier ++ last.is_driven.0.events) × (replies ≡ told ++ last.is_driven.0.run)
 
 -- the headline over `count` connections: all of their events are one run of the server, and each domain's replies in

@@ -70,14 +70,14 @@ known_by had_memory said contents writes front writer left reads told =
     known (had_memory front) left reads (contents writer) (writes writer) told (said front)
 
 -- what is known has grown by the calls, and by no others
-pub record AreMade (calls : Calls) (before now : Known) : Type 0 where
-  pub memory : Grows before.memory now.memory calls.memory
-  pub left : Consumes before.left now.left (bytes_read calls.reads)
-  pub reads : Grows before.reads now.reads calls.reads
-  pub contents : Appends before.contents now.contents (bytes_taken calls.writes)
-  pub writes : Grows before.writes now.writes calls.writes
-  pub told : Grows before.told now.told calls.told
-  pub said_open : Grows before.said_open now.said_open calls.said_open
+pub record AreMade (calls : Calls) (known_old known_new : Known) : Type 0 where
+  pub memory : Grows known_old.memory known_new.memory calls.memory
+  pub left : Consumes known_old.left known_new.left (bytes_read calls.reads)
+  pub reads : Grows known_old.reads known_new.reads calls.reads
+  pub contents : Appends known_old.contents known_new.contents (bytes_taken calls.writes)
+  pub writes : Grows known_old.writes known_new.writes calls.writes
+  pub told : Grows known_old.told known_new.told calls.told
+  pub said_open : Grows known_old.said_open known_new.said_open calls.said_open
 
 -- ---- what each end of a connection says of them
 
@@ -171,15 +171,15 @@ StopsAfter _ (Some fault) reads last after = ⊥
 -- a connection was driven to its end: one run of the server answered the messages at the front of what the connection
 -- held and was read, each at its moment, and its replies were written; each domain's replies are those of its own
 -- machine, used by it alone. No other connection has changed
-pub record IsDriven (end : DriveEnd) (conn : Conn) (old new : FrontState) (stream : Stream) (before now : Known)
-    : Type 0 where
+pub record IsDriven (end : DriveEnd) (conn : Conn) (old new : FrontState) (stream : Stream)
+    (known_old known_new : Known) : Type 0 where
   pub calls : Calls
   pub events : List Event
   pub run : List Reply
   pub fault : Option SessionFault
   pub last : Stream
   pub after : Stream
-  pub made : AreMade calls before now
+  pub made : AreMade calls known_old known_new
   pub messages : Cuts (fed stream (bytes_read calls.reads)) (messages_of events) last
   pub stops : StopsAfter end fault calls.reads last after
   pub lines : new.lines ≡ with_line conn (Some after) old.lines
@@ -187,7 +187,7 @@ pub record IsDriven (end : DriveEnd) (conn : Conn) (old new : FrontState) (strea
   pub work : IsWorkOfRun old.server.world old.server.decisions events run new.server.world new.server.decisions
   pub headline : IsIsolated old.server.world new.server.world events run
   pub beside_refusals : IsIsolatedBesideRefusals old.server.world new.server.world events run
-  pub read : HaveRead end calls.reads after now.left
+  pub read : HaveRead end calls.reads after known_new.left
   pub told : HasTold end (moments_of events) calls.told
   pub written : AreWritten end (all_replies run fault) calls.writes
   pub memory : HaveMemory end calls.memory
@@ -195,14 +195,14 @@ pub record IsDriven (end : DriveEnd) (conn : Conn) (old new : FrontState) (strea
 
 -- `IsDriven`, with no more reads than `most`
 abbrev pub IsDrivenWithin : ℕ → DriveEnd → Conn → FrontState → FrontState → Stream → Known → Known → Type 0
-IsDrivenWithin most end conn old new stream before now =
-    (is : IsDriven end conn old new stream before now) × (length is.calls.reads ≤ most)
+IsDrivenWithin most end conn old new stream known_old known_new =
+    (is : IsDriven end conn old new stream known_old known_new) × (length is.calls.reads ≤ most)
 
 -- `IsDriven` with at most 1,000,000 reads, of an open connection; one that isn't open has ended, and nothing was done
 abbrev pub IsConnection : DriveEnd → Option Stream → Conn → FrontState → FrontState → Known → Known → Type 0
-IsConnection end (Some stream) conn old new before now =
-    IsDrivenWithin 1_000_000 end conn old new stream before now
-IsConnection end None conn old new before now = (end ≡ Ended) × (new ≡ old) × (now ≡ before)
+IsConnection end (Some stream) conn old new known_old known_new =
+    IsDrivenWithin 1_000_000 end conn old new stream known_old known_new
+IsConnection end None conn old new known_old known_new = (end ≡ Ended) × (new ≡ old) × (known_new ≡ known_old)
 
 -- a connection that is open stays open, and no other changes, whatever the keeper does
 unfoldable pub KeepsOpen : Conn → Lines → Lines → Type 0

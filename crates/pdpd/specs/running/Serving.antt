@@ -16,7 +16,7 @@ IsOfSettings fault =
 
 -- a connection was served, whatever is known of its reader, its writer and the clock
 unfoldable pub ServesOne : FrontState → FrontState → Type 0
-ServesOne old new = (before : Known) × (now : Known) × IsConnectionServed old new before now
+ServesOne old new = (known_old : Known) × (known_new : Known) × IsConnectionServed old new known_old known_new
 
 -- that many connections were served, as `AreIsolated` says
 unfoldable pub Serves : ℕ → FrontState → FrontState → Type 0

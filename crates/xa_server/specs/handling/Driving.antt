@@ -90,22 +90,24 @@ IsSentAs turn None contents_old contents_new writes_old writes_new said_old said
 -- the next of a connection was answered at that moment, and the reply was written; or there was no memory. Of the reads
 -- and the clock it says nothing
 abbrev pub IsAnsweredAt : Turn → Conn → ℤ → FrontState → FrontState → Known → Known → Type 0
-IsAnsweredAt turn conn moment old new before now =
+IsAnsweredAt turn conn moment old new known_old known_new =
     ((answer : Option Answer) × (given : Next) × IsAnswered conn moment old (Some given) (Ok answer) new
-    × Grows before.memory now.memory (true ∷ [])
-    × IsSentAs turn answer before.contents now.contents before.writes now.writes before.said_open now.said_open)
-    ⊎ (((turn ≡ Ends drive_end.Memory) × (new ≡ old) × Grows before.memory now.memory (false ∷ [])
-    × (now.contents ≡ before.contents) × (now.writes ≡ before.writes) × (now.said_open ≡ before.said_open))
+    × Grows known_old.memory known_new.memory (true ∷ [])
+    × IsSentAs turn answer known_old.contents known_new.contents known_old.writes known_new.writes known_old.said_open
+    known_new.said_open)
+    ⊎ (((turn ≡ Ends drive_end.Memory) × (new ≡ old) × Grows known_old.memory known_new.memory (false ∷ [])
+    × (known_new.contents ≡ known_old.contents) × (known_new.writes ≡ known_old.writes)
+    × (known_new.said_open ≡ known_old.said_open))
     ⊎ (line_at conn old.lines ≡ None))
 
 -- `IsAnsweredAt` the clock's moment, if there was one
 abbrev pub IsAnsweredNow : Turn → Conn → FrontState → FrontState → Known → Known → Type 0
-IsAnsweredNow turn conn old new before now =
-    ((moment : ℤ) × Grows before.told now.told (Some moment ∷ [])
-    × IsAnsweredAt turn conn moment old new before now)
-    ⊎ ((turn ≡ Ends drive_end.NoClock) × Grows before.told now.told (None ∷ []) × (new ≡ old)
-    × (now.memory ≡ before.memory) × (now.contents ≡ before.contents) × (now.writes ≡ before.writes)
-    × (now.said_open ≡ before.said_open))
+IsAnsweredNow turn conn old new known_old known_new =
+    ((moment : ℤ) × Grows known_old.told known_new.told (Some moment ∷ [])
+    × IsAnsweredAt turn conn moment old new known_old known_new)
+    ⊎ ((turn ≡ Ends drive_end.NoClock) × Grows known_old.told known_new.told (None ∷ []) × (new ≡ old)
+    × (known_new.memory ≡ known_old.memory) × (known_new.contents ≡ known_old.contents)
+    × (known_new.writes ≡ known_old.writes) × (known_new.said_open ≡ known_old.said_open))
 
 -- ---- messages
 
@@ -114,12 +116,12 @@ abbrev pub IsWaiting : Stream → Type 0
 IsWaiting stream = IsNext stream next.More stream
 
 -- after so many reads the messages of events were answered, each with one whole reply, and the connection stays open
-pub record StaysOpenAfter (count : ℕ) (conn : Conn) (old new : FrontState) (stream after : Stream) (before now : Known)
-    : Type 0 where
+pub record StaysOpenAfter (count : ℕ) (conn : Conn) (old new : FrontState) (stream after : Stream)
+    (known_old known_new : Known) : Type 0 where
   pub calls : Calls
   pub events : List messages.Event
   pub run : List Reply
-  pub made : AreMade calls before now
+  pub made : AreMade calls known_old known_new
   pub messages : Cuts (fed stream (bytes_read calls.reads)) (messages_of events) after
   pub lines : new.lines ≡ with_line conn (Some after) old.lines
   pub opens : IsOpen conn new.lines after
@@ -134,28 +136,30 @@ pub record StaysOpenAfter (count : ℕ) (conn : Conn) (old new : FrontState) (st
 
 -- what became of what a connection holds: a message was answered, or there is none yet, or the connection has ended
 abbrev pub IsTurn : Turn → Conn → FrontState → FrontState → Stream → Known → Known → Type 0
-IsTurn Answered conn old new stream before now =
-    (after : Stream) × StaysOpenAfter 0 conn old new stream after before now
+IsTurn Answered conn old new stream known_old known_new =
+    (after : Stream) × StaysOpenAfter 0 conn old new stream after known_old known_new
     × (length after.held + 1 < length stream.held)
-IsTurn Waits conn old new stream before now =
-    (after : Stream) × StaysOpenAfter 0 conn old new stream after before now × IsWaiting after
-IsTurn (Ends end) conn old new stream before now = IsDrivenWithin 0 end conn old new stream before now
+IsTurn Waits conn old new stream known_old known_new =
+    (after : Stream) × StaysOpenAfter 0 conn old new stream after known_old known_new × IsWaiting after
+IsTurn (Ends end) conn old new stream known_old known_new = IsDrivenWithin 0 end conn old new stream known_old known_new
 
 -- all that the connection held was answered, and more bytes are wanted; or the connection has ended
 abbrev pub IsHeldAnswered : Option DriveEnd → Option Stream → Conn → FrontState → FrontState → Known → Known → Type 0
-IsHeldAnswered None (Some stream) conn old new before now = IsTurn Waits conn old new stream before now
-IsHeldAnswered (Some end) (Some stream) conn old new before now =
-    IsDrivenWithin 0 end conn old new stream before now
-IsHeldAnswered result None conn old new before now = (result ≡ Some drive_end.Ended) × (new ≡ old) × (now ≡ before)
+IsHeldAnswered None (Some stream) conn old new known_old known_new =
+    IsTurn Waits conn old new stream known_old known_new
+IsHeldAnswered (Some end) (Some stream) conn old new known_old known_new =
+    IsDrivenWithin 0 end conn old new stream known_old known_new
+IsHeldAnswered result None conn old new known_old known_new =
+    (result ≡ Some drive_end.Ended) × (new ≡ old) × (known_new ≡ known_old)
 
 -- bytes were read once and answered, and the connection stays open or has ended
 abbrev pub IsRead : Option DriveEnd → Conn → FrontState → FrontState → Stream → Known → Known → Type 0
-IsRead None conn old new stream before now =
-    (after : Stream) × StaysOpenAfter 1 conn old new stream after before now × IsWaiting after
-IsRead (Some end) conn old new stream before now = IsDrivenWithin 1 end conn old new stream before now
+IsRead None conn old new stream known_old known_new =
+    (after : Stream) × StaysOpenAfter 1 conn old new stream after known_old known_new × IsWaiting after
+IsRead (Some end) conn old new stream known_old known_new = IsDrivenWithin 1 end conn old new stream known_old known_new
 
 -- after so many reads, and all that was held before, an open connection holds no whole message
 abbrev pub HasRead : ℕ → Conn → FrontState → FrontState → Known → Known → Type 0
-HasRead count conn old new before now =
-    (stream after : Stream) × IsOpen conn old.lines stream × StaysOpenAfter count conn old new stream after before now
-    × IsWaiting after
+HasRead count conn old new known_old known_new =
+    (stream after : Stream) × IsOpen conn old.lines stream
+    × StaysOpenAfter count conn old new stream after known_old known_new × IsWaiting after
