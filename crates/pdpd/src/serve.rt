@@ -4,7 +4,6 @@ ghost use Rattle.std.specs.Prelude.{OnOk, Err, None, Some};
 ghost use Rattle.std.specs.Net.Grammar.{IsSocketText, Parses};
 ghost use Rattle.sqlite.specs.Files.{over_files};
 ghost use Rattle.xa_server.specs.Decisions.{nothing_cached};
-ghost use Rattle.xa_server.specs.Driven.{known};
 ghost use Rattle.xa_server.specs.Front.{front_state};
 ghost use Rattle.xa_server.specs.Lines.{none_open};
 ghost use Rattle.xa_store.specs.KeeperReading.{custody_by};
@@ -63,10 +62,24 @@ fn serve_connection<R: Records, I: Reader, W: Writer, C: Clock>(
     requires { front.old.lines ≡ none_open }
     ensures served { OnOk result ((R.custody front.new.server.records).sound
         → IsConnectionServed (front_state R.custody front.old) (front_state R.custody front.new)
-        (known None (I.remaining reader.old) (I.reads reader.old) (W.contents writer.old)
-        (W.writes writer.old) (C.told clock.old) None)
-        (known None (I.remaining reader.new) (I.reads reader.new) (W.contents writer.new)
-        (W.writes writer.new) (C.told clock.new) None)) }
+        (record {
+          memory = None;
+          left = I.remaining reader.old;
+          reads = I.reads reader.old;
+          contents = W.contents writer.old;
+          writes = W.writes writer.old;
+          told = C.told clock.old;
+          said_open = None;
+        })
+        (record {
+          memory = None;
+          left = I.remaining reader.new;
+          reads = I.reads reader.new;
+          contents = W.contents writer.new;
+          writes = W.writes writer.new;
+          told = C.told clock.new;
+          said_open = None;
+        })) }
     ensures closed { front.new.lines ≡ none_open }
     ensures sound { WasSound R.custody front.old front.new }
     ensures err { IfErr result IsOfConnections }

@@ -17,7 +17,7 @@ use Rattle.xa_server.specs.declared.drive_end.DriveEnd.{DriveEnd}
 use Rattle.xa_server.specs.declared.drive_end.DriveEnd.TheVariants.{Ended, ReadFault, WriteFault, NoClock, TooManyReads, Memory}
 use Rattle.xa_server.specs.declared.front_error.FrontError.{FrontError}
 use Rattle.xa_server.specs.declared.lines.Conn.{Conn}
-use Rattle.xa_server.specs.Driven.{AreMade, AreSent, AreWritten, HadMemory, HasTold, HaveMemory, HaveRead, HaveSaid, IsConnection, IsDriven, IsDrivenWithin, Known, StopsAfter, known}
+use Rattle.xa_server.specs.Driven.{AreMade, AreSent, AreWritten, HadMemory, HasTold, HaveMemory, HaveRead, HaveSaid, IsConnection, IsDriven, IsDrivenWithin, Known, StopsAfter}
 use Rattle.xa_server.specs.handling.Driving.{FeedsOne, HasRead, IsHeldAnswered, IsRead, IsTurn, IsWaiting, StaysOpenAfter}
 use Rattle.xa_server.specs.Front.{FrontState, ServerState}
 use Rattle.xa_server.specs.Replies.{bytes_of}
@@ -27,7 +27,7 @@ use Rattle.xa_server.proofs.ConnectionLemmas.{consumes_kept}
 use Rattle.xa_server.proofs.DrivingLemmas.{ends_after, fed_nothing, goes_trans, none_gone}
 use Rattle.xa_server.proofs.IsolationLemmas.{headline, isolated}
 use Rattle.xa_server.proofs.MultiplexerLemmas.{line_kept, not_closed, same_stream, still_open}
-use Rattle.xa_server.proofs.TransferLemmas.{grows_none, made_read}
+use Rattle.xa_server.proofs.TransferLemmas.{grows_none, known, made_read}
 
 -- ---- what is held
 

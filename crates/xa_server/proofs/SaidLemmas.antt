@@ -14,11 +14,11 @@ use Rattle.xa_server.specs.declared.front_error.FrontError.{FrontError}
 use Rattle.xa_server.specs.declared.lines.Conn.{Conn}
 use Rattle.xa_server.specs.declared.replies.Reply.{Reply}
 use Rattle.xa_server.specs.declared.replies.Reply.TheVariants.{Refused, Sent}
-use Rattle.xa_server.specs.Driven.{HaveSaid, known, said_open_after}
+use Rattle.xa_server.specs.Driven.{HaveSaid, said_open_after}
 use Rattle.xa_server.specs.handling.Driving.{AnswersOne, IsAnsweredAt, IsAskedAfter, IsSentAs}
 use Rattle.xa_server.specs.Front.{FrontState, IsAnswered}
 use Rattle.xa_server.specs.Transfers.{Grows, WriteEnd}
-use Rattle.xa_server.proofs.TransferLemmas.{grows_none}
+use Rattle.xa_server.proofs.TransferLemmas.{grows_none, known}
 
 pub asked_so : (is_open shut : Bool) (said_old said_new : Option (List Bool)) → Grows said_old said_new (is_open ∷ []) → shut ≡ not is_open → IsAskedAfter true (Refused Store) shut said_old said_new
 asked_so true shut said_old said_new grows same = subst (λ (b : Bool). IsAskedAfter true (Refused Store) b said_old said_new) (sym same) grows

@@ -4,7 +4,7 @@ use Rattle.std.specs.Io.KnownBytes.{Appends, Consumes}
 use Rattle.std.specs.Prelude.{Bool, ℤ}
 use Rattle.std.proofs.lemmas.List.{append-nil, append_assoc}
 use Rattle.xa_server.proofs.ConnectionLemmas.{appends_none, appends_trans, consumes_none, consumes_trans}
-use Rattle.xa_server.specs.Driven.{AreMade, AreSent, Calls, Known, known}
+use Rattle.xa_server.specs.Driven.{AreMade, AreSent, Calls, Known}
 use Rattle.xa_server.specs.Transfers.{Grows, IsWrittenWhole, ReadEnd, WriteEnd, bytes_read, bytes_taken, flushed, gave, took, unflushed, unread, unwritten}
 
 pub grows_none : {A : Type 0} (a : Option (List A)) → Grows a a []
@@ -30,6 +30,19 @@ taken_trans (flushed ∷ ws) vs = taken_trans ws vs
 taken_trans (unflushed kind ∷ ws) vs = taken_trans ws vs
 
 -- ---- all together
+
+-- a `Known` of its parts, in this order
+abbrev pub known : Option (List Bool) → Option (List ℕ) → Option (List ReadEnd) → Option (List ℕ) → Option (List WriteEnd) → Option (List (Option ℤ)) → Option (List Bool) → Known
+known memory left reads contents writes told said_open =
+    record {
+      memory = memory;
+      left = left;
+      reads = reads;
+      contents = contents;
+      writes = writes;
+      told = told;
+      said_open = said_open;
+    }
 
 abbrev pub no_calls : Calls
 no_calls = record { memory = []; reads = []; writes = []; told = []; said_open = [] }

@@ -23,7 +23,7 @@ use Rattle.xa_server.specs.declared.front_error.FrontError.{FrontError}
 use Rattle.xa_server.specs.declared.front_error.FrontError.TheVariants as error
 use Rattle.xa_server.specs.declared.lines.Conn.{Conn}
 use Rattle.xa_server.specs.declared.replies.Reply.{Reply}
-use Rattle.xa_server.specs.Driven.{AreWritten, HadMemory, HasTold, known, said_open_after}
+use Rattle.xa_server.specs.Driven.{AreWritten, HadMemory, HasTold, said_open_after}
 use Rattle.xa_server.specs.handling.Driving.{IsAnsweredAt, IsAnsweredNow, IsAskedAfter, IsSentAs, IsTurn, turn_after}
 use Rattle.xa_server.specs.ErrorCode.{code_of_session_fault, error_reply}
 use Rattle.xa_server.specs.Front.{FrontState, IsGiven}
@@ -37,7 +37,7 @@ use Rattle.xa_server.specs.Work.{IsWork}
 use Rattle.xa_server.proofs.SaidLemmas.{asked_none, asked_on, asked_shut, unasked}
 use Rattle.xa_server.proofs.MultiplexerLemmas.{line_kept, looked, not_closed, same_stream}
 use Rattle.xa_server.proofs.ConnectionLemmas.{appends_none}
-use Rattle.xa_server.proofs.TransferLemmas.{grows_none, grows_trans, made_unread, one_sent}
+use Rattle.xa_server.proofs.TransferLemmas.{grows_none, grows_trans, known, made_unread, one_sent}
 use Rattle.xa_server.proofs.EndLemmas.{ends_idle, ends_one, goes_idle, goes_one, one_found, two_found}
 
 -- ---- one reply

@@ -49,25 +49,19 @@ pub record Known : Type 0 where
   pub told : Option (List (Option ℤ))
   pub said_open : Option (List Bool)
 
--- a `Known` of its parts, in this order
-abbrev pub known : Option (List Bool) → Option (List ℕ) → Option (List ReadEnd) → Option (List ℕ)
-    → Option (List WriteEnd) → Option (List (Option ℤ)) → Option (List Bool) → Known
-known found left reads contents writes told said =
-    record {
-      memory = found;
-      left = left;
-      reads = reads;
-      contents = contents;
-      writes = writes;
-      told = told;
-      said_open = said;
-    }
-
 -- a `Known` by what a front and a writer say of their calls and bytes, and with what is known of a reader and a clock
 abbrev pub known_by : {F W : Type 0} → (F → Option (List Bool)) → (F → Option (List Bool)) → (W → Option (List ℕ))
     → (W → Option (List WriteEnd)) → F → W → Option (List ℕ) → Option (List ReadEnd) → Option (List (Option ℤ)) → Known
-known_by had_memory said contents writes front writer left reads told =
-    known (had_memory front) left reads (contents writer) (writes writer) told (said front)
+known_by had_memory said_open contents writes front writer left reads told =
+    record {
+      memory = had_memory front;
+      left = left;
+      reads = reads;
+      contents = contents writer;
+      writes = writes writer;
+      told = told;
+      said_open = said_open front;
+    }
 
 -- what is known has grown by the calls, and by no others
 pub record AreMade (calls : Calls) (known_old known_new : Known) : Type 0 where

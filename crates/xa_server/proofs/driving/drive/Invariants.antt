@@ -1,5 +1,6 @@
-use Rattle.xa_server.specs.Driven.{KeepsOpen, known}
+use Rattle.xa_server.specs.Driven.{KeepsOpen}
 use Rattle.xa_server.specs.handling.Driving.{HasRead}
+use Rattle.xa_server.proofs.TransferLemmas.{known}
 use Rattle.xa_server.proofs.driving.drive.Given as goal
 
 -- all that was held and read so far was answered, and more bytes are wanted

@@ -1,7 +1,8 @@
 use Rattle.std.proofs.Common.{ℕ, List, Option}
-use Rattle.xa_server.specs.Driven.{KeepsOpen, known}
+use Rattle.xa_server.specs.Driven.{KeepsOpen}
 use Rattle.xa_server.specs.Transfers.{ReadEnd}
 use Rattle.xa_server.proofs.CourseLemmas.{Shrinks}
+use Rattle.xa_server.proofs.TransferLemmas.{known}
 use Rattle.xa_server.proofs.turns.answer_held.Given as goal
 
 -- each turn has answered a message, and the connection holds less
