@@ -15,6 +15,8 @@ use Rattle.xa_server.specs.declared.drive_end.DriveEnd.{DriveEnd}
 use Rattle.xa_server.specs.declared.drive_end.DriveEnd.TheVariants.{Ended, ReadFault, WriteFault, NoClock, TooManyReads}
 use Rattle.xa_server.specs.declared.drive_end.DriveEnd.TheVariants.{Memory, Shut}
 use Rattle.xa_server.specs.declared.lines.Conn.{Conn}
+use Rattle.xa_server.specs.declared.multiplexer.Multiplexer.{Ghosts as MultiplexerGhosts}
+use Rattle.xa_server.specs.declared.writer.Writer.{Ghosts as WriterGhosts}
 use Rattle.xa_records.specs.declared.refusal.Failure.TheVariants.{Store}
 use Rattle.xa_server.specs.declared.replies.Reply.{Reply}
 use Rattle.xa_server.specs.declared.replies.Reply.TheVariants.{Refused}
@@ -50,17 +52,17 @@ pub record Known : Type 0 where
   pub said_open : Option (List Bool)
 
 -- a `Known` by what a front and a writer say of their calls and bytes, and with what is known of a reader and a clock
-abbrev pub known_by : {F W : Type 0} → (F → Option (List Bool)) → (F → Option (List Bool)) → (W → Option (List ℕ))
-    → (W → Option (List WriteEnd)) → F → W → Option (List ℕ) → Option (List ReadEnd) → Option (List (Option ℤ)) → Known
-known_by had_memory said_open contents writes front writer left reads told =
+abbrev pub known_by : {F W : Type 0} → MultiplexerGhosts F → WriterGhosts W → F → W
+    → Option (List ℕ) → Option (List ReadEnd) → Option (List (Option ℤ)) → Known
+known_by front_says writer_says front writer left reads told =
     record {
-      memory = had_memory front;
+      memory = front_says.had_memory front;
       left = left;
       reads = reads;
-      contents = contents writer;
-      writes = writes writer;
+      contents = writer_says.contents writer;
+      writes = writer_says.writes writer;
       told = told;
-      said_open = said_open front;
+      said_open = front_says.said_open front;
     }
 
 -- what is known has grown by the calls, and by no others

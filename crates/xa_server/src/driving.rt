@@ -54,7 +54,7 @@ fn read_on<F: Multiplexer, I: Reader, W: Writer, C: Clock>(
     clock: &mut C,
     piece: &mut [u8; PIECE_BYTES],
 ) -> Option<DriveEnd>
-    ensures read { let seen = known_by F.had_memory F.said_open W.contents W.writes in
+    ensures read { let seen = known_by F.Multiplexer W.Writer in
         F.is_sound front.new → (stream : Stream) → IsOpen conn (F.state front.old).lines stream
         → IsWaiting stream
         → IsRead result conn (F.state front.old) (F.state front.new) stream
@@ -90,7 +90,7 @@ pub fn drive<F: Multiplexer, I: Reader, W: Writer, C: Clock>(
     writer: &mut W,
     clock: &mut C,
 ) -> DriveEnd
-    ensures connection { let seen = known_by F.had_memory F.said_open W.contents W.writes in
+    ensures connection { let seen = known_by F.Multiplexer W.Writer in
         F.is_sound front.new
         → IsConnection result (line_at conn (F.state front.old).lines) conn
         (F.state front.old) (F.state front.new)

@@ -122,7 +122,7 @@ fn turn_at<F: Multiplexer, W: Writer>(
     moment: Moment,
     writer: &mut W,
 ) -> Turn
-    ensures answered { let seen = known_by F.had_memory F.said_open W.contents W.writes in
+    ensures answered { let seen = known_by F.Multiplexer W.Writer in
         F.is_sound front.new
         → IsAnsweredAt result conn moment (F.state front.old) (F.state front.new)
         (seen front.old writer.old None None None) (seen front.new writer.new None None None) }
@@ -145,7 +145,7 @@ fn message_turn<F: Multiplexer, W: Writer, C: Clock>(
     writer: &mut W,
     clock: &mut C,
 ) -> Turn
-    ensures answered { let seen = known_by F.had_memory F.said_open W.contents W.writes in
+    ensures answered { let seen = known_by F.Multiplexer W.Writer in
         F.is_sound front.new
         → IsAnsweredNow result conn (F.state front.old) (F.state front.new)
         (seen front.old writer.old None None (C.told clock.old))
@@ -162,7 +162,7 @@ fn message_turn<F: Multiplexer, W: Writer, C: Clock>(
 
 /// Answers the fault by which the stream of a connection ends, and sends the reply. No moment is in it.
 fn fault_turn<F: Multiplexer, W: Writer>(front: &mut F, conn: Conn, writer: &mut W) -> Turn
-    ensures answered { let seen = known_by F.had_memory F.said_open W.contents W.writes in
+    ensures answered { let seen = known_by F.Multiplexer W.Writer in
         F.is_sound front.new
         → IsAnsweredAt result conn (pos 0) (F.state front.old) (F.state front.new)
         (seen front.old writer.old None None None) (seen front.new writer.new None None None) }
@@ -185,7 +185,7 @@ fn next_turn<F: Multiplexer, W: Writer, C: Clock>(
     writer: &mut W,
     clock: &mut C,
 ) -> Turn
-    ensures turn { let seen = known_by F.had_memory F.said_open W.contents W.writes in
+    ensures turn { let seen = known_by F.Multiplexer W.Writer in
         F.is_sound front.new
         → (stream : Stream) (left : Option (List ℕ)) (reads : Option (List ReadEnd))
         → IsOpen conn (F.state front.old).lines stream
@@ -216,7 +216,7 @@ pub(crate) fn answer_held<F: Multiplexer, W: Writer, C: Clock>(
     writer: &mut W,
     clock: &mut C,
 ) -> Option<DriveEnd>
-    ensures held { let seen = known_by F.had_memory F.said_open W.contents W.writes in
+    ensures held { let seen = known_by F.Multiplexer W.Writer in
         F.is_sound front.new → (left : Option (List ℕ)) (reads : Option (List ReadEnd))
         → IsHeldAnswered result (line_at conn (F.state front.old).lines) conn
         (F.state front.old) (F.state front.new)
