@@ -11,11 +11,13 @@ use Rattle.xa_http.specs.declared.message.Message.{Message}
 use Rattle.xa_http.specs.declared.session.Next.TheVariants as next
 use Rattle.xa_http.specs.Messages.{Cuts, IsFirst, IsNext}
 use Rattle.xa_http.specs.Stream.{Stream, fed}
+use Rattle.xa_server.specs.declared.clock.Clock.{Ghosts as ClockGhosts}
 use Rattle.xa_server.specs.declared.drive_end.DriveEnd.{DriveEnd}
 use Rattle.xa_server.specs.declared.drive_end.DriveEnd.TheVariants.{Ended, ReadFault, WriteFault, NoClock, TooManyReads}
 use Rattle.xa_server.specs.declared.drive_end.DriveEnd.TheVariants.{Memory, Shut}
 use Rattle.xa_server.specs.declared.lines.Conn.{Conn}
 use Rattle.xa_server.specs.declared.multiplexer.Multiplexer.{Ghosts as MultiplexerGhosts}
+use Rattle.xa_server.specs.declared.reader.Reader.{Ghosts as ReaderGhosts}
 use Rattle.xa_server.specs.declared.writer.Writer.{Ghosts as WriterGhosts}
 use Rattle.xa_records.specs.declared.refusal.Failure.TheVariants.{Store}
 use Rattle.xa_server.specs.declared.replies.Reply.{Reply}
@@ -64,6 +66,13 @@ known_by front_says writer_says front writer left reads told =
       told = told;
       said_open = front_says.said_open front;
     }
+
+-- a `Known` by what a front, a reader, a writer and a clock say
+abbrev pub seen_by : {F I W C : Type 0} → MultiplexerGhosts F → ReaderGhosts I → WriterGhosts W → ClockGhosts C
+    → F → I → W → C → Known
+seen_by front_says reader_says writer_says clock_says front reader writer clock =
+    known_by front_says writer_says front writer (reader_says.remaining reader) (reader_says.reads reader)
+    (clock_says.told clock)
 
 -- what is known has grown by the calls, and by no others
 pub record AreMade (calls : Calls) (known_old known_new : Known) : Type 0 where

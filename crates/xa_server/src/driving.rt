@@ -1,7 +1,7 @@
 //! A connection, from its first byte to its end.
 ghost use Rattle.std.specs.Prelude.{◌≡◌, ◌≤◌, false, List, Option, Some};
 ghost use Rattle.xa_http.specs.Stream.{Stream};
-ghost use Rattle.xa_server.specs.Driven.{IsConnection, KeepsOpen, known_by};
+ghost use Rattle.xa_server.specs.Driven.{IsConnection, KeepsOpen, seen_by};
 ghost use Rattle.xa_server.specs.declared.drive_end.DriveEnd.TheVariants as drive_end;
 ghost use Rattle.xa_server.specs.handling.Driving.{FeedsOne, IsRead, IsWaiting};
 ghost use Rattle.xa_server.specs.Lines.{IsOpen, line_at};
@@ -54,12 +54,11 @@ fn read_on<F: Multiplexer, I: Reader, W: Writer, C: Clock>(
     clock: &mut C,
     piece: &mut [u8; PIECE_BYTES],
 ) -> Option<DriveEnd>
-    ensures read { let seen = known_by F.Multiplexer W.Writer in
+    ensures read { let seen = seen_by F.Multiplexer I.Reader W.Writer C.Clock in
         F.is_sound front.new → (stream : Stream) → IsOpen conn (F.state front.old).lines stream
         → IsWaiting stream
         → IsRead result conn (F.state front.old) (F.state front.new) stream
-        (seen front.old writer.old (I.remaining reader.old) (I.reads reader.old) (C.told clock.old))
-        (seen front.new writer.new (I.remaining reader.new) (I.reads reader.new) (C.told clock.new)) }
+        (seen front.old reader.old writer.old clock.old) (seen front.new reader.new writer.new clock.new) }
     ensures stays_open { KeepsOpen conn (F.state front.old).lines (F.state front.new).lines }
     ensures shut { result ≡ Some drive_end.Shut → F.keeper_is_open front.new ≡ false }
     ensures sound { F.is_sound front.new → F.is_sound front.old }
@@ -90,12 +89,11 @@ pub fn drive<F: Multiplexer, I: Reader, W: Writer, C: Clock>(
     writer: &mut W,
     clock: &mut C,
 ) -> DriveEnd
-    ensures connection { let seen = known_by F.Multiplexer W.Writer in
+    ensures connection { let seen = seen_by F.Multiplexer I.Reader W.Writer C.Clock in
         F.is_sound front.new
         → IsConnection result (line_at conn (F.state front.old).lines) conn
         (F.state front.old) (F.state front.new)
-        (seen front.old writer.old (I.remaining reader.old) (I.reads reader.old) (C.told clock.old))
-        (seen front.new writer.new (I.remaining reader.new) (I.reads reader.new) (C.told clock.new)) }
+        (seen front.old reader.old writer.old clock.old) (seen front.new reader.new writer.new clock.new) }
     ensures stays_open { KeepsOpen conn (F.state front.old).lines (F.state front.new).lines }
     ensures shut { result ≡ drive_end.Shut → F.keeper_is_open front.new ≡ false }
     ensures sound { F.is_sound front.new → F.is_sound front.old }
