@@ -12,7 +12,7 @@ ghost use Rattle.pdpd.specs.declared.fault.Fault.TheVariants.{Address};
 ghost use Rattle.pdpd.specs.declared.fault.StoreFault.TheVariants.{Unclosed};
 ghost use Rattle.pdpd.specs.Connections.{HasServed, IsConnectionServed};
 ghost use Rattle.pdpd.specs.Fault.{IsNoAddress, IsOfConnections, IsOfFiles, IsOfServing, fault_of_end};
-ghost use Rattle.pdpd.specs.running.Serving.{Serves, ServesOne, WasSound};
+ghost use Rattle.pdpd.specs.running.Serving.{Serves, ServesOne, WasSound, seen_beside_front};
 ghost use Rattle.pdpd.specs.Token.{IsOperator};
 
 mod listening;
@@ -60,26 +60,10 @@ fn serve_connection<R: Records, I: Reader, W: Writer, C: Clock>(
     clock: &mut C,
 ) -> Result<(), Fault>
     requires { front.old.lines ≡ none_open }
-    ensures served { OnOk result ((R.custody front.new.server.records).sound
+    ensures served { let seen = seen_beside_front I.Reader W.Writer C.Clock in
+        OnOk result ((R.custody front.new.server.records).sound
         → IsConnectionServed (front_state R.custody front.old) (front_state R.custody front.new)
-        (record {
-          memory = None;
-          left = I.remaining reader.old;
-          reads = I.reads reader.old;
-          contents = W.contents writer.old;
-          writes = W.writes writer.old;
-          told = C.told clock.old;
-          said_open = None;
-        })
-        (record {
-          memory = None;
-          left = I.remaining reader.new;
-          reads = I.reads reader.new;
-          contents = W.contents writer.new;
-          writes = W.writes writer.new;
-          told = C.told clock.new;
-          said_open = None;
-        })) }
+        (seen reader.old writer.old clock.old) (seen reader.new writer.new clock.new)) }
     ensures closed { front.new.lines ≡ none_open }
     ensures sound { WasSound R.custody front.old front.new }
     ensures err { IfErr result IsOfConnections }

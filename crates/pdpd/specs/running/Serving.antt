@@ -1,6 +1,9 @@
 -- What is served.
-use Rattle.std.specs.Prelude.{ℕ, ◌⊎◌}
+use Rattle.std.specs.Prelude.{◌⊎◌, ℕ, None}
 use Rattle.xa_records.specs.Keeper.{Custody}
+use Rattle.xa_server.specs.declared.clock.Clock.{Ghosts as ClockGhosts}
+use Rattle.xa_server.specs.declared.reader.Reader.{Ghosts as ReaderGhosts}
+use Rattle.xa_server.specs.declared.writer.Writer.{Ghosts as WriterGhosts}
 use Rattle.xa_server.specs.Driven.{Known}
 use Rattle.xa_server.specs.Front.{FrontModel, FrontState}
 use Rattle.pdpd.specs.declared.fault.Fault.{Fault}
@@ -13,6 +16,19 @@ abbrev pub IsOfSettings : Fault → Type 0
 IsOfSettings fault =
     IsOfSetting Work fault
     ⊎ (IsOfSetting Reply fault ⊎ (IsOfSetting Reading fault ⊎ (IsOfSetting Views fault ⊎ IsOfSetting Idle fault)))
+
+-- what is known of a connection by what its reader, its writer and the clock say; a `Front` says nothing of its calls
+abbrev pub seen_beside_front : {I W C : Type 0} → ReaderGhosts I → WriterGhosts W → ClockGhosts C → I → W → C → Known
+seen_beside_front reader_says writer_says clock_says reader writer clock =
+    record {
+      memory = None;
+      left = reader_says.remaining reader;
+      reads = reader_says.reads reader;
+      contents = writer_says.contents writer;
+      writes = writer_says.writes writer;
+      told = clock_says.told clock;
+      said_open = None;
+    }
 
 -- a connection was served, whatever is known of its reader, its writer and the clock
 unfoldable pub ServesOne : FrontState → FrontState → Type 0
