@@ -53,26 +53,19 @@ pub record Known : Type 0 where
   pub told : Option (List (Option ℤ))
   pub said_open : Option (List Bool)
 
--- a `Known` by what a front and a writer say of their calls and bytes, and with what is known of a reader and a clock
-abbrev pub known_by : {F W : Type 0} → MultiplexerGhosts F → WriterGhosts W → F → W
-    → Option (List ℕ) → Option (List ReadEnd) → Option (List (Option ℤ)) → Known
-known_by front_says writer_says front writer left reads told =
-    record {
-      memory = front_says.had_memory front;
-      left = left;
-      reads = reads;
-      contents = writer_says.contents writer;
-      writes = writer_says.writes writer;
-      told = told;
-      said_open = front_says.said_open front;
-    }
-
 -- a `Known` by what a front, a reader, a writer and a clock say
 abbrev pub seen_by : {F I W C : Type 0} → MultiplexerGhosts F → ReaderGhosts I → WriterGhosts W → ClockGhosts C
     → F → I → W → C → Known
 seen_by front_says reader_says writer_says clock_says front reader writer clock =
-    known_by front_says writer_says front writer (reader_says.remaining reader) (reader_says.reads reader)
-    (clock_says.told clock)
+    record {
+      memory = front_says.had_memory front;
+      left = reader_says.remaining reader;
+      reads = reader_says.reads reader;
+      contents = writer_says.contents writer;
+      writes = writer_says.writes writer;
+      told = clock_says.told clock;
+      said_open = front_says.said_open front;
+    }
 
 -- what is known has grown by the calls, and by no others
 pub record AreMade (calls : Calls) (known_old known_new : Known) : Type 0 where

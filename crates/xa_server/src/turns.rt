@@ -1,11 +1,12 @@
 //! The turns of a connection: in each the next message that it holds is answered, and the reply is sent.
-ghost use Rattle.std.specs.Prelude.{◌≡◌, ℕ, false, true, IsTrue, List, MatchResult, None, Option, Some, pos};
+ghost use Rattle.std.specs.Prelude.{◌≡◌, ℕ, false, true, IsTrue, List, MatchResult, Option, Some, pos};
 ghost use Rattle.xa_http.specs.Stream.{Stream};
-ghost use Rattle.xa_server.specs.Driven.{KeepsOpen, known_by};
+ghost use Rattle.xa_server.specs.Driven.{KeepsOpen};
 ghost use Rattle.xa_server.specs.declared.turns.Turn.TheVariants as turn;
 ghost use Rattle.xa_server.specs.declared.drive_end.DriveEnd.TheVariants as drive_end;
 ghost use Rattle.xa_server.specs.handling.Driving.{AnswersOne, IsAnsweredAt, IsAnsweredNow, IsAskedAfter};
 ghost use Rattle.xa_server.specs.handling.Driving.{IsHeldAnswered, IsSentAs, IsTurn, PlaysOne};
+ghost use Rattle.xa_server.specs.handling.Driving.{seen_by_front_and_writer, seen_without_reader};
 ghost use Rattle.xa_server.specs.Fronting.{DoesLines};
 ghost use Rattle.xa_server.specs.Lines.{IsOpen, line_at};
 ghost use Rattle.xa_server.specs.Transfers.{ReadEnd};
@@ -122,10 +123,10 @@ fn turn_at<F: Multiplexer, W: Writer>(
     moment: Moment,
     writer: &mut W,
 ) -> Turn
-    ensures answered { let seen = known_by F.Multiplexer W.Writer in
+    ensures answered { let seen = seen_by_front_and_writer F.Multiplexer W.Writer in
         F.is_sound front.new
         → IsAnsweredAt result conn moment (F.state front.old) (F.state front.new)
-        (seen front.old writer.old None None None) (seen front.new writer.new None None None) }
+        (seen front.old writer.old) (seen front.new writer.new) }
     ensures stays_open { KeepsOpen conn (F.state front.old).lines (F.state front.new).lines }
     ensures shut { result ≡ turn.Ends drive_end.Shut → F.keeper_is_open front.new ≡ false }
     ensures sound { F.is_sound front.new → F.is_sound front.old }
@@ -145,11 +146,10 @@ fn message_turn<F: Multiplexer, W: Writer, C: Clock>(
     writer: &mut W,
     clock: &mut C,
 ) -> Turn
-    ensures answered { let seen = known_by F.Multiplexer W.Writer in
+    ensures answered { let seen = seen_without_reader F.Multiplexer W.Writer C.Clock in
         F.is_sound front.new
         → IsAnsweredNow result conn (F.state front.old) (F.state front.new)
-        (seen front.old writer.old None None (C.told clock.old))
-        (seen front.new writer.new None None (C.told clock.new)) }
+        (seen front.old writer.old clock.old) (seen front.new writer.new clock.new) }
     ensures stays_open { KeepsOpen conn (F.state front.old).lines (F.state front.new).lines }
     ensures shut { result ≡ turn.Ends drive_end.Shut → F.keeper_is_open front.new ≡ false }
     ensures sound { F.is_sound front.new → F.is_sound front.old }
@@ -162,10 +162,10 @@ fn message_turn<F: Multiplexer, W: Writer, C: Clock>(
 
 /// Answers the fault by which the stream of a connection ends, and sends the reply. No moment is in it.
 fn fault_turn<F: Multiplexer, W: Writer>(front: &mut F, conn: Conn, writer: &mut W) -> Turn
-    ensures answered { let seen = known_by F.Multiplexer W.Writer in
+    ensures answered { let seen = seen_by_front_and_writer F.Multiplexer W.Writer in
         F.is_sound front.new
         → IsAnsweredAt result conn (pos 0) (F.state front.old) (F.state front.new)
-        (seen front.old writer.old None None None) (seen front.new writer.new None None None) }
+        (seen front.old writer.old) (seen front.new writer.new) }
     ensures stays_open { KeepsOpen conn (F.state front.old).lines (F.state front.new).lines }
     ensures shut { result ≡ turn.Ends drive_end.Shut → F.keeper_is_open front.new ≡ false }
     ensures sound { F.is_sound front.new → F.is_sound front.old }
@@ -185,13 +185,13 @@ fn next_turn<F: Multiplexer, W: Writer, C: Clock>(
     writer: &mut W,
     clock: &mut C,
 ) -> Turn
-    ensures turn { let seen = known_by F.Multiplexer W.Writer in
+    ensures turn { let seen = seen_without_reader F.Multiplexer W.Writer C.Clock in
         F.is_sound front.new
         → (stream : Stream) (left : Option (List ℕ)) (reads : Option (List ReadEnd))
         → IsOpen conn (F.state front.old).lines stream
         → IsTurn result conn (F.state front.old) (F.state front.new) stream
-        (seen front.old writer.old left reads (C.told clock.old))
-        (seen front.new writer.new left reads (C.told clock.new)) }
+        (record (seen front.old writer.old clock.old) { left = left; reads = reads })
+        (record (seen front.new writer.new clock.new) { left = left; reads = reads }) }
     ensures stays_open { KeepsOpen conn (F.state front.old).lines (F.state front.new).lines }
     ensures shut { result ≡ turn.Ends drive_end.Shut → F.keeper_is_open front.new ≡ false }
     ensures sound { F.is_sound front.new → F.is_sound front.old }
@@ -216,12 +216,12 @@ pub(crate) fn answer_held<F: Multiplexer, W: Writer, C: Clock>(
     writer: &mut W,
     clock: &mut C,
 ) -> Option<DriveEnd>
-    ensures held { let seen = known_by F.Multiplexer W.Writer in
+    ensures held { let seen = seen_without_reader F.Multiplexer W.Writer C.Clock in
         F.is_sound front.new → (left : Option (List ℕ)) (reads : Option (List ReadEnd))
         → IsHeldAnswered result (line_at conn (F.state front.old).lines) conn
         (F.state front.old) (F.state front.new)
-        (seen front.old writer.old left reads (C.told clock.old))
-        (seen front.new writer.new left reads (C.told clock.new)) }
+        (record (seen front.old writer.old clock.old) { left = left; reads = reads })
+        (record (seen front.new writer.new clock.new) { left = left; reads = reads }) }
     ensures stays_open { KeepsOpen conn (F.state front.old).lines (F.state front.new).lines }
     ensures shut { result ≡ Some drive_end.Shut → F.keeper_is_open front.new ≡ false }
     ensures sound { F.is_sound front.new → F.is_sound front.old }

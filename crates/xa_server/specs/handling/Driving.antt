@@ -6,6 +6,9 @@ use Rattle.xa_http.specs.declared.session.Next.{Next}
 use Rattle.xa_http.specs.declared.session.Next.TheVariants as next
 use Rattle.xa_http.specs.Messages.{Cuts, IsNext}
 use Rattle.xa_http.specs.Stream.{Stream, fed}
+use Rattle.xa_server.specs.declared.clock.Clock.{Ghosts as ClockGhosts}
+use Rattle.xa_server.specs.declared.multiplexer.Multiplexer.{Ghosts as MultiplexerGhosts}
+use Rattle.xa_server.specs.declared.writer.Writer.{Ghosts as WriterGhosts}
 use Rattle.xa_server.specs.declared.turns.Turn.{Turn}
 use Rattle.xa_server.specs.declared.turns.Turn.TheVariants.{Answered, Waits, Ends}
 use Rattle.xa_server.specs.declared.drive_end.DriveEnd.{DriveEnd}
@@ -30,6 +33,27 @@ use Rattle.xa_server.specs.handling.Sending.{IsWritten}
 use Rattle.xa_server.specs.Served.{IsRun}
 use Rattle.xa_server.specs.Transfers.{Grows, IsReadOn, WriteEnd, bytes_read}
 use Rattle.xa_server.specs.Work.{IsWorkOfRun}
+
+-- ---- what is known while nothing is read
+
+-- `seen_by`, of a front and a writer alone: of a reader and a clock nothing is known
+abbrev pub seen_by_front_and_writer : {F W : Type 0} → MultiplexerGhosts F → WriterGhosts W → F → W → Known
+seen_by_front_and_writer front_says writer_says front writer =
+    record {
+      memory = front_says.had_memory front;
+      left = None;
+      reads = None;
+      contents = writer_says.contents writer;
+      writes = writer_says.writes writer;
+      told = None;
+      said_open = front_says.said_open front;
+    }
+
+-- `seen_by`, of a front, a writer and a clock: of a reader nothing is known
+abbrev pub seen_without_reader : {F W C : Type 0} → MultiplexerGhosts F → WriterGhosts W → ClockGhosts C
+    → F → W → C → Known
+seen_without_reader front_says writer_says clock_says front writer clock =
+    record (seen_by_front_and_writer front_says writer_says front writer) { told = clock_says.told clock }
 
 -- ---- one call of the front
 

@@ -1,8 +1,8 @@
 use Rattle.std.proofs.Common.{ℕ, List, Option}
 use Rattle.xa_server.specs.Driven.{KeepsOpen}
+use Rattle.xa_server.specs.handling.Driving.{seen_without_reader}
 use Rattle.xa_server.specs.Transfers.{ReadEnd}
 use Rattle.xa_server.proofs.CourseLemmas.{Shrinks}
-use Rattle.xa_server.proofs.TransferLemmas.{known}
 use Rattle.xa_server.proofs.turns.answer_held.Given as goal
 
 -- each turn has answered a message, and the connection holds less
@@ -12,6 +12,6 @@ invariant-loop-turn g l = record {
   sound : g.F.Multiplexer.is_sound l.front → g.F.Multiplexer.is_sound l.fn.front;
   shrinks : g.F.Multiplexer.is_sound l.front → (left : Option (List ℕ)) (reads : Option (List ReadEnd)) →
       Shrinks l._turn l.conn (g.F.Multiplexer.state l.fn.front) (g.F.Multiplexer.state l.front)
-      (known (g.F.Multiplexer.had_memory l.fn.front) left reads (g.W.Writer.contents l.fn.writer) (g.W.Writer.writes l.fn.writer) (g.C.Clock.told l.fn.clock) (g.F.Multiplexer.said_open l.fn.front))
-      (known (g.F.Multiplexer.had_memory l.front) left reads (g.W.Writer.contents l.writer) (g.W.Writer.writes l.writer) (g.C.Clock.told l.clock) (g.F.Multiplexer.said_open l.front));
+      (record (seen_without_reader g.F.Multiplexer g.W.Writer g.C.Clock l.fn.front l.fn.writer l.fn.clock) { left = left; reads = reads })
+      (record (seen_without_reader g.F.Multiplexer g.W.Writer g.C.Clock l.front l.writer l.clock) { left = left; reads = reads });
 }
