@@ -7,43 +7,39 @@ pub(crate) mod lines;
 
 use crate::answer::Answer;
 use crate::clock::moment_of;
-use crate::connections::lines::{Line, Output, add_lines, answer_all, push_all, take_turn};
-use crate::field::{bytes_of, number_of, word_and_text};
-use crate::front_calls::{answer_next, close, feed, open};
+use crate::connections::lines::{Line, Output, add_lines, feed_and_answer, push_all, take_turn};
+use crate::field::{bytes_of, first_and_last, number_of, word_and_text};
+use crate::front_calls::FrontCalls;
 use crate::no_answer::NoAnswer;
 use crate::runs::{Runs, push_answer, push_last};
-use crate::setup::{Setup, server_made};
 use std::alloc::Global;
-use xa_records::Records;
-use xa_server::{Conn, Front};
+use xa_server::Conn;
 use xa_value::Moment;
 
 /// A front at a moment, with all its connections.
 #[derive(Drop)]
-pub struct FrontTrial<R: Records + Drop> {
+pub struct FrontTrial<F: FrontCalls + Drop> {
     /// Where memory comes from.
     pub alloc: Global,
     /// The front.
-    pub front: Front<R>,
+    pub front: F,
     /// Its connections, by their numbers.
     pub lines: Vec<Line>,
     /// The moment.
     pub moment: Moment,
 }
 
-impl<R: Records + Drop> FrontTrial<R> {
-    /// A front of a server over the keeper, which is set up so.
-    pub fn new(answer: &mut Answer, records: R, setup: &Setup) -> Result<FrontTrial<R>, NoAnswer> {
-        let alloc = answer.alloc();
-        let mut front = Front::new(alloc, server_made(answer, records, setup)?)?;
-        let mut lines = Vec::new(alloc);
-        add_lines(alloc, &mut front, &mut lines)?;
-        Ok(FrontTrial {
+impl<F: FrontCalls + Drop> FrontTrial<F> {
+    /// The front at that moment. None of its connections is open.
+    pub fn new(alloc: Global, front: F, moment: Moment) -> Result<FrontTrial<F>, NoAnswer> {
+        let mut trial = FrontTrial {
             alloc,
             front,
-            lines,
-            moment: setup.moment,
-        })
+            lines: Vec::new(alloc),
+            moment,
+        };
+        add_lines(alloc, &mut trial.front, &mut trial.lines)?;
+        Ok(trial)
     }
 
     /// The connection of that number.
@@ -53,26 +49,33 @@ impl<R: Records + Drop> FrontTrial<R> {
         Ok(line.conn)
     }
 
+    /// The connection of the number before the first colon, and the bytes of the field behind it.
+    pub fn conn_and_bytes(&self, text: &str) -> Result<(Conn, Vec<u8>), NoAnswer> {
+        let (number, field) = text.split_once(':').ok_or(NoAnswer::Malformed)?;
+        Ok((self.conn(number)?, bytes_of(self.alloc, field)?))
+    }
+
     /// Adds the number of the connection, which was opened.
     pub fn push_begun(&self, answer: &mut Answer, conn: Conn) {
-        if let Some(number) = self.lines.iter().position(|line| line.conn == conn) {
-            answer.push_shown("begun ", &number);
+        for (number, line) in self.lines.iter().enumerate() {
+            if line.conn == conn {
+                answer.push_shown("begun ", &number);
+                return;
+            }
         }
     }
 
     /// Opens a connection.
     fn begin(&mut self, answer: &mut Answer) -> Result<(), NoAnswer> {
-        let conn = open(&mut self.front)?;
+        let conn = self.front.begin()?;
         self.push_begun(answer, conn);
         Ok(())
     }
 
     /// Hands over bytes.
     fn piece(&mut self, answer: &mut Answer, text: &str) -> Result<(), NoAnswer> {
-        let (number, field) = text.split_once(':').ok_or(NoAnswer::Malformed)?;
-        let bytes = bytes_of(self.alloc, field)?;
-        let conn = self.conn(number)?;
-        feed(&mut self.front, conn, &bytes)?;
+        let (conn, bytes) = self.conn_and_bytes(text)?;
+        self.front.feed(conn, &bytes)?;
         answer.push_word("held");
         Ok(())
     }
@@ -80,7 +83,7 @@ impl<R: Records + Drop> FrontTrial<R> {
     /// Asks for the next answer.
     fn answer(&mut self, answer: &mut Answer, text: &str) -> Result<(), NoAnswer> {
         let conn = self.conn(text)?;
-        let given = answer_next(&mut self.front, conn, self.moment)?;
+        let given = self.front.next_answer(conn, self.moment)?;
         push_answer(answer, given.as_ref());
         Ok(())
     }
@@ -101,23 +104,27 @@ impl<R: Records + Drop> FrontTrial<R> {
     /// Closes a connection.
     fn finish(&mut self, answer: &mut Answer, text: &str) -> Result<(), NoAnswer> {
         let conn = self.conn(text)?;
-        close(&mut self.front, conn)?;
+        self.front.finish(conn)?;
         answer.push_word("finished");
+        Ok(())
+    }
+
+    /// Has the bytes wait for the connections from the first number to the last.
+    fn wait_each(&mut self, first: usize, last: usize, bytes: &[u8]) -> Result<(), NoAnswer> {
+        for (number, line) in self.lines.iter_mut().enumerate() {
+            if first <= number && number <= last {
+                line.waiting.extend_from_slice(bytes)?;
+            }
+        }
         Ok(())
     }
 
     /// Has bytes wait for some connections.
     fn wait(&mut self, text: &str) -> Result<(), NoAnswer> {
         let (numbers, field) = text.split_once(':').ok_or(NoAnswer::Malformed)?;
-        let (first, last) = numbers.split_once('-').unwrap_or((numbers, numbers));
-        let (first, last): (usize, usize) = (number_of(first)?, number_of(last)?);
+        let (first, last) = first_and_last(numbers)?;
         let bytes = bytes_of(self.alloc, field)?;
-        for (number, line) in self.lines.iter_mut().enumerate() {
-            if first <= number && number <= last {
-                line.waiting.extend_from_slice(&bytes)?;
-            }
-        }
-        Ok(())
+        self.wait_each(first, last, &bytes)
     }
 
     /// Hands over, for each connection in turn, so many of the bytes that wait for it, and asks for all
@@ -132,6 +139,19 @@ impl<R: Records + Drop> FrontTrial<R> {
         Ok(has_more)
     }
 
+    /// Adds what each connection was answered to what waited, and forgets both.
+    fn push_outputs(&mut self, answer: &mut Answer) -> Result<(), NoAnswer> {
+        let mut runs = Runs::new(self.alloc);
+        for line in self.lines.iter_mut() {
+            if line.at > 0 {
+                runs.push(answer, &line.output.bytes, line.output.is_last)?;
+            }
+            line.clear(self.alloc);
+        }
+        runs.end(answer);
+        Ok(())
+    }
+
     /// Hands over all that waits, and adds what each connection was answered.
     fn turns(&mut self, answer: &mut Answer, text: &str) -> Result<(), NoAnswer> {
         let size = number_of(text)?;
@@ -140,29 +160,19 @@ impl<R: Records + Drop> FrontTrial<R> {
                 break;
             }
         }
-        let mut runs = Runs::new(self.alloc);
-        for line in self.lines.iter_mut() {
-            if line.at > 0 {
-                runs.push(answer, &line.output.bytes, line.output.is_last)?;
-            }
-            line.waiting.clear();
-            line.at = 0;
-            line.output = Output::new(self.alloc);
-        }
-        runs.end(answer);
-        Ok(())
+        self.push_outputs(answer)
     }
 
     /// Hands over the bytes in two pieces, on a connection of their own. How many replies came to the
     /// first piece.
     fn cut(&mut self, bytes: &[u8], place: usize, output: &mut Output) -> Result<usize, NoAnswer> {
-        let conn = open(&mut self.front)?;
-        feed(&mut self.front, conn, bytes.get(..place).unwrap_or(&[]))?;
-        answer_all(&mut self.front, conn, self.moment, output)?;
+        let conn = self.front.begin()?;
+        let first = bytes.get(..place).unwrap_or(&[]);
+        feed_and_answer(&mut self.front, conn, first, self.moment, output)?;
         let before = output.count;
-        feed(&mut self.front, conn, bytes.get(place..).unwrap_or(&[]))?;
-        answer_all(&mut self.front, conn, self.moment, output)?;
-        close(&mut self.front, conn)?;
+        let rest = bytes.get(place..).unwrap_or(&[]);
+        feed_and_answer(&mut self.front, conn, rest, self.moment, output)?;
+        self.front.finish(conn)?;
         Ok(before)
     }
 
@@ -231,7 +241,7 @@ impl<R: Records + Drop> FrontTrial<R> {
     }
 
     /// Runs the events, one after another.
-    fn run_events(&mut self, answer: &mut Answer, events: &[&str]) -> Result<(), NoAnswer> {
+    pub fn run_events(&mut self, answer: &mut Answer, events: &[&str]) -> Result<(), NoAnswer> {
         for event in events {
             let (word, text) = word_and_text(event);
             self.run_event(answer, word, text)?;
@@ -250,15 +260,4 @@ fn push_counts(answer: &mut Answer, counts: &[usize]) -> Result<(), NoAnswer> {
     }
     runs.end(answer);
     Ok(())
-}
-
-/// Runs the events on a front over a server over the keeper.
-pub fn run_front_events<R: Records + Drop>(
-    answer: &mut Answer,
-    records: R,
-    setup: &Setup,
-    events: &[&str],
-) -> Result<(), NoAnswer> {
-    let mut trial = FrontTrial::new(answer, records, setup)?;
-    trial.run_events(answer, events)
 }

@@ -5,17 +5,15 @@ use crate::answer::Answer;
 use crate::clock::StandingClock;
 use crate::connections::FrontTrial;
 use crate::field::{bytes_of, number_of, word_and_text};
-use crate::front_calls::drive;
+use crate::front_calls::{FrontCalls, drive};
 use crate::no_answer::NoAnswer;
 use crate::peer::{Receiver, Sender};
-use crate::setup::Setup;
-use xa_records::Records;
+use std::alloc::Global;
+use xa_server::Multiplexer;
 
-/// A front, the peer of the connection that is driven next, and how many moments the clock tells.
+/// The peer of the connection that is driven next, and how many moments the clock tells.
 #[derive(Drop)]
-struct Driving<R: Records + Drop> {
-    /// The front with its connections.
-    trial: FrontTrial<R>,
+struct Peer {
     /// What the peer sends.
     sender: Sender,
     /// What the peer gets.
@@ -24,17 +22,38 @@ struct Driving<R: Records + Drop> {
     moments: u64,
 }
 
-impl<R: Records + Drop> Driving<R> {
+impl Peer {
+    /// A peer that sends nothing.
+    fn new(alloc: Global) -> Peer {
+        Peer {
+            sender: Sender::new(alloc),
+            receiver: Receiver::new(alloc),
+            moments: u64::MAX,
+        }
+    }
+
+    /// Takes in what the peer sends next.
+    fn come(&mut self, alloc: Global, text: &str) -> Result<(), NoAnswer> {
+        let bytes = bytes_of(alloc, text)?;
+        self.sender.bytes.extend_from_slice(&bytes)?;
+        Ok(())
+    }
+
     /// Drives a connection. Adds how that has ended, what the peer has got, and how much of what it sent
     /// is left.
-    fn drive(&mut self, answer: &mut Answer, text: &str) -> Result<(), NoAnswer> {
+    fn drive<F: FrontCalls + Multiplexer + Drop>(
+        &mut self,
+        answer: &mut Answer,
+        trial: &mut FrontTrial<F>,
+        text: &str,
+    ) -> Result<(), NoAnswer> {
         let mut clock = StandingClock {
-            moment: self.trial.moment,
+            moment: trial.moment,
             left: self.moments,
         };
-        let conn = self.trial.conn(text)?;
+        let conn = trial.conn(text)?;
         let end = drive(
-            &mut self.trial.front,
+            &mut trial.front,
             conn,
             &mut self.sender,
             &mut self.receiver,
@@ -43,45 +62,43 @@ impl<R: Records + Drop> Driving<R> {
         answer.push_shown("", &end);
         self.receiver.push_got(answer)?;
         self.sender.push_unread(answer);
-        self.sender = Sender::new(answer.alloc());
-        self.receiver = Receiver::new(answer.alloc());
-        self.moments = u64::MAX;
+        *self = Peer::new(answer.alloc());
         Ok(())
     }
 
-    /// Runs the events, one after another.
-    fn run_events(&mut self, answer: &mut Answer, events: &[&str]) -> Result<(), NoAnswer> {
-        for event in events {
-            let (word, text) = word_and_text(event);
-            match word {
-                "comes" => {
-                    let bytes = bytes_of(answer.alloc(), text)?;
-                    self.sender.bytes.extend_from_slice(&bytes)?;
-                }
-                "reads" => self.sender.reads.set(text)?,
-                "writes" => self.receiver.writes.set(text)?,
-                "flushes" => self.receiver.flushes.set(text)?,
-                "clock" => self.moments = number_of(text)?,
-                "drive" => self.drive(answer, text)?,
-                _ => self.trial.run_event(answer, word, text)?,
+    /// Runs the event of the word and the text behind it.
+    fn run_event<F: FrontCalls + Multiplexer + Drop>(
+        &mut self,
+        answer: &mut Answer,
+        trial: &mut FrontTrial<F>,
+        word: &str,
+        text: &str,
+    ) -> Result<(), NoAnswer> {
+        match word {
+            "comes" => self.come(answer.alloc(), text),
+            "reads" => self.sender.reads.set(text),
+            "writes" => self.receiver.writes.set(text),
+            "flushes" => self.receiver.flushes.set(text),
+            "clock" => {
+                self.moments = number_of(text)?;
+                Ok(())
             }
+            "drive" => self.drive(answer, trial, text),
+            _ => trial.run_event(answer, word, text),
         }
-        Ok(())
     }
 }
 
-/// Runs the events on a front over a server over the keeper.
-pub fn run_driven_events<R: Records + Drop>(
+/// Runs the events, one after another.
+pub fn run_driven_events<F: FrontCalls + Multiplexer + Drop>(
     answer: &mut Answer,
-    records: R,
-    setup: &Setup,
+    trial: &mut FrontTrial<F>,
     events: &[&str],
 ) -> Result<(), NoAnswer> {
-    let mut driving = Driving {
-        trial: FrontTrial::new(answer, records, setup)?,
-        sender: Sender::new(answer.alloc()),
-        receiver: Receiver::new(answer.alloc()),
-        moments: u64::MAX,
-    };
-    driving.run_events(answer, events)
+    let mut peer = Peer::new(answer.alloc());
+    for event in events {
+        let (word, text) = word_and_text(event);
+        peer.run_event(answer, trial, word, text)?;
+    }
+    Ok(())
 }

@@ -101,13 +101,42 @@ pub fn first_word_and_rest(text: &str) -> (&str, &str) {
 
 /// The fields at the beginning whose word is this one, and the rest.
 pub fn leading_and_rest<'a>(fields: &'a [&'a str], word: &str) -> (&'a [&'a str], &'a [&'a str]) {
-    let count = fields
-        .iter()
-        .position(|field| word_and_text(field).0 != word)
-        .unwrap_or(fields.len());
+    let mut count = 0usize;
+    for field in fields {
+        if word_and_text(field).0 != word {
+            break;
+        }
+        count = count.saturating_add(1);
+    }
     let leading = fields.get(..count).unwrap_or(&[]);
     let rest = fields.get(count..).unwrap_or(&[]);
     (leading, rest)
+}
+
+/// The only field behind the kind.
+pub fn only_field<'a>(fields: &'a [&'a str]) -> Result<&'a str, NoAnswer> {
+    match fields {
+        [field] => Ok(*field),
+        _ => Err(NoAnswer::FieldCount),
+    }
+}
+
+/// The two fields behind the kind.
+pub fn two_fields<'a>(fields: &'a [&'a str]) -> Result<(&'a str, &'a str), NoAnswer> {
+    match fields {
+        [first, second] => Ok((*first, *second)),
+        _ => Err(NoAnswer::FieldCount),
+    }
+}
+
+/// The first field behind the kind, and those after it.
+pub fn first_field_and_rest<'a>(
+    fields: &'a [&'a str],
+) -> Result<(&'a str, &'a [&'a str]), NoAnswer> {
+    match fields {
+        [first, rest @ ..] => Ok((*first, rest)),
+        _ => Err(NoAnswer::FieldCount),
+    }
 }
 
 /// The number that the text is.
@@ -116,6 +145,15 @@ where
     T::Err: Drop,
 {
     text.parse::<T>().ok().ok_or(NoAnswer::Malformed)
+}
+
+/// The two numbers of a text `FIRST-LAST`; a number alone is both.
+pub fn first_and_last<T: FromStr + Drop>(text: &str) -> Result<(T, T), NoAnswer>
+where
+    T::Err: Drop,
+{
+    let (first, last) = text.split_once('-').unwrap_or((text, text));
+    Ok((number_of(first)?, number_of(last)?))
 }
 
 /// The bytes that the field stands for. `\n`, `\r`, `\t` and `\xHH` are a byte. `\{COUNT,TEXT\}` is the
@@ -135,6 +173,24 @@ pub fn text_of(alloc: Global, field: &str) -> Result<String, NoAnswer> {
     String::from_utf8(bytes_of(alloc, field)?)
         .ok()
         .ok_or(NoAnswer::Malformed)
+}
+
+/// The bytes that the only field stands for.
+pub fn only_bytes(alloc: Global, fields: &[&str]) -> Result<Vec<u8>, NoAnswer> {
+    bytes_of(alloc, only_field(fields)?)
+}
+
+/// The text that the only field stands for.
+pub fn only_text(alloc: Global, fields: &[&str]) -> Result<String, NoAnswer> {
+    text_of(alloc, only_field(fields)?)
+}
+
+/// The number that the only field is.
+pub fn only_number<T: FromStr + Drop>(fields: &[&str]) -> Result<T, NoAnswer>
+where
+    T::Err: Drop,
+{
+    number_of(only_field(fields)?)
 }
 
 /// The text that the field stands for, as it is kept.

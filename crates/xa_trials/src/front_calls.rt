@@ -1,69 +1,121 @@
-//! The calls of a front and of a server that have long clauses, each in one place. What rows do with their
-//! answers rests on none of these clauses, so all else is proved without them.
+//! The calls of a server and of a front, by which rows know them. These types have many parts, and their
+//! calls have long clauses, on which no row rests. So what rows do is proved of any type with these calls.
+use crate::keepers::Reopen;
 use crate::no_answer::NoAnswer;
+use crate::scripts::server_over;
+use std::alloc::Global;
 use xa_http::Message;
 use xa_records::Records;
 use xa_server::{
-    Answer, Clock, Conn, DriveEnd, Event, Front, Outcome, Reader, Reply, Server, Writer,
+    Answer, Clock, Conn, DriveEnd, Event, Front, Multiplexer, Outcome, Reader, Reply, Server,
+    Writer,
 };
 use xa_value::Moment;
 
-/// Opens a connection.
-pub fn open<R: Records + Drop>(front: &mut Front<R>) -> Result<Conn, NoAnswer> {
-    Ok(front.open()?)
+/// What answers messages: a server.
+pub trait ServerCalls {
+    /// The reply to the message.
+    fn reply_to(&mut self, moment: Moment, message: &Message) -> Reply;
+
+    /// The replies to the messages.
+    fn replies_to(&mut self, messages: &[(Moment, Message)]) -> Result<Vec<Reply>, NoAnswer>;
 }
 
-/// Hands over the next bytes of a connection.
-pub fn feed<R: Records + Drop>(
-    front: &mut Front<R>,
-    conn: Conn,
-    bytes: &[u8],
-) -> Result<(), NoAnswer> {
-    Ok(front.piece(conn, bytes)?)
+impl<R: Records> ServerCalls for Server<R> {
+    fn reply_to(&mut self, moment: Moment, message: &Message) -> Reply {
+        self.serve(moment, message)
+    }
+
+    fn replies_to(&mut self, messages: &[(Moment, Message)]) -> Result<Vec<Reply>, NoAnswer> {
+        Ok(self.run(messages)?)
+    }
 }
 
-/// The next answer of a connection, if there is one.
-pub fn answer_next<R: Records + Drop>(
-    front: &mut Front<R>,
-    conn: Conn,
-    moment: Moment,
-) -> Result<Option<Answer>, NoAnswer> {
-    Ok(front.answer(conn, moment)?)
+/// What has connections: a front.
+pub trait FrontCalls {
+    /// Opens a connection.
+    fn begin(&mut self) -> Result<Conn, NoAnswer>;
+
+    /// Hands over the next bytes of a connection.
+    fn feed(&mut self, conn: Conn, bytes: &[u8]) -> Result<(), NoAnswer>;
+
+    /// The next answer of a connection, if there is one.
+    fn next_answer(&mut self, conn: Conn, moment: Moment) -> Result<Option<Answer>, NoAnswer>;
+
+    /// Closes a connection.
+    fn finish(&mut self, conn: Conn) -> Result<(), NoAnswer>;
+
+    /// What comes of the events, which are played.
+    fn outcomes(&mut self, events: &[Event<'_>]) -> Result<Vec<Outcome>, NoAnswer>;
 }
 
-/// Closes a connection.
-pub fn close<R: Records + Drop>(front: &mut Front<R>, conn: Conn) -> Result<(), NoAnswer> {
-    Ok(front.close(conn)?)
+impl<R: Records> FrontCalls for Front<R> {
+    fn begin(&mut self) -> Result<Conn, NoAnswer> {
+        Ok(self.open()?)
+    }
+
+    fn feed(&mut self, conn: Conn, bytes: &[u8]) -> Result<(), NoAnswer> {
+        Ok(self.piece(conn, bytes)?)
+    }
+
+    fn next_answer(&mut self, conn: Conn, moment: Moment) -> Result<Option<Answer>, NoAnswer> {
+        Ok(self.answer(conn, moment)?)
+    }
+
+    fn finish(&mut self, conn: Conn) -> Result<(), NoAnswer> {
+        Ok(self.close(conn)?)
+    }
+
+    fn outcomes(&mut self, events: &[Event<'_>]) -> Result<Vec<Outcome>, NoAnswer> {
+        Ok(self.play(events)?)
+    }
 }
 
-/// What comes of the events, which are played.
-pub fn play<R: Records + Drop>(
-    front: &mut Front<R>,
-    events: &[Event<'_>],
-) -> Result<Vec<Outcome>, NoAnswer> {
-    Ok(front.play(events)?)
+/// What a server counts.
+#[derive(Clone, Copy)]
+pub enum Count {
+    /// How many texts of policies it has read.
+    Readings,
+    /// How many decisions it has evaluated.
+    Evaluations,
+    /// How many decisions it hasn't cached for want of memory.
+    Unkept,
+}
+
+/// A front whose server is asked what it has counted, or gives way to another.
+pub trait Renew: FrontCalls {
+    /// A front of another server over the same keeper.
+    fn front_after_restart(self, alloc: Global) -> Result<Self, NoAnswer>;
+
+    /// What the server has counted, and another front of it.
+    fn count_and_front(self, alloc: Global, count: Count) -> Result<(u64, Self), NoAnswer>;
+}
+
+impl<R: Reopen + Drop> Renew for Front<R> {
+    fn front_after_restart(self, alloc: Global) -> Result<Front<R>, NoAnswer> {
+        let records = self.into_server().into_records();
+        let server = server_over(alloc, records.keeper_after_stop(alloc)?)?;
+        Ok(Front::new(alloc, server)?)
+    }
+
+    fn count_and_front(self, alloc: Global, count: Count) -> Result<(u64, Front<R>), NoAnswer> {
+        let server = self.into_server();
+        let number = match count {
+            Count::Readings => server.readings(),
+            Count::Evaluations => server.evaluations(),
+            Count::Unkept => server.unkept(),
+        };
+        Ok((number, Front::new(alloc, server)?))
+    }
 }
 
 /// Drives a connection. How that has ended.
-pub fn drive<R: Records + Drop, I: Reader, W: Writer, C: Clock>(
-    front: &mut Front<R>,
+pub fn drive<F: Multiplexer, I: Reader, W: Writer, C: Clock>(
+    front: &mut F,
     conn: Conn,
     reader: &mut I,
     writer: &mut W,
     clock: &mut C,
 ) -> DriveEnd {
     xa_server::drive(front, conn, reader, writer, clock)
-}
-
-/// The server's reply to the message.
-pub fn serve<R: Records>(server: &mut Server<R>, moment: Moment, message: &Message) -> Reply {
-    server.serve(moment, message)
-}
-
-/// The server's replies to the messages.
-pub fn run<R: Records>(
-    server: &mut Server<R>,
-    messages: &[(Moment, Message)],
-) -> Result<Vec<Reply>, NoAnswer> {
-    Ok(server.run(messages)?)
 }

@@ -1,8 +1,8 @@
 //! Rows of connections that are driven over two files, one of which is frozen behind so many calls.
 use crate::answer::Answer;
-use crate::driven::run_driven_events;
 use crate::field::number_of;
 use crate::files::{StoreOfFiles, file_named, files_of, keeper_of, new_files};
+use crate::keeper_rows::run_driven_over;
 use crate::no_answer::{NoAnswer, unless_answered};
 use crate::setup::setup_and_events;
 use std::alloc::Global;
@@ -26,5 +26,5 @@ pub fn run_frozen_row<S: StoreOfFiles>(
 ) -> Result<(), NoAnswer> {
     let (setup, events) = setup_and_events(answer.alloc(), fields)?;
     let records = frozen_keeper::<S>(answer.alloc(), text)?;
-    unless_answered(run_driven_events(answer, records, &setup, events))
+    unless_answered(run_driven_over(answer, records, &setup, events))
 }

@@ -1,24 +1,26 @@
 //! Rows that are answered over a keeper: over one in memory and over one of tables, which have to come to
 //! the same.
 use crate::answer::Answer;
-use crate::connections::run_front_events;
+use crate::connections::FrontTrial;
 use crate::driven::run_driven_events;
 use crate::failing_records::FailingRecords;
+use crate::field::{first_field_and_rest, number_of};
+use crate::front_calls::{FrontCalls, Renew};
 use crate::keeper::make_all;
 use crate::keepers::{Reopen, tables};
 use crate::no_answer::{NoAnswer, unless_answered};
-use crate::played::run_played_events;
+use crate::played::play_events;
 use crate::server::run_server_events;
-use crate::setup::{Setup, setup_and_events};
-use xa_records::PlainRecords;
+use crate::setup::{Setup, front_made, setup_and_events};
+use xa_records::{PlainRecords, Records};
+use xa_server::Multiplexer;
+use xa_value::Moment;
 
 /// How the events of a row come to a server.
 #[derive(Clone, Copy)]
 pub enum Manner {
     /// As the messages of a stream.
     Messages,
-    /// The same, over a keeper whose call after so many others fails.
-    FailingAfter(u64),
     /// As the calls of a front.
     FrontCalls,
     /// As the calls of a front, which are played.
@@ -34,6 +36,8 @@ pub enum KeeperRow<'a> {
     Calls(&'a [&'a str]),
     /// A server over the keeper: what stands before its first event, and the events.
     Server(Manner, &'a Setup, &'a [&'a str]),
+    /// The same by messages, over a keeper around it whose call after so many others fails.
+    FailingServer(u64, &'a Setup, &'a [&'a str]),
 }
 
 impl KeeperRow<'_> {
@@ -41,24 +45,68 @@ impl KeeperRow<'_> {
     pub fn run<R: Reopen + Drop>(self, answer: &mut Answer, records: R) -> Result<(), NoAnswer> {
         unless_answered(match self {
             KeeperRow::Calls(calls) => make_all(answer, records, calls),
-            KeeperRow::Server(Manner::Messages, setup, events) => {
-                run_server_events(answer, records, setup, events)
+            KeeperRow::Server(manner, setup, events) => {
+                run_over(answer, records, manner, setup, events)
             }
-            KeeperRow::Server(Manner::FailingAfter(left), setup, events) => {
+            KeeperRow::FailingServer(left, setup, events) => {
                 let failing = FailingRecords::new(records, left);
-                run_server_events(answer, failing, setup, events)
-            }
-            KeeperRow::Server(Manner::FrontCalls, setup, events) => {
-                run_front_events(answer, records, setup, events)
-            }
-            KeeperRow::Server(Manner::Played, setup, events) => {
-                run_played_events(answer, records, setup, events)
-            }
-            KeeperRow::Server(Manner::Driven, setup, events) => {
-                run_driven_events(answer, records, setup, events)
+                run_over(answer, failing, Manner::Messages, setup, events)
             }
         })
     }
+}
+
+/// Runs the events on all connections of the front, from that moment on.
+fn run_front_events<F: FrontCalls + Multiplexer + Drop>(
+    answer: &mut Answer,
+    front: F,
+    manner: Manner,
+    moment: Moment,
+    events: &[&str],
+) -> Result<(), NoAnswer> {
+    let mut trial = FrontTrial::new(answer.alloc(), front, moment)?;
+    match manner {
+        Manner::Played => play_events(answer, &mut trial, events),
+        Manner::Driven => run_driven_events(answer, &mut trial, events),
+        _ => trial.run_events(answer, events),
+    }
+}
+
+/// Runs the events on the front, from that moment on.
+fn run_events<F: Renew + Multiplexer + Drop>(
+    answer: &mut Answer,
+    front: F,
+    manner: Manner,
+    moment: Moment,
+    events: &[&str],
+) -> Result<(), NoAnswer> {
+    match manner {
+        Manner::Messages => run_server_events(answer, front, moment, events),
+        _ => run_front_events(answer, front, manner, moment, events),
+    }
+}
+
+/// Runs the events on a front of a server over the keeper.
+fn run_over<R: Reopen + Drop>(
+    answer: &mut Answer,
+    records: R,
+    manner: Manner,
+    setup: &Setup,
+    events: &[&str],
+) -> Result<(), NoAnswer> {
+    let front = front_made(answer, records, setup)?;
+    run_events(answer, front, manner, setup.moment, events)
+}
+
+/// Drives connections of a front of a server over the keeper, as the events say.
+pub fn run_driven_over<R: Records + Drop>(
+    answer: &mut Answer,
+    records: R,
+    setup: &Setup,
+    events: &[&str],
+) -> Result<(), NoAnswer> {
+    let front = front_made(answer, records, setup)?;
+    run_front_events(answer, front, Manner::Driven, setup.moment, events)
 }
 
 /// Answers the row over the keeper in memory.
@@ -94,6 +142,15 @@ pub fn run_server_row(
 ) -> Result<(), NoAnswer> {
     let (setup, events) = setup_and_events(answer.alloc(), fields)?;
     run_over_both(answer, KeeperRow::Server(manner, &setup, events))
+}
+
+/// Answers a row of messages to a server over both, of each of which a call fails. The first field says
+/// behind how many others.
+pub fn run_failing_row(answer: &mut Answer, fields: &[&str]) -> Result<(), NoAnswer> {
+    let (calls, fields) = first_field_and_rest(fields)?;
+    let left = number_of(calls)?;
+    let (setup, events) = setup_and_events(answer.alloc(), fields)?;
+    run_over_both(answer, KeeperRow::FailingServer(left, &setup, events))
 }
 
 /// Answers a row of messages to a server over the keeper in memory alone.

@@ -2,10 +2,10 @@
 //! there are. The arms stand in families, a function each, which say whether they know the kind. `answer_row`
 //! tries the families one after another.
 use crate::answer::Answer;
-use crate::field::number_of;
 use crate::files::{File, StoreOfFiles};
 use crate::keeper_rows::{
-    KeeperRow, Manner, run_in_memory, run_messages_in_memory, run_over_both, run_server_row,
+    KeeperRow, Manner, run_failing_row, run_in_memory, run_messages_in_memory, run_over_both,
+    run_server_row,
 };
 use crate::no_answer::NoAnswer;
 use crate::{
@@ -150,10 +150,7 @@ fn answer_server(answer: &mut Answer, kind: &str, fields: &[&str]) -> Result<boo
         "played" => run_server_row(answer, Manner::Played, fields),
         "driven" => run_server_row(answer, Manner::Driven, fields),
         "tripped" => tripped::run_tripped_row(answer, fields),
-        "tripped_after" => {
-            let (calls, fields) = first_field_and_rest(fields)?;
-            run_server_row(answer, Manner::FailingAfter(number_of(calls)?), fields)
-        }
+        "tripped_after" => run_failing_row(answer, fields),
         _ => return Ok(false),
     };
     done?;

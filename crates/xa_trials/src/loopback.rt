@@ -6,23 +6,25 @@
 use crate::answer::Answer;
 use crate::clock::{StandingClock, moment_of};
 use crate::field::{bytes_of, word_and_text};
-use crate::front_calls::{close, drive, open};
+use crate::front_calls::{FrontCalls, drive};
 use crate::keepers::tables;
 use crate::no_answer::{NoAnswer, unless_answered};
-use crate::setup::{Setup, server_made, setup_and_events};
+use crate::setup::{Setup, front_made, setup_and_events};
+use std::alloc::Global;
 use std::io::{Read, Write};
 use std::net::{Ipv4Addr, Shutdown, TcpListener, TcpStream};
 use std::rt::HostRuntime;
 use xa_records::Records;
-use xa_server::{DriveEnd, Front};
+use xa_server::{DriveEnd, Multiplexer};
+use xa_value::Moment;
 
 /// A front, where it takes connections, and what the client of the next one writes.
 #[derive(Drop)]
-struct Sockets<R: Records + Drop> {
+struct Sockets<F: FrontCalls + Multiplexer + Drop> {
     /// The runtime, by which clients connect.
     rt: HostRuntime,
     /// The front.
-    front: Front<R>,
+    front: F,
     /// Where it takes connections.
     listener: TcpListener,
     /// The server's clock.
@@ -31,7 +33,7 @@ struct Sockets<R: Records + Drop> {
     written: Vec<u8>,
 }
 
-impl<R: Records + Drop> Sockets<R> {
+impl<F: FrontCalls + Multiplexer + Drop> Sockets<F> {
     /// A client that has connected, and has written all that it writes.
     fn client(&mut self) -> Result<TcpStream, NoAnswer> {
         let mut client = TcpStream::connect(&self.rt, self.listener.local_addr()?)?;
@@ -43,7 +45,7 @@ impl<R: Records + Drop> Sockets<R> {
 
     /// Has the server take the next connection, answer it and close it. How that has ended.
     fn serve_next(&mut self) -> Result<DriveEnd, NoAnswer> {
-        let conn = open(&mut self.front)?;
+        let conn = self.front.begin()?;
         let (stream, _peer) = self.listener.accept()?;
         let end = drive(
             &mut self.front,
@@ -52,7 +54,7 @@ impl<R: Records + Drop> Sockets<R> {
             &mut &stream,
             &mut self.clock,
         );
-        close(&mut self.front, conn)?;
+        self.front.finish(conn)?;
         Ok(end)
     }
 
@@ -69,26 +71,58 @@ impl<R: Records + Drop> Sockets<R> {
         Ok(())
     }
 
+    /// Takes in what the client writes next.
+    fn piece(&mut self, alloc: Global, text: &str) -> Result<(), NoAnswer> {
+        let bytes = bytes_of(alloc, text)?;
+        self.written.extend_from_slice(&bytes)?;
+        Ok(())
+    }
+
+    /// Runs the event of the word and the text behind it.
+    fn run_event(&mut self, answer: &mut Answer, word: &str, text: &str) -> Result<(), NoAnswer> {
+        match word {
+            "piece" => self.piece(answer.alloc(), text),
+            "close" => self.connection(answer),
+            "moment" => {
+                self.clock.moment = moment_of(text)?;
+                Ok(())
+            }
+            _ => Err(NoAnswer::Malformed),
+        }
+    }
+
     /// Runs the events, one after another, and ends the last connection.
     fn run_events(&mut self, answer: &mut Answer, events: &[&str]) -> Result<(), NoAnswer> {
         for event in events {
             let (word, text) = word_and_text(event);
-            match word {
-                "piece" => {
-                    let bytes = bytes_of(answer.alloc(), text)?;
-                    self.written.extend_from_slice(&bytes)?;
-                }
-                "close" => self.connection(answer)?,
-                "moment" => self.clock.moment = moment_of(text)?,
-                _ => return Err(NoAnswer::Malformed),
-            }
+            self.run_event(answer, word, text)?;
         }
         self.connection(answer)
     }
 }
 
+/// Runs the events over sockets of the front, whose clock stands at that moment.
+fn run_socket_events<F: FrontCalls + Multiplexer + Drop>(
+    answer: &mut Answer,
+    rt: &HostRuntime,
+    listener: TcpListener,
+    front: F,
+    moment: Moment,
+    events: &[&str],
+) -> Result<(), NoAnswer> {
+    let left = u64::MAX;
+    let mut sockets = Sockets {
+        rt: *rt,
+        front,
+        listener,
+        clock: StandingClock { moment, left },
+        written: Vec::new(answer.alloc()),
+    };
+    sockets.run_events(answer, events)
+}
+
 /// Runs the events over sockets of a server over the keeper.
-fn run_socket_events<R: Records + Drop>(
+fn run_over_sockets<R: Records + Drop>(
     answer: &mut Answer,
     rt: &HostRuntime,
     listener: TcpListener,
@@ -96,18 +130,8 @@ fn run_socket_events<R: Records + Drop>(
     setup: &Setup,
     events: &[&str],
 ) -> Result<(), NoAnswer> {
-    let server = server_made(answer, records, setup)?;
-    let mut sockets = Sockets {
-        rt: *rt,
-        front: Front::new(answer.alloc(), server)?,
-        listener,
-        clock: StandingClock {
-            moment: setup.moment,
-            left: u64::MAX,
-        },
-        written: Vec::new(answer.alloc()),
-    };
-    sockets.run_events(answer, events)
+    let front = front_made(answer, records, setup)?;
+    run_socket_events(answer, rt, listener, front, setup.moment, events)
 }
 
 /// What clients receive when the events happen to a server over a keeper of tables, which takes
@@ -116,5 +140,5 @@ pub fn loopback(answer: &mut Answer, rt: &HostRuntime, fields: &[&str]) -> Resul
     let listener = TcpListener::bind(rt, (Ipv4Addr::LOCALHOST, 0))?;
     let (setup, events) = setup_and_events(answer.alloc(), fields)?;
     let records = tables(answer.alloc())?;
-    unless_answered(run_socket_events(answer, rt, listener, records, &setup, events))
+    unless_answered(run_over_sockets(answer, rt, listener, records, &setup, events))
 }

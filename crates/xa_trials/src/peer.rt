@@ -1,7 +1,7 @@
 //! The other end of a connection that is driven: a reader and a writer of their own, whose calls
 //! are short, are interrupted, or fail.
 use crate::answer::Answer;
-use crate::field::number_of;
+use crate::field::{first_and_last, number_of};
 use crate::no_answer::NoAnswer;
 use crate::runs::Runs;
 use std::alloc::Global;
@@ -43,9 +43,9 @@ impl CallPlan {
             "size" => self.size = number_of(number)?,
             "fails" => self.fails = number_of(number)?,
             "interrupted" => {
-                let (first, last) = number.split_once('-').unwrap_or((number, number));
-                self.first = number_of(first)?;
-                self.last = number_of(last)?;
+                let (first, last) = first_and_last(number)?;
+                self.first = first;
+                self.last = last;
             }
             _ => return Err(NoAnswer::Malformed),
         }

@@ -3,42 +3,43 @@
 use crate::answer::Answer;
 use crate::clock::moment_of;
 use crate::connections::FrontTrial;
-use crate::field::{bytes_of, word_and_text};
-use crate::front_calls::play;
+use crate::field::word_and_text;
+use crate::front_calls::FrontCalls;
 use crate::no_answer::NoAnswer;
 use crate::runs::push_answer;
-use crate::setup::Setup;
-use xa_records::Records;
 use xa_server::{Event, FrontError, Outcome};
 
 /// Plays the one call that the word and the text behind it say.
-fn outcomes_of<R: Records + Drop>(
-    trial: &mut FrontTrial<R>,
+fn outcomes_of<F: FrontCalls + Drop>(
+    trial: &mut FrontTrial<F>,
     word: &str,
     text: &str,
 ) -> Result<Vec<Outcome>, NoAnswer> {
     match word {
-        "begin" => play(&mut trial.front, &[Event::Begin]),
+        "begin" => trial.front.outcomes(&[Event::Begin]),
         "piece" => {
-            let (number, field) = text.split_once(':').ok_or(NoAnswer::Malformed)?;
-            let conn = trial.conn(number)?;
-            let piece = bytes_of(trial.alloc, field)?;
-            play(&mut trial.front, &[Event::Piece(conn, &piece)])
+            let (conn, piece) = trial.conn_and_bytes(text)?;
+            trial.front.outcomes(&[Event::Piece(conn, &piece)])
         }
         "answer" => {
             let conn = trial.conn(text)?;
-            play(&mut trial.front, &[Event::Answer(conn, trial.moment)])
+            let event = Event::Answer(conn, trial.moment);
+            trial.front.outcomes(&[event])
         }
         "finish" => {
             let conn = trial.conn(text)?;
-            play(&mut trial.front, &[Event::Finish(conn)])
+            trial.front.outcomes(&[Event::Finish(conn)])
         }
         _ => Err(NoAnswer::Malformed),
     }
 }
 
 /// Adds what a call was answered.
-fn push_outcome<R: Records + Drop>(answer: &mut Answer, trial: &FrontTrial<R>, outcome: Outcome) {
+fn push_outcome<F: FrontCalls + Drop>(
+    answer: &mut Answer,
+    trial: &FrontTrial<F>,
+    outcome: Outcome,
+) {
     match outcome {
         Outcome::Begun(Ok(conn)) => trial.push_begun(answer, conn),
         Outcome::Held(Ok(())) => answer.push_word("held"),
@@ -54,32 +55,31 @@ fn push_outcome<R: Records + Drop>(answer: &mut Answer, trial: &FrontTrial<R>, o
     }
 }
 
-/// Plays the events, one after another, and adds what each was answered.
-fn play_all<R: Records + Drop>(
+/// Plays the one call that the word and the text behind it say, and adds what it was answered.
+fn play_one<F: FrontCalls + Drop>(
     answer: &mut Answer,
-    trial: &mut FrontTrial<R>,
-    events: &[&str],
+    trial: &mut FrontTrial<F>,
+    word: &str,
+    text: &str,
 ) -> Result<(), NoAnswer> {
-    for event in events {
-        let (word, text) = word_and_text(event);
-        if word == "moment" {
-            trial.moment = moment_of(text)?;
-        } else {
-            for outcome in outcomes_of(trial, word, text)? {
-                push_outcome(answer, trial, outcome);
-            }
-        }
+    for outcome in outcomes_of(trial, word, text)? {
+        push_outcome(answer, trial, outcome);
     }
     Ok(())
 }
 
-/// Plays the events on a front over a server over the keeper.
-pub fn run_played_events<R: Records + Drop>(
+/// Plays the events, one after another, and adds what each was answered.
+pub fn play_events<F: FrontCalls + Drop>(
     answer: &mut Answer,
-    records: R,
-    setup: &Setup,
+    trial: &mut FrontTrial<F>,
     events: &[&str],
 ) -> Result<(), NoAnswer> {
-    let mut trial = FrontTrial::new(answer, records, setup)?;
-    play_all(answer, &mut trial, events)
+    for event in events {
+        let (word, text) = word_and_text(event);
+        match word {
+            "moment" => trial.moment = moment_of(text)?,
+            _ => play_one(answer, trial, word, text)?,
+        }
+    }
+    Ok(())
 }

@@ -7,14 +7,11 @@ use crate::answer::Answer;
 use crate::clock::moment_of;
 use crate::connections::lines::push_all;
 use crate::field::{bytes_of, word_and_text};
-use crate::front_calls::{close, feed, open};
-use crate::keepers::Reopen;
+use crate::front_calls::{Count, FrontCalls, Renew};
 use crate::no_answer::NoAnswer;
 use crate::runs::Runs;
-use crate::scripts::server_over;
-use crate::setup::{Setup, server_made};
 use std::alloc::Global;
-use xa_server::{Conn, Front, Server};
+use xa_server::Conn;
 use xa_value::Moment;
 
 /// How many bytes are handed over at once: as many as a server reads at once (`xa_server`, `driving.rt`).
@@ -22,9 +19,9 @@ const PIECE_BYTES: usize = 65_536;
 
 /// A server at a moment, with the connection whose messages it answers.
 #[derive(Drop)]
-struct ServerTrial<R: Reopen + Drop> {
+struct ServerTrial<F: FrontCalls + Drop> {
     /// The front, over the server.
-    front: Front<R>,
+    front: F,
     /// The connection.
     conn: Conn,
     /// Whether the connection has ended.
@@ -33,11 +30,10 @@ struct ServerTrial<R: Reopen + Drop> {
     moment: Moment,
 }
 
-impl<R: Reopen + Drop> ServerTrial<R> {
-    /// The server at that moment, with one connection.
-    fn new(alloc: Global, server: Server<R>, moment: Moment) -> Result<ServerTrial<R>, NoAnswer> {
-        let mut front = Front::new(alloc, server)?;
-        let conn = open(&mut front)?;
+impl<F: FrontCalls + Drop> ServerTrial<F> {
+    /// The front's server at that moment, with one connection.
+    fn new(mut front: F, moment: Moment) -> Result<ServerTrial<F>, NoAnswer> {
+        let conn = front.begin()?;
         Ok(ServerTrial {
             front,
             conn,
@@ -57,7 +53,7 @@ impl<R: Reopen + Drop> ServerTrial<R> {
         if self.has_ended {
             return Ok(false);
         }
-        feed(&mut self.front, self.conn, bytes)?;
+        self.front.feed(self.conn, bytes)?;
         match push_all(&mut self.front, self.conn, self.moment, answer, runs)? {
             Some(is_last) => {
                 self.has_ended = is_last;
@@ -67,9 +63,8 @@ impl<R: Reopen + Drop> ServerTrial<R> {
         }
     }
 
-    /// Answers the messages that are whole after the piece.
-    fn piece(&mut self, answer: &mut Answer, field: &str) -> Result<(), NoAnswer> {
-        let bytes = bytes_of(answer.alloc(), field)?;
+    /// Hands over the bytes, so many at once, and adds the replies. Whether there were some.
+    fn push_all_answers(&mut self, answer: &mut Answer, bytes: &[u8]) -> Result<bool, NoAnswer> {
         let mut runs = Runs::new(answer.alloc());
         let mut is_answered = false;
         for part in bytes.chunks(PIECE_BYTES) {
@@ -78,6 +73,13 @@ impl<R: Reopen + Drop> ServerTrial<R> {
             }
         }
         runs.end(answer);
+        Ok(is_answered)
+    }
+
+    /// Answers the messages that are whole after the piece.
+    fn piece(&mut self, answer: &mut Answer, field: &str) -> Result<(), NoAnswer> {
+        let bytes = bytes_of(answer.alloc(), field)?;
+        let is_answered = self.push_all_answers(answer, &bytes)?;
         if self.has_ended {
             answer.push_word("!Ended");
         } else if !is_answered {
@@ -86,80 +88,92 @@ impl<R: Reopen + Drop> ServerTrial<R> {
         Ok(())
     }
 
-    /// Runs the event of the word and the text behind it.
-    fn step(&mut self, answer: &mut Answer, word: &str, text: &str) -> Result<(), NoAnswer> {
-        match word {
-            "piece" => self.piece(answer, text)?,
-            "moment" => self.moment = moment_of(text)?,
-            "close" => {
-                close(&mut self.front, self.conn)?;
-                self.conn = open(&mut self.front)?;
-                self.has_ended = false;
-            }
-            _ => return Err(NoAnswer::Malformed),
-        }
+    /// Goes on with another stream.
+    fn close(&mut self) -> Result<(), NoAnswer> {
+        self.front.finish(self.conn)?;
+        self.conn = self.front.begin()?;
+        self.has_ended = false;
         Ok(())
     }
 
-    /// Another server over the same keeper, and another stream.
-    fn trial_after_restart(self, alloc: Global) -> Result<ServerTrial<R>, NoAnswer> {
+    /// Runs the event of the word and the text behind it.
+    fn step(&mut self, answer: &mut Answer, word: &str, text: &str) -> Result<(), NoAnswer> {
+        match word {
+            "piece" => self.piece(answer, text),
+            "moment" => {
+                self.moment = moment_of(text)?;
+                Ok(())
+            }
+            "close" => self.close(),
+            _ => Err(NoAnswer::Malformed),
+        }
+    }
+
+    /// The front, and its moment. The connection is gone.
+    fn into_front(self) -> (F, Moment) {
         let ServerTrial {
             front,
             conn: _,
             has_ended: _,
             moment,
         } = self;
-        let records = front.into_server().into_records();
-        let server = server_over(alloc, records.keeper_after_stop(alloc)?)?;
-        ServerTrial::new(alloc, server, moment)
+        (front, moment)
     }
 
-    /// Adds how often the server has done what the word says, and goes on with another stream.
+    /// The trial behind the event of the word and the text behind it, on the same front.
+    fn trial_after_step(
+        mut self,
+        answer: &mut Answer,
+        word: &str,
+        text: &str,
+    ) -> Result<ServerTrial<F>, NoAnswer> {
+        self.step(answer, word, text)?;
+        Ok(self)
+    }
+}
+
+impl<F: Renew + Drop> ServerTrial<F> {
+    /// Another server over the same keeper, and another stream.
+    fn trial_after_restart(self, alloc: Global) -> Result<ServerTrial<F>, NoAnswer> {
+        let (front, moment) = self.into_front();
+        ServerTrial::new(front.front_after_restart(alloc)?, moment)
+    }
+
+    /// Adds what the server has counted, behind the word that asks for it, and goes on with another stream.
     fn trial_after_count(
         self,
         answer: &mut Answer,
         word: &str,
-    ) -> Result<ServerTrial<R>, NoAnswer> {
-        let ServerTrial {
-            front,
-            conn: _,
-            has_ended: _,
-            moment,
-        } = self;
-        let server = front.into_server();
-        let count = match word {
-            "readings" => server.readings(),
-            "evaluations" => server.evaluations(),
-            _ => server.unkept(),
-        };
+        count: Count,
+    ) -> Result<ServerTrial<F>, NoAnswer> {
+        let (front, moment) = self.into_front();
+        let (number, front) = front.count_and_front(answer.alloc(), count)?;
         answer.push_word(word);
-        answer.append_shown(" ", &count);
-        ServerTrial::new(answer.alloc(), server, moment)
+        answer.append_shown(" ", &number);
+        ServerTrial::new(front, moment)
     }
 
     /// Runs the event of the field, and gives the trial that goes on behind it.
-    fn trial_after(mut self, answer: &mut Answer, field: &str) -> Result<ServerTrial<R>, NoAnswer> {
+    fn trial_after(self, answer: &mut Answer, field: &str) -> Result<ServerTrial<F>, NoAnswer> {
         let (word, text) = word_and_text(field);
         match word {
             "restart" => self.trial_after_restart(answer.alloc()),
-            "readings" | "evaluations" | "unkept" => self.trial_after_count(answer, word),
-            _ => {
-                self.step(answer, word, text)?;
-                Ok(self)
-            }
+            "readings" => self.trial_after_count(answer, word, Count::Readings),
+            "evaluations" => self.trial_after_count(answer, word, Count::Evaluations),
+            "unkept" => self.trial_after_count(answer, word, Count::Unkept),
+            _ => self.trial_after_step(answer, word, text),
         }
     }
 }
 
-/// Runs the events on a server over the keeper.
-pub fn run_server_events<R: Reopen + Drop>(
+/// Runs the events on the front's server, from that moment on.
+pub fn run_server_events<F: Renew + Drop>(
     answer: &mut Answer,
-    records: R,
-    setup: &Setup,
+    front: F,
+    moment: Moment,
     events: &[&str],
 ) -> Result<(), NoAnswer> {
-    let server = server_made(answer, records, setup)?;
-    let mut trial = ServerTrial::new(answer.alloc(), server, setup.moment)?;
+    let mut trial = ServerTrial::new(front, moment)?;
     for event in events {
         trial = trial.trial_after(answer, event)?;
     }

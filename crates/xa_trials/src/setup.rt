@@ -6,13 +6,13 @@
 use crate::answer::Answer;
 use crate::clock::moment_of;
 use crate::field::{number_of, word_and_text};
-use crate::front_calls::run;
+use crate::front_calls::ServerCalls;
 use crate::no_answer::NoAnswer;
 use crate::scripts::{ScriptReader, server_over};
 use std::alloc::Global;
 use xa_http::Message;
 use xa_records::Records;
-use xa_server::Server;
+use xa_server::{Front, Reply, Server};
 use xa_value::Moment;
 
 /// What is set of a server, and the messages that come to it before the first event.
@@ -66,6 +66,14 @@ impl Setup {
         }
         server
     }
+
+    /// The server with the limit of work that is set of it behind the messages.
+    fn limited<R: Records>(&self, server: Server<R>) -> Server<R> {
+        match self.limit {
+            Some(units) => server.with_work_limit(units),
+            None => server,
+        }
+    }
 }
 
 /// What stands in the fields before the first event, and the events.
@@ -93,33 +101,55 @@ pub fn setup_and_events<'a>(
     Ok((setup, fields.get(count..).unwrap_or(&[])))
 }
 
-/// Sends the messages. The first reply that is no success (RFC 9110, section 15.3) is the row's whole answer.
-fn make<R: Records + Drop>(
+/// Whether the reply is a success (RFC 9110, section 15.3).
+fn is_success(reply: &Reply) -> bool {
+    let bytes = reply.bytes();
+    bytes.starts_with(b"HTTP/1.1 200 ") || bytes.starts_with(b"HTTP/1.1 201 ")
+}
+
+/// Sends the messages. The first reply that is no success is the row's whole answer.
+fn make<V: ServerCalls>(
     answer: &mut Answer,
-    server: &mut Server<R>,
+    server: &mut V,
     messages: &[(Moment, Message)],
 ) -> Result<(), NoAnswer> {
-    let replies = run(server, messages)?;
+    let replies = server.replies_to(messages)?;
     for reply in &replies {
-        let bytes = reply.bytes();
-        if !bytes.starts_with(b"HTTP/1.1 200 ") && !bytes.starts_with(b"HTTP/1.1 201 ") {
-            answer.push_field("", bytes);
+        if !is_success(reply) {
+            answer.push_field("", reply.bytes());
             return Err(NoAnswer::Answered);
         }
     }
     Ok(())
 }
 
+/// The server, after the messages.
+fn server_after<V: ServerCalls + Drop>(
+    answer: &mut Answer,
+    mut server: V,
+    messages: &[(Moment, Message)],
+) -> Result<V, NoAnswer> {
+    make(answer, &mut server, messages)?;
+    Ok(server)
+}
+
 /// A server over the keeper, which is set up so.
-pub fn server_made<R: Records + Drop>(
+fn server_made<R: Records + Drop>(
     answer: &mut Answer,
     records: R,
     setup: &Setup,
 ) -> Result<Server<R>, NoAnswer> {
-    let mut server = setup.set(server_over(answer.alloc(), records)?);
-    make(answer, &mut server, &setup.made.messages)?;
-    match setup.limit {
-        Some(units) => Ok(server.with_work_limit(units)),
-        None => Ok(server),
-    }
+    let server = setup.set(server_over(answer.alloc(), records)?);
+    let server = server_after(answer, server, &setup.made.messages)?;
+    Ok(setup.limited(server))
+}
+
+/// A front of a server over the keeper, which is set up so.
+pub fn front_made<R: Records + Drop>(
+    answer: &mut Answer,
+    records: R,
+    setup: &Setup,
+) -> Result<Front<R>, NoAnswer> {
+    let server = server_made(answer, records, setup)?;
+    Ok(Front::new(answer.alloc(), server)?)
 }

@@ -2,9 +2,9 @@
 //! empty store. Then the keeper is opened over it, and the other fields are a row of a server.
 use crate::answer::Answer;
 use crate::field::leading_and_rest;
+use crate::keeper_rows::{KeeperRow, Manner};
 use crate::keepers::{connection_after, open_keeper};
-use crate::no_answer::{NoAnswer, unless_answered};
-use crate::server::run_server_events;
+use crate::no_answer::NoAnswer;
 use crate::setup::setup_and_events;
 
 /// What the server answers to the events; or why the keeper isn't opened.
@@ -14,7 +14,7 @@ pub fn run_stored_row(answer: &mut Answer, fields: &[&str]) -> Result<(), NoAnsw
     let (setup, events) = setup_and_events(alloc, fields)?;
     let conn = connection_after(alloc, statements)?;
     match open_keeper(alloc, conn) {
-        Ok(records) => unless_answered(run_server_events(answer, records, &setup, events)),
+        Ok(records) => KeeperRow::Server(Manner::Messages, &setup, events).run(answer, records),
         Err((error, _)) => {
             answer.push_shown("!", &error);
             Ok(())

@@ -2,7 +2,7 @@
 use crate::answer::Answer;
 use crate::calls::{CALLS, Call};
 use crate::failing_records::FailingRecords;
-use crate::front_calls::serve;
+use crate::front_calls::ServerCalls;
 use crate::keepers::tables;
 use crate::no_answer::NoAnswer;
 use crate::scripts::{messages_of, server_over};
@@ -49,17 +49,17 @@ enum Verdict {
 
 /// How many of the messages the server refuses; none if another reply isn't that of a server to which
 /// the refused messages never came.
-fn refusals<R: Records, S: Records>(
-    server: &mut Server<R>,
-    spared: &mut Server<S>,
+fn refusals<V: ServerCalls, W: ServerCalls>(
+    server: &mut V,
+    spared: &mut W,
     messages: &[(Moment, Message)],
 ) -> Option<u64> {
     let mut count = 0u64;
     for (moment, message) in messages {
-        let reply = serve(server, *moment, message);
+        let reply = server.reply_to(*moment, message);
         if reply.bytes() == UNAVAILABLE.as_bytes() {
             count = count.saturating_add(1);
-        } else if serve(spared, *moment, message).bytes() != reply.bytes() {
+        } else if spared.reply_to(*moment, message).bytes() != reply.bytes() {
             return None;
         }
     }
@@ -68,9 +68,9 @@ fn refusals<R: Records, S: Records>(
 
 /// What the messages show of a server over a keeper of which a call fails, beside one that is spared. As
 /// many messages have to be refused as calls have failed.
-fn verdict_of<R: Records + Drop>(
+fn verdict_of<R: Records + Drop, W: ServerCalls>(
     mut server: Server<FailingRecords<R>>,
-    spared: &mut Server<R>,
+    spared: &mut W,
     messages: &[(Moment, Message)],
 ) -> Verdict {
     let count = refusals(&mut server, spared, messages);
@@ -84,16 +84,16 @@ fn verdict_of<R: Records + Drop>(
     }
 }
 
-/// Runs the script over a keeper whose call after so many others fails, beside a server that is spared.
-fn run_beside<R: Begin + Drop>(
+/// Runs the script over the keeper, whose call after so many others fails, beside a server that is spared.
+fn run_beside<R: Records + Drop, W: ServerCalls + Drop>(
     alloc: Global,
-    spared: &mut Server<R>,
+    records: R,
+    mut spared: W,
     messages: &[(Moment, Message)],
     left: u64,
 ) -> Result<Verdict, NoAnswer> {
-    let records = FailingRecords::new(R::begin(alloc)?, left);
-    let server = server_over(alloc, records)?;
-    Ok(verdict_of(server, spared, messages))
+    let server = server_over(alloc, FailingRecords::new(records, left))?;
+    Ok(verdict_of(server, &mut spared, messages))
 }
 
 /// Runs the script over a keeper whose call after so many others fails.
@@ -102,8 +102,9 @@ fn run_once<R: Begin + Drop>(
     messages: &[(Moment, Message)],
     left: u64,
 ) -> Result<Verdict, NoAnswer> {
-    let mut spared = server_over(alloc, R::begin(alloc)?)?;
-    run_beside(alloc, &mut spared, messages, left)
+    let records = R::begin(alloc)?;
+    let spared = server_over(alloc, R::begin(alloc)?)?;
+    run_beside(alloc, records, spared, messages, left)
 }
 
 /// Adds how many calls failed in turn, and how many of each kind.

@@ -1,11 +1,10 @@
 //! The connections of a front: what waits for each, and what it was answered.
 use crate::answer::Answer;
-use crate::front_calls::{answer_next, close, feed, open};
+use crate::front_calls::FrontCalls;
 use crate::no_answer::NoAnswer;
 use crate::runs::Runs;
 use std::alloc::Global;
-use xa_records::Records;
-use xa_server::{Conn, Front};
+use xa_server::Conn;
 use xa_value::Moment;
 
 /// How many connections there are: all those of a front, the 64 of `xa_server` (`lines.rt`).
@@ -35,6 +34,25 @@ pub struct Output {
     pub is_last: bool,
 }
 
+impl Line {
+    /// A connection to which nothing is handed over, and for which nothing waits.
+    fn new(alloc: Global, conn: Conn) -> Line {
+        Line {
+            conn,
+            waiting: Vec::new(alloc),
+            at: 0,
+            output: Output::new(alloc),
+        }
+    }
+
+    /// Forgets what waited, and what was answered to it.
+    pub fn clear(&mut self, alloc: Global) {
+        self.waiting.clear();
+        self.at = 0;
+        self.output = Output::new(alloc);
+    }
+}
+
 impl Output {
     /// No reply as yet.
     pub fn new(alloc: Global) -> Output {
@@ -47,29 +65,24 @@ impl Output {
 }
 
 /// Adds all connections of the front, by their numbers. None is open afterwards.
-pub fn add_lines<R: Records + Drop>(
+pub fn add_lines<F: FrontCalls>(
     alloc: Global,
-    front: &mut Front<R>,
+    front: &mut F,
     lines: &mut Vec<Line>,
 ) -> Result<(), NoAnswer> {
     for _ in 0..CONNECTIONS {
-        lines.push(Line {
-            conn: open(front)?,
-            waiting: Vec::new(alloc),
-            at: 0,
-            output: Output::new(alloc),
-        })?;
+        lines.push(Line::new(alloc, front.begin()?))?;
     }
     for line in lines.iter() {
-        close(front, line.conn)?;
+        front.finish(line.conn)?;
     }
     Ok(())
 }
 
 /// Asks for all answers that there are, and adds them. If there were some, whether the connection has ended
 /// with the last.
-pub fn push_all<R: Records + Drop>(
-    front: &mut Front<R>,
+pub fn push_all<F: FrontCalls>(
+    front: &mut F,
     conn: Conn,
     moment: Moment,
     answer: &mut Answer,
@@ -77,7 +90,7 @@ pub fn push_all<R: Records + Drop>(
 ) -> Result<Option<bool>, NoAnswer> {
     let mut is_last = None;
     for _ in 0..u64::MAX {
-        let Some(given) = answer_next(front, conn, moment)? else {
+        let Some(given) = front.next_answer(conn, moment)? else {
             return Ok(is_last);
         };
         runs.push(answer, given.reply.bytes(), false)?;
@@ -87,14 +100,14 @@ pub fn push_all<R: Records + Drop>(
 }
 
 /// Asks for all answers that there are.
-pub fn answer_all<R: Records + Drop>(
-    front: &mut Front<R>,
+fn answer_all<F: FrontCalls>(
+    front: &mut F,
     conn: Conn,
     moment: Moment,
     output: &mut Output,
 ) -> Result<(), NoAnswer> {
     for _ in 0..u64::MAX {
-        let Some(given) = answer_next(front, conn, moment)? else {
+        let Some(given) = front.next_answer(conn, moment)? else {
             return Ok(());
         };
         output.bytes.extend_from_slice(given.reply.bytes())?;
@@ -104,10 +117,22 @@ pub fn answer_all<R: Records + Drop>(
     Ok(())
 }
 
+/// Hands over bytes of a connection, and asks for all answers that there are then.
+pub fn feed_and_answer<F: FrontCalls>(
+    front: &mut F,
+    conn: Conn,
+    bytes: &[u8],
+    moment: Moment,
+    output: &mut Output,
+) -> Result<(), NoAnswer> {
+    front.feed(conn, bytes)?;
+    answer_all(front, conn, moment, output)
+}
+
 /// Hands over the next of the bytes that wait for a connection, so many at most, and asks for all answers.
 /// Whether there were such bytes.
-pub fn take_turn<R: Records + Drop>(
-    front: &mut Front<R>,
+pub fn take_turn<F: FrontCalls>(
+    front: &mut F,
     line: &mut Line,
     moment: Moment,
     size: usize,
@@ -118,8 +143,7 @@ pub fn take_turn<R: Records + Drop>(
     if count == 0 {
         return Ok(false);
     }
-    feed(front, line.conn, piece)?;
+    feed_and_answer(front, line.conn, piece, moment, &mut line.output)?;
     line.at = line.at.saturating_add(count);
-    answer_all(front, line.conn, moment, &mut line.output)?;
     Ok(true)
 }

@@ -1,22 +1,30 @@
 //! Whether a server over what a stop has left answers the rest of a script rightly.
 use crate::files::{File, StoreOfFiles, keeper_of};
-use crate::front_calls::{run, serve};
+use crate::front_calls::ServerCalls;
 use crate::no_answer::NoAnswer;
 use crate::scripts::server_over;
 use crate::stops::script::Script;
-use sqlite::{Alter, Files};
+use sqlite::Files;
 use std::alloc::Global;
 use xa_http::Message;
-use xa_records::PlainRecords;
-use xa_server::{Reply, Server};
-use xa_store::SqlRecords;
+use xa_records::{PlainRecords, Records};
+use xa_server::Reply;
 use xa_value::Moment;
 
-/// Has the first of the messages answered, so many at most.
-fn serve_all(server: &mut Server<PlainRecords>, messages: &[(Moment, Message)], count: usize) {
+/// The server, after the first of the messages, so many at most.
+fn server_after<V: ServerCalls>(mut server: V, messages: &[(Moment, Message)], count: usize) -> V {
     for (moment, message) in messages.iter().take(count) {
-        serve(server, *moment, message);
+        server.reply_to(*moment, message);
     }
+    server
+}
+
+/// The server's replies to the messages.
+fn replies_of<V: ServerCalls + Drop>(
+    mut server: V,
+    messages: &[(Moment, Message)],
+) -> Result<Vec<Reply>, NoAnswer> {
+    server.replies_to(messages)
 }
 
 /// The messages behind that one.
@@ -32,10 +40,10 @@ fn replies_behind(
     struck: usize,
     count: usize,
 ) -> Result<Vec<Reply>, NoAnswer> {
-    let mut server = server_over(alloc, PlainRecords::new(alloc))?;
-    serve_all(&mut server, &script.made, usize::MAX);
-    serve_all(&mut server, &script.messages, count);
-    run(&mut server, messages_behind(script, struck))
+    let server = server_over(alloc, PlainRecords::new(alloc))?;
+    let server = server_after(server, &script.made, usize::MAX);
+    let server = server_after(server, &script.messages, count);
+    replies_of(server, messages_behind(script, struck))
 }
 
 /// Whether the replies are of the same bytes, one by one.
@@ -64,14 +72,14 @@ fn are_right(
 }
 
 /// Whether a server over the keeper goes on behind that message.
-fn keeper_goes_on<S: Alter + Drop>(
+fn keeper_goes_on<R: Records + Drop>(
     alloc: Global,
-    records: SqlRecords<S>,
+    records: R,
     script: &Script,
     struck: usize,
 ) -> Result<bool, NoAnswer> {
-    let mut server = server_over(alloc, records)?;
-    let replies = run(&mut server, messages_behind(script, struck))?;
+    let server = server_over(alloc, records)?;
+    let replies = replies_of(server, messages_behind(script, struck))?;
     are_right(alloc, script, struck, &replies)
 }
 

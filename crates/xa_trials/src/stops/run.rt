@@ -1,16 +1,15 @@
 //! A run of a script over files, one of which may be frozen. It ends with the first message that is
 //! refused, the one that the stop has struck.
 use crate::files::{File, StoreOfFiles, files_under, keeper_of};
-use crate::front_calls::serve;
+use crate::front_calls::ServerCalls;
 use crate::no_answer::NoAnswer;
 use crate::scripts::server_over;
-use sqlite::{Alter, Files};
+use sqlite::Files;
 use sqlite_disk::Disk;
 use std::alloc::Global;
 use xa_http::Message;
 use xa_records::Records;
-use xa_server::{Reply, Server};
-use xa_store::SqlRecords;
+use xa_server::Reply;
 use xa_value::Moment;
 
 /// What has become of a run of the script.
@@ -24,11 +23,11 @@ pub enum Run {
 }
 
 /// The number of the first message that is refused, from 1; 0 if none is.
-fn first_refused<R: Records>(server: &mut Server<R>, messages: &[(Moment, Message)]) -> usize {
+fn first_refused<V: ServerCalls>(server: &mut V, messages: &[(Moment, Message)]) -> usize {
     let mut number = 0usize;
     for (moment, message) in messages {
         number = number.saturating_add(1);
-        if let Reply::Refused(_) = serve(server, *moment, message) {
+        if let Reply::Refused(_) = server.reply_to(*moment, message) {
             return number;
         }
     }
@@ -37,11 +36,11 @@ fn first_refused<R: Records>(server: &mut Server<R>, messages: &[(Moment, Messag
 
 /// The number of the first message that a server over the keeper refuses, from 1, or 0 if none is; and the
 /// keeper, which is given back.
-fn first_refused_over<S: Alter + Drop>(
+fn first_refused_over<R: Records + Drop>(
     alloc: Global,
-    records: SqlRecords<S>,
+    records: R,
     messages: &[(Moment, Message)],
-) -> Result<(usize, SqlRecords<S>), NoAnswer> {
+) -> Result<(usize, R), NoAnswer> {
     let mut server = server_over(alloc, records)?;
     let refused = first_refused(&mut server, messages);
     Ok((refused, server.into_records()))
