@@ -1,6 +1,6 @@
 //! Rows of the bodies of routes: what a body is read as.
 use crate::answer::Answer;
-use crate::field::bytes_of;
+use crate::field::{bytes_of, only_bytes};
 use crate::no_answer::NoAnswer;
 use crate::references::push_reference;
 use std::alloc::Global;
@@ -10,8 +10,8 @@ use xa_policy::Reference;
 use xa_value::Items;
 
 /// The role and the token that the body gives to a domain.
-pub fn new_token(answer: &mut Answer, body: &str) -> Result<(), NoAnswer> {
-    let body = bytes_of(answer.alloc(), body)?;
+pub fn new_token(answer: &mut Answer, fields: &[&str]) -> Result<(), NoAnswer> {
+    let body = only_bytes(answer.alloc(), fields)?;
     let read = read_new_token(answer.alloc(), &body);
     if let Some(new) = answer.success(read) {
         answer.push_shown("", &new.role);
@@ -21,8 +21,8 @@ pub fn new_token(answer: &mut Answer, body: &str) -> Result<(), NoAnswer> {
 }
 
 /// The token that the body takes from a domain.
-pub fn old_token(answer: &mut Answer, body: &str) -> Result<(), NoAnswer> {
-    let body = bytes_of(answer.alloc(), body)?;
+pub fn old_token(answer: &mut Answer, fields: &[&str]) -> Result<(), NoAnswer> {
+    let body = only_bytes(answer.alloc(), fields)?;
     let read = read_old_token(answer.alloc(), &body);
     if let Some(token) = answer.success(read) {
         answer.push_field("", token.as_bytes());
@@ -44,8 +44,8 @@ pub fn push_root(
 }
 
 /// The root that the body sets.
-pub fn root(answer: &mut Answer, body: &str) -> Result<(), NoAnswer> {
-    let body = bytes_of(answer.alloc(), body)?;
+pub fn root(answer: &mut Answer, fields: &[&str]) -> Result<(), NoAnswer> {
+    let body = only_bytes(answer.alloc(), fields)?;
     let read = read_root(answer.alloc(), &body);
     match answer.success(read) {
         Some(root) => push_root(answer, "", &root),
@@ -61,8 +61,8 @@ pub fn push_rows(answer: &mut Answer, word: &str, rows: &[SourceRow]) -> Result<
 }
 
 /// The rows that the body gives to a source of attributes: the body that lists them.
-pub fn rows(answer: &mut Answer, body: &str) -> Result<(), NoAnswer> {
-    let body = bytes_of(answer.alloc(), body)?;
+pub fn rows(answer: &mut Answer, fields: &[&str]) -> Result<(), NoAnswer> {
+    let body = only_bytes(answer.alloc(), fields)?;
     let read = read_rows(answer.alloc(), &body);
     match answer.success(read) {
         Some(rows) => push_rows(answer, "", rows.as_slice()),

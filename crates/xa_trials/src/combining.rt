@@ -1,5 +1,6 @@
 //! Rows of combining: what an algorithm makes of the children.
 use crate::answer::Answer;
+use crate::field::first_field_and_rest;
 use crate::no_answer::NoAnswer;
 use xa_expr::{Fault, Matching};
 use xa_policy::{Alg, Child, Decision, combine};
@@ -52,7 +53,8 @@ fn child_of(field: &str) -> Result<Child, NoAnswer> {
 }
 
 /// What the algorithm makes of the children.
-pub fn combination(answer: &mut Answer, algorithm: &str, fields: &[&str]) -> Result<(), NoAnswer> {
+pub fn combination(answer: &mut Answer, fields: &[&str]) -> Result<(), NoAnswer> {
+    let (algorithm, fields) = first_field_and_rest(fields)?;
     let algorithm = algorithm_named(algorithm)?;
     let mut children = Vec::new(answer.alloc());
     for field in fields {

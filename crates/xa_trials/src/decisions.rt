@@ -3,10 +3,9 @@
 use crate::answer::Answer;
 use crate::bodies::rows_of;
 use crate::clock::moment_of;
-use crate::documents::active_of;
 use crate::field::{bytes_of, word_and_text};
 use crate::no_answer::NoAnswer;
-use crate::references::root_of;
+use crate::references::{active_of, root_of};
 use std::alloc::Global;
 use xa_decide::{SourceRow, View};
 use xa_link::Active;
@@ -71,19 +70,29 @@ fn view_of(alloc: Global, case: Case) -> Result<View, NoAnswer> {
     Ok(view)
 }
 
+/// Adds the body of the response to the request whose body the field has.
+fn push_response(
+    answer: &mut Answer,
+    view: &View,
+    field: &str,
+    moment: Moment,
+) -> Result<(), NoAnswer> {
+    let body = bytes_of(answer.alloc(), field)?;
+    match xa_decide::answer(answer.alloc(), view, &body, moment)? {
+        Some(response) => answer.push_field("", &response),
+        None => answer.push_word("!NotJson"),
+    }
+    Ok(())
+}
+
 /// The body of the response to the last field, the body of a request.
 pub fn decision(answer: &mut Answer, fields: &[&str]) -> Result<(), NoAnswer> {
     let [fields @ .., body] = fields else {
         return Err(NoAnswer::FieldCount);
     };
     let alloc = answer.alloc();
-    let body = bytes_of(alloc, body)?;
     let case = case_of(alloc, fields)?;
     let moment = case.moment;
     let view = view_of(alloc, case)?;
-    match xa_decide::answer(alloc, &view, &body, moment)? {
-        Some(body) => answer.push_field("", &body),
-        None => answer.push_word("!NotJson"),
-    }
-    Ok(())
+    push_response(answer, &view, body, moment)
 }

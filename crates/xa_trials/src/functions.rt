@@ -1,7 +1,7 @@
 //! Rows of functions: what a name names, and what a function gives for its arguments.
 use crate::answer::Answer;
 use crate::arguments::{arguments, values};
-use crate::field::text_of;
+use crate::field::{first_field_and_rest, only_text};
 use crate::no_answer::NoAnswer;
 use std::fmt::Debug;
 use xa_bag::{BagFault, ValueOrBag, apply_bag_function, apply_higher_order};
@@ -9,8 +9,8 @@ use xa_func::{BagFunction, FuncFault, FuncId, HigherOrder, Status};
 use xa_value::{DataType, OrMemory, Value};
 
 /// The function that the name names, and its signature.
-pub fn function(answer: &mut Answer, field: &str) -> Result<(), NoAnswer> {
-    let name = text_of(answer.alloc(), field)?;
+pub fn function(answer: &mut Answer, fields: &[&str]) -> Result<(), NoAnswer> {
+    let name = only_text(answer.alloc(), fields)?;
     match FuncId::from_uri(name.as_str()) {
         Some(function) => {
             answer.push_shown("", &function);
@@ -96,8 +96,9 @@ fn apply_to_bags(
     }
 }
 
-/// What the function of that name gives for the arguments.
-pub fn apply(answer: &mut Answer, name: &str, fields: &[&str]) -> Result<(), NoAnswer> {
+/// What the function that the first field names gives for the arguments.
+pub fn apply(answer: &mut Answer, fields: &[&str]) -> Result<(), NoAnswer> {
+    let (name, fields) = first_field_and_rest(fields)?;
     let arguments = arguments(answer.alloc(), fields)?;
     match FuncId::from_uri(name) {
         Some(FuncId::Bag(function, data_type)) => {
@@ -122,9 +123,10 @@ fn apply_each(answer: &mut Answer, function: HigherOrder, inner: FuncId, argumen
     }
 }
 
-/// What the higher-order function gives for the inner function that the first field names, and the arguments.
-pub fn higher(answer: &mut Answer, name: &str, fields: &[&str]) -> Result<(), NoAnswer> {
-    let [inner, fields @ ..] = fields else {
+/// What the higher-order function of that name gives for the inner function that the next field names, and
+/// the arguments.
+pub fn higher(answer: &mut Answer, fields: &[&str]) -> Result<(), NoAnswer> {
+    let [name, inner, fields @ ..] = fields else {
         return Err(NoAnswer::FieldCount);
     };
     let arguments = arguments(answer.alloc(), fields)?;

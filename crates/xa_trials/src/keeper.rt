@@ -5,11 +5,11 @@ pub(crate) mod changes;
 pub(crate) mod readings;
 
 use crate::answer::Answer;
-use crate::field::{first_word_and_rest, kept_text, number_of};
+use crate::field::{first_field_and_rest, first_word_and_rest, kept_text, number_of};
 use crate::keeper::changes::{
     create, delete, drop_token, put_token, remove, set_active, set_root, set_source, upload,
 };
-use crate::keeper::readings::{document, domains, gate, list, view};
+use crate::keeper::readings::{document, domains, faults, gate, is_open, list, view};
 use crate::keeper_rows::{KeeperRow, compare_over};
 use crate::keepers::tables_with;
 use crate::no_answer::NoAnswer;
@@ -34,16 +34,15 @@ fn read<R: Records>(
     call: &KeeperCall<'_>,
 ) -> Result<(), NoAnswer> {
     match call.word {
-        "faults" => answer.push_shown("", &records.faults()),
-        "open" => answer.push_shown("", &records.is_open()),
+        "faults" => faults(answer, records),
+        "open" => is_open(answer, records),
         "domains" => domains(answer, records),
-        "gate" | "role" => gate(answer, records, call)?,
-        "view" => view(answer, records, call)?,
-        "document" => document(answer, records, call)?,
-        "list" => list(answer, records, call)?,
-        _ => return Err(NoAnswer::Malformed),
+        "gate" | "role" => gate(answer, records, call),
+        "view" => view(answer, records, call),
+        "document" => document(answer, records, call),
+        "list" => list(answer, records, call),
+        _ => Err(NoAnswer::Malformed),
     }
-    Ok(())
 }
 
 /// Makes the call that the word says: a change, else a reading.
@@ -53,19 +52,18 @@ fn make_call<R: Records>(
     call: &KeeperCall<'_>,
 ) -> Result<(), NoAnswer> {
     match call.word {
-        "create" => create(answer, records, call)?,
+        "create" => create(answer, records, call),
         "remove" => remove(answer, records, call),
-        "put" => put_token(answer, records, call)?,
-        "drop" => drop_token(answer, records, call)?,
-        "upload" => upload(answer, records, call)?,
-        "activate" => set_active(answer, records, call, true)?,
-        "deactivate" => set_active(answer, records, call, false)?,
-        "delete" => delete(answer, records, call)?,
-        "root" => set_root(answer, records, call)?,
-        "source" => set_source(answer, records, call)?,
-        _ => read(answer, records, call)?,
+        "put" => put_token(answer, records, call),
+        "drop" => drop_token(answer, records, call),
+        "upload" => upload(answer, records, call),
+        "activate" => set_active(answer, records, call, true),
+        "deactivate" => set_active(answer, records, call, false),
+        "delete" => delete(answer, records, call),
+        "root" => set_root(answer, records, call),
+        "source" => set_source(answer, records, call),
+        _ => read(answer, records, call),
     }
-    Ok(())
 }
 
 /// Makes the call of the field.
@@ -90,7 +88,8 @@ pub fn make_all<R: Records + Drop>(
 
 /// What keepers that begin with one domain answer to the calls. The text has the domain's name, its number
 /// and its epoch, as `NAME NUMBER EPOCH`.
-pub fn keeper_with(answer: &mut Answer, text: &str, calls: &[&str]) -> Result<(), NoAnswer> {
+pub fn keeper_with(answer: &mut Answer, fields: &[&str]) -> Result<(), NoAnswer> {
+    let (text, calls) = first_field_and_rest(fields)?;
     let alloc = answer.alloc();
     let (name, numbers) = first_word_and_rest(text);
     let (number, epoch) = first_word_and_rest(numbers);

@@ -1,5 +1,6 @@
 //! Rows of linking: the tree that a reference leads to.
 use crate::answer::Answer;
+use crate::field::first_field_and_rest;
 use crate::no_answer::NoAnswer;
 use crate::references::{documents_of, reference_of};
 use xa_link::link;
@@ -30,7 +31,8 @@ fn push_children(answer: &mut Answer, children: &[Linked]) {
 }
 
 /// The tree that the reference leads to among the active documents of these texts.
-pub fn tree(answer: &mut Answer, root: &str, texts: &[&str]) -> Result<(), NoAnswer> {
+pub fn tree(answer: &mut Answer, fields: &[&str]) -> Result<(), NoAnswer> {
+    let (root, texts) = first_field_and_rest(fields)?;
     let alloc = answer.alloc();
     let root = reference_of(alloc, root)?;
     let documents = documents_of(alloc, texts)?;

@@ -1,7 +1,7 @@
 //! Rows of streams and their parts: the messages of a stream, where a message's target leads, and which
 //! texts are tokens and names.
 use crate::answer::Answer;
-use crate::field::bytes_of;
+use crate::field::{bytes_of, only_bytes, two_fields};
 use crate::no_answer::NoAnswer;
 use std::alloc::Global;
 use xa_http::{Message, Next, Route, RouteFault, Routes, Session};
@@ -94,7 +94,8 @@ fn push_route(answer: &mut Answer, route: &Route) {
 }
 
 /// What a message of that method and target asks for.
-pub fn route(answer: &mut Answer, method: &str, target: &str) -> Result<(), NoAnswer> {
+pub fn route(answer: &mut Answer, fields: &[&str]) -> Result<(), NoAnswer> {
+    let (method, target) = two_fields(fields)?;
     let message = message_of(answer.alloc(), method, target)?;
     let routes = Routes::new(answer.alloc())?;
     match routes.route(answer.alloc(), &message) {
@@ -107,26 +108,31 @@ pub fn route(answer: &mut Answer, method: &str, target: &str) -> Result<(), NoAn
 }
 
 /// Whether the text has the shape of a token.
-pub fn token(answer: &mut Answer, field: &str) -> Result<(), NoAnswer> {
-    let text = bytes_of(answer.alloc(), field)?;
+pub fn token(answer: &mut Answer, fields: &[&str]) -> Result<(), NoAnswer> {
+    let text = only_bytes(answer.alloc(), fields)?;
     answer.push_shown("", &is_token(&text));
     Ok(())
 }
 
 /// Whether the text has the shape of a domain's name.
-pub fn domain(answer: &mut Answer, field: &str) -> Result<(), NoAnswer> {
-    let text = bytes_of(answer.alloc(), field)?;
+pub fn domain(answer: &mut Answer, fields: &[&str]) -> Result<(), NoAnswer> {
+    let text = only_bytes(answer.alloc(), fields)?;
     answer.push_shown("", &is_domain_name(&text));
     Ok(())
 }
 
-/// Whether the bytes are the digest of the text.
-pub fn digest(answer: &mut Answer, text: &str, field: &str) -> Result<(), NoAnswer> {
-    let text = bytes_of(answer.alloc(), text)?;
-    let bytes = bytes_of(answer.alloc(), field)?;
-    let bytes = <[u8; 32]>::try_from(bytes.as_slice())
-        .ok()
-        .ok_or(NoAnswer::Malformed)?;
-    answer.push_shown("", &(Digest::of(&text) == Digest::from_bytes(bytes)));
+/// The digest of the bytes of the field.
+fn digest_in(alloc: Global, field: &str) -> Result<Digest, NoAnswer> {
+    let bytes = bytes_of(alloc, field)?;
+    let bytes = <[u8; 32]>::try_from(bytes.as_slice()).ok();
+    Ok(Digest::from_bytes(bytes.ok_or(NoAnswer::Malformed)?))
+}
+
+/// Whether the bytes of the second field are the digest of those of the first.
+pub fn digest(answer: &mut Answer, fields: &[&str]) -> Result<(), NoAnswer> {
+    let (text, bytes) = two_fields(fields)?;
+    let digest = Digest::of(&bytes_of(answer.alloc(), text)?);
+    let other = digest_in(answer.alloc(), bytes)?;
+    answer.push_shown("", &(digest == other));
     Ok(())
 }

@@ -1,7 +1,7 @@
 //! Rows of plain members: the value of a member under a type, and as which member it is written.
 use crate::answer::Answer;
 use crate::arguments::type_named;
-use crate::field::{number_of, text_of};
+use crate::field::{number_of, text_of, two_fields};
 use crate::no_answer::NoAnswer;
 use xa_value::{DataType, Plain, Text, TextRef, Value};
 
@@ -30,7 +30,8 @@ fn push_both(
 
 /// The value of the member under the type, and the member as which it is written. The member is a
 /// field `text:TEXT`, `boolean:true`, `boolean:false` or `integer:DIGITS`.
-pub fn plain_member(answer: &mut Answer, name: &str, member: &str) -> Result<(), NoAnswer> {
+pub fn plain_member(answer: &mut Answer, fields: &[&str]) -> Result<(), NoAnswer> {
+    let (name, member) = two_fields(fields)?;
     let data_type = type_named(name)?;
     let (kind, field) = member.split_once(':').ok_or(NoAnswer::Malformed)?;
     match kind {

@@ -3,14 +3,13 @@ ghost use Rattle.std.specs.Prelude.{IfOk};
 ghost use Rattle.xa_records.specs.DomainState.{IsDocumentOf};
 
 use crate::answer::Answer;
-use crate::documents::active_of;
-use crate::field::bytes_of;
+use crate::field::{bytes_of, first_field_and_rest};
 use crate::no_answer::NoAnswer;
 use std::alloc::Global;
 use xa_link::{Active, resolve};
 use xa_notation::{Parsed, read_root};
 use xa_policy::{DocumentKey, DocumentKind, Reference, Version};
-use xa_value::Text;
+use xa_value::{Items, Text};
 
 /// The root that the body of the field sets, if any.
 pub fn root_of(alloc: Global, field: &str) -> Result<Option<Reference>, NoAnswer> {
@@ -22,23 +21,6 @@ pub fn root_of(alloc: Global, field: &str) -> Result<Option<Reference>, NoAnswer
 /// The reference to which the body of the field sets the root.
 pub fn reference_of(alloc: Global, field: &str) -> Result<Reference, NoAnswer> {
     root_of(alloc, field)?.ok_or(NoAnswer::Malformed)
-}
-
-/// The active documents of these texts.
-pub fn documents_of(alloc: Global, texts: &[&str]) -> Result<Vec<Active>, NoAnswer> {
-    let mut documents = Vec::new(alloc);
-    for text in texts {
-        documents.push(active_of(alloc, text)?)?;
-    }
-    Ok(documents)
-}
-
-/// The place of the document for which the reference stands.
-pub fn resolution(answer: &mut Answer, reference: &str, texts: &[&str]) -> Result<(), NoAnswer> {
-    let reference = reference_of(answer.alloc(), reference)?;
-    let documents = documents_of(answer.alloc(), texts)?;
-    answer.push_shown_or_none(resolve(&documents, &reference));
-    Ok(())
 }
 
 /// The key of the document that the text is.
@@ -54,6 +36,37 @@ pub fn key_of(alloc: Global, text: &[u8]) -> Result<DocumentKey, NoAnswer>
 /// The key of the document of the field.
 pub fn key_in(alloc: Global, field: &str) -> Result<DocumentKey, NoAnswer> {
     key_of(alloc, &bytes_of(alloc, field)?)
+}
+
+/// The active document of the field.
+pub fn active_of(alloc: Global, field: &str) -> Result<Active, NoAnswer> {
+    let text = bytes_of(alloc, field)?;
+    let DocumentKey { kind, id, version } = key_of(alloc, &text)?;
+    let text = Items::from_vec(text);
+    Ok(Active {
+        kind,
+        id,
+        version,
+        text,
+    })
+}
+
+/// The active documents of these texts.
+pub fn documents_of(alloc: Global, texts: &[&str]) -> Result<Vec<Active>, NoAnswer> {
+    let mut documents = Vec::new(alloc);
+    for text in texts {
+        documents.push(active_of(alloc, text)?)?;
+    }
+    Ok(documents)
+}
+
+/// The place of the document for which the reference stands.
+pub fn resolution(answer: &mut Answer, fields: &[&str]) -> Result<(), NoAnswer> {
+    let (reference, texts) = first_field_and_rest(fields)?;
+    let reference = reference_of(answer.alloc(), reference)?;
+    let documents = documents_of(answer.alloc(), texts)?;
+    answer.push_shown_or_none(resolve(&documents, &reference));
+    Ok(())
 }
 
 /// Adds a field of the word and KIND|ID|.

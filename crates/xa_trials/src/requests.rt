@@ -1,6 +1,6 @@
 //! Rows of requests: what a body is read as, and the individual requests that it makes.
 use crate::answer::Answer;
-use crate::field::bytes_of;
+use crate::field::only_bytes;
 use crate::no_answer::NoAnswer;
 use xa_profile::{Attribute, CategoryObject, Individual, Request};
 
@@ -46,8 +46,8 @@ fn push_request(answer: &mut Answer, request: &Request) {
 }
 
 /// The request that the body is read as.
-pub fn request(answer: &mut Answer, body: &str) -> Result<(), NoAnswer> {
-    let body = bytes_of(answer.alloc(), body)?;
+pub fn request(answer: &mut Answer, fields: &[&str]) -> Result<(), NoAnswer> {
+    let body = only_bytes(answer.alloc(), fields)?;
     let read = Request::read(answer.alloc(), &body);
     if let Some(request) = answer.success(read) {
         push_request(answer, &request);
@@ -69,8 +69,8 @@ fn push_individual(answer: &mut Answer, individual: &Individual) {
 }
 
 /// The individual requests that the body makes: of each the places of its objects.
-pub fn individuals(answer: &mut Answer, body: &str) -> Result<(), NoAnswer> {
-    let body = bytes_of(answer.alloc(), body)?;
+pub fn individuals(answer: &mut Answer, fields: &[&str]) -> Result<(), NoAnswer> {
+    let body = only_bytes(answer.alloc(), fields)?;
     let request = Request::read(answer.alloc(), &body)
         .ok()
         .ok_or(NoAnswer::Malformed)?;

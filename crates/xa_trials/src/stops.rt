@@ -8,6 +8,7 @@ pub(crate) mod script;
 pub(crate) mod sweep;
 
 use crate::answer::Answer;
+use crate::field::first_field_and_rest;
 use crate::files::{File, FileName, StoreOfFiles, after_crash, file_named, files_of};
 use crate::no_answer::NoAnswer;
 use crate::stops::resumption::is_resumed;
@@ -149,11 +150,8 @@ fn push_files(
 /// How many stops come if the file that the word names is frozen at each of its calls in turn, and which
 /// messages they strike. After each stop the rest of the script has to be answered rightly; if none comes,
 /// all of it.
-pub fn stops<S: StoreOfFiles>(
-    answer: &mut Answer,
-    word: &str,
-    fields: &[&str],
-) -> Result<(), NoAnswer> {
+pub fn stops<S: StoreOfFiles>(answer: &mut Answer, fields: &[&str]) -> Result<(), NoAnswer> {
+    let (word, fields) = first_field_and_rest(fields)?;
     let frozen = file_named(word)?;
     let script = script_of::<S>(answer.alloc(), fields)?;
     let sweep = Sweep::new(answer.alloc(), script.messages.len())?;

@@ -5,6 +5,7 @@
 //! keeper's tables and no others. Of a store that is refused it says whether it holds something else than
 //! before.
 use crate::answer::Answer;
+use crate::field::first_field_and_rest;
 use crate::files::{File, StoreOfFiles, after_crash, files_under, keeper_of, new_files};
 use crate::keepers::{open_keeper, run_all};
 use crate::no_answer::NoAnswer;
@@ -94,11 +95,8 @@ fn judge<S: StoreOfFiles>(answer: &mut Answer, files: Files<File>) -> Result<(),
 
 /// What opening the store answers after a crash: after one that leaves only what was synced, and after one
 /// that leaves all that was written, which has to be answered the same.
-pub fn opening<S: StoreOfFiles>(
-    answer: &mut Answer,
-    word: &str,
-    statements: &[&str],
-) -> Result<(), NoAnswer> {
+pub fn opening<S: StoreOfFiles>(answer: &mut Answer, fields: &[&str]) -> Result<(), NoAnswer> {
+    let (word, statements) = first_field_and_rest(fields)?;
     let alloc = answer.alloc();
     let mut conn = new_store::<S>(alloc, word)?;
     run_all(alloc, &mut conn, statements)?;

@@ -1,15 +1,16 @@
 //! Rows of values: the types, what a text is read as, whether values are the same, and their order.
 use crate::answer::Answer;
 use crate::arguments::{type_named, value};
-use crate::field::{bytes_of, number_of, text_of};
+use crate::field::{bytes_of, number_of, only_field, only_number, only_text, text_of, two_fields};
 use crate::no_answer::NoAnswer;
+use std::alloc::Global;
 use xa_value::{
     Category, DataType, DayTimeDuration, Value, YearMonthDuration, category_uri, number_up_to,
 };
 
 /// The type that the name names: its name, its URI and its number.
-pub fn data_type(answer: &mut Answer, field: &str) -> Result<(), NoAnswer> {
-    let name = text_of(answer.alloc(), field)?;
+pub fn data_type(answer: &mut Answer, fields: &[&str]) -> Result<(), NoAnswer> {
+    let name = only_text(answer.alloc(), fields)?;
     match DataType::from_uri(name.as_str()) {
         Some(data_type) => {
             answer.push_word(data_type.name());
@@ -22,8 +23,8 @@ pub fn data_type(answer: &mut Answer, field: &str) -> Result<(), NoAnswer> {
 }
 
 /// The type of that number.
-pub fn data_type_of_number(answer: &mut Answer, number: &str) -> Result<(), NoAnswer> {
-    match DataType::from_number(number_of(number)?) {
+pub fn data_type_of_number(answer: &mut Answer, fields: &[&str]) -> Result<(), NoAnswer> {
+    match DataType::from_number(only_number(fields)?) {
         Some(data_type) => answer.push_word(data_type.name()),
         None => answer.push_word("!None"),
     }
@@ -31,7 +32,8 @@ pub fn data_type_of_number(answer: &mut Answer, number: &str) -> Result<(), NoAn
 }
 
 /// The URI for which the name of a category stands, and whether its shorthand is a subject category's.
-pub fn category(answer: &mut Answer, name: &str) -> Result<(), NoAnswer> {
+pub fn category(answer: &mut Answer, fields: &[&str]) -> Result<(), NoAnswer> {
+    let name = only_field(fields)?;
     answer.push_word(category_uri(name));
     if let Some(category) = Category::from_shorthand(name) {
         answer.push_shown("", &category.is_subject());
@@ -40,7 +42,8 @@ pub fn category(answer: &mut Answer, name: &str) -> Result<(), NoAnswer> {
 }
 
 /// What the text is read as under the type.
-pub fn read(answer: &mut Answer, name: &str, field: &str) -> Result<(), NoAnswer> {
+pub fn read(answer: &mut Answer, fields: &[&str]) -> Result<(), NoAnswer> {
+    let (name, field) = two_fields(fields)?;
     let data_type = type_named(name)?;
     let text = text_of(answer.alloc(), field)?;
     let read = Value::read(answer.alloc(), data_type, text.as_str());
@@ -50,18 +53,22 @@ pub fn read(answer: &mut Answer, name: &str, field: &str) -> Result<(), NoAnswer
     Ok(())
 }
 
+/// The values of the two fields.
+fn two_values(alloc: Global, fields: &[&str]) -> Result<(Value, Value), NoAnswer> {
+    let (left, right) = two_fields(fields)?;
+    Ok((value(alloc, left)?, value(alloc, right)?))
+}
+
 /// Whether two values are the same.
-pub fn same(answer: &mut Answer, left: &str, right: &str) -> Result<(), NoAnswer> {
-    let left = value(answer.alloc(), left)?;
-    let right = value(answer.alloc(), right)?;
+pub fn same(answer: &mut Answer, fields: &[&str]) -> Result<(), NoAnswer> {
+    let (left, right) = two_values(answer.alloc(), fields)?;
     answer.push_shown("", &left.same(&right));
     Ok(())
 }
 
 /// The order of two values.
-pub fn order(answer: &mut Answer, left: &str, right: &str) -> Result<(), NoAnswer> {
-    let left = value(answer.alloc(), left)?;
-    let right = value(answer.alloc(), right)?;
+pub fn order(answer: &mut Answer, fields: &[&str]) -> Result<(), NoAnswer> {
+    let (left, right) = two_values(answer.alloc(), fields)?;
     answer.push_shown_or_none(left.order(&right));
     Ok(())
 }
@@ -75,21 +82,22 @@ fn push_duration(answer: &mut Answer, duration: Option<Value>) {
 }
 
 /// The duration of this many months.
-pub fn months(answer: &mut Answer, number: &str) -> Result<(), NoAnswer> {
-    let duration = YearMonthDuration::new(number_of(number)?).map(Value::YearMonthDuration);
+pub fn months(answer: &mut Answer, fields: &[&str]) -> Result<(), NoAnswer> {
+    let duration = YearMonthDuration::new(only_number(fields)?).map(Value::YearMonthDuration);
     push_duration(answer, duration);
     Ok(())
 }
 
 /// The duration of this many nanoseconds.
-pub fn nanoseconds(answer: &mut Answer, number: &str) -> Result<(), NoAnswer> {
-    let duration = DayTimeDuration::new(number_of(number)?).map(Value::DayTimeDuration);
+pub fn nanoseconds(answer: &mut Answer, fields: &[&str]) -> Result<(), NoAnswer> {
+    let duration = DayTimeDuration::new(only_number(fields)?).map(Value::DayTimeDuration);
     push_duration(answer, duration);
     Ok(())
 }
 
 /// The number that the digits write, if it is at most `most`.
-pub fn number(answer: &mut Answer, most: &str, field: &str) -> Result<(), NoAnswer> {
+pub fn number(answer: &mut Answer, fields: &[&str]) -> Result<(), NoAnswer> {
+    let (most, field) = two_fields(fields)?;
     let digits = bytes_of(answer.alloc(), field)?;
     answer.push_shown_or_none(number_up_to(number_of(most)?, &digits));
     Ok(())

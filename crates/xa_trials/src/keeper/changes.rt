@@ -39,8 +39,13 @@ pub fn create<R: Records>(
 }
 
 /// Removes the domain.
-pub fn remove<R: Records>(answer: &mut Answer, records: &mut R, call: &KeeperCall<'_>) {
+pub fn remove<R: Records>(
+    answer: &mut Answer,
+    records: &mut R,
+    call: &KeeperCall<'_>,
+) -> Result<(), NoAnswer> {
     push_done(answer, records.remove(answer.alloc(), &call.name));
+    Ok(())
 }
 
 /// The role of that name.

@@ -20,8 +20,20 @@ fn finding_of<T: Drop>(answer: &mut Answer, read: Result<Option<T>, Failure>) ->
     None
 }
 
+/// How many failures of the storage there were.
+pub fn faults<R: Records>(answer: &mut Answer, records: &mut R) -> Result<(), NoAnswer> {
+    answer.push_shown("", &records.faults());
+    Ok(())
+}
+
+/// Whether the keeper is open.
+pub fn is_open<R: Records>(answer: &mut Answer, records: &mut R) -> Result<(), NoAnswer> {
+    answer.push_shown("", &records.is_open());
+    Ok(())
+}
+
 /// The names of all domains.
-pub fn domains<R: Records>(answer: &mut Answer, records: &mut R) {
+pub fn domains<R: Records>(answer: &mut Answer, records: &mut R) -> Result<(), NoAnswer> {
     let read = records.domains(answer.alloc());
     if let Some(names) = finding_of(answer, read.map(Some)) {
         for name in names.as_slice() {
@@ -29,12 +41,17 @@ pub fn domains<R: Records>(answer: &mut Answer, records: &mut R) {
         }
         answer.push_word(".");
     }
+    Ok(())
 }
 
 /// The role of the token of that digest.
 fn role_of(tokens: &[Token], digest: Digest) -> Option<Role> {
-    let found = tokens.iter().find(|token| token.digest == digest)?;
-    Some(found.role)
+    for token in tokens {
+        if token.digest == digest {
+            return Some(token.role);
+        }
+    }
+    None
 }
 
 /// The domain's number and epoch, and how many tokens it has; or the role of the token, if one is named.
