@@ -44,8 +44,12 @@ impl Words {
 
     /// The text for which the word stands.
     fn text(&self, word: &str) -> Result<&str, NoAnswer> {
-        let found = self.words.iter().find(|other| other.word.as_str() == word);
-        Ok(found.ok_or(NoAnswer::Malformed)?.text.as_str())
+        for defined in &self.words {
+            if defined.word.as_str() == word {
+                return Ok(defined.text.as_str());
+            }
+        }
+        Err(NoAnswer::Malformed)
     }
 
     /// Defines the word before the first tab by what stands behind it. A word is defined once.

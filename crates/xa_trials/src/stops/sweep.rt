@@ -6,6 +6,8 @@ use std::alloc::Global;
 /// Which messages were struck, and what a crash has left the last time.
 #[derive(Drop)]
 pub struct Sweep {
+    /// How many stops there were.
+    stops: u64,
     /// How many stops came before the first message, and then how many have struck each.
     counts: Vec<u64>,
     /// The number of the message that was struck the last time.
@@ -20,6 +22,7 @@ impl Sweep {
         let mut counts = Vec::new(alloc);
         counts.resize(messages.saturating_add(1), 0u64)?;
         Ok(Sweep {
+            stops: 0,
             counts,
             struck: usize::MAX,
             left: Vec::new(alloc),
@@ -28,6 +31,7 @@ impl Sweep {
 
     /// Counts a stop that has struck that message.
     pub fn count(&mut self, struck: usize) {
+        self.stops = self.stops.saturating_add(1);
         if let Some(count) = self.counts.get_mut(struck) {
             *count = count.saturating_add(1);
         }
@@ -45,11 +49,7 @@ impl Sweep {
     /// Adds how many stops there were, and how many have struck each message, as `NUMBER COUNT`; 0 is
     /// before the first.
     pub fn push(&self, answer: &mut Answer) {
-        let stops = self
-            .counts
-            .iter()
-            .fold(0u64, |stops, count| stops.saturating_add(*count));
-        answer.push_shown("stops ", &stops);
+        answer.push_shown("stops ", &self.stops);
         for (number, count) in self.counts.iter().enumerate() {
             answer.push_shown("", &number);
             answer.append_shown(" ", count);
