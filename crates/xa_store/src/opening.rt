@@ -118,10 +118,7 @@ fn make_and_check<S: Alter>(alloc: Global, conn: &mut Connection<S>) -> Result<T
 }
 
 /// Checks tables of schema 1, and then brings them into schema 2. It says which tables there were.
-fn check_and_migrate<S: Alter>(
-    alloc: Global,
-    conn: &mut Connection<S>,
-) -> Result<Tables, OpenError>
+fn check_and_migrate<S: Alter>(alloc: Global, conn: &mut Connection<S>) -> Result<Tables, OpenError>
     requires taken { has_room (state S.Store conn.old).now.schema ≡ false }
     requires first { schema_version_in (state S.Store conn.old).now.schema ≡ Schema1 }
     ensures { Loads (state S.Store conn.old) (state S.Store conn.new) result }

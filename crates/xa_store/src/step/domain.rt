@@ -46,10 +46,7 @@ pub(crate) fn set_epoch<S: Alter>(
     execute_in(
         tx,
         sql::SET_EPOCH,
-        &[
-            ValueRef::Int(raised.number),
-            ValueRef::Int(raised.epoch),
-        ],
+        &[ValueRef::Int(raised.number), ValueRef::Int(raised.epoch)],
     )
 }
 
