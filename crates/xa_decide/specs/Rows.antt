@@ -41,11 +41,11 @@ rows_of body = json body >>= rows
 
 -- ---- written: the members of an object stand in the order of their names' bytes
 
--- a member, and those behind it
+-- a member, and those after it
 abbrev pub with_member : Member → Data → Members → Members
 with_member name d others = put_member (name_of name) d others
 
--- a text that may be left out, and those behind it
+-- a text that may be left out, and those after it
 abbrev pub with_text_if_any : Member → Option (List ℕ) → Members → Members
 with_text_if_any name None others = others
 with_text_if_any name (Some text) others = with_member name (string text) others

@@ -160,7 +160,7 @@ impl<'a> IndividualObjects<'a> {
     pub(crate) fn keeps_types(&self)
         ensures { All IsOfTypes self.now }
     {
-        // Nothing is done: the clause is for the prover, a part of the type's invariant.
+        // For the proof: the clause, a part of the type's invariant.
         let _ = &self.order;
     }
 }

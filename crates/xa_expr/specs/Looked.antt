@@ -15,7 +15,7 @@ abbrev pub looked : Value → List Value → Looked
 looked sought [] = Nothing
 looked sought (v ∷ vs) = if list_any (same sought) (v ∷ vs) then Found else NotFound
 
--- a look at some values, and one at others behind them
+-- a look at some values, and one at others after them
 abbrev pub joined : Looked → Looked → Looked
 joined Nothing next = next
 joined Found next = Found

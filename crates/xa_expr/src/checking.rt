@@ -63,7 +63,7 @@ fn takes_count(function: FuncId, count: usize) -> bool
     }
 }
 
-/// Whether the function takes the arguments. For the prover: the clause is by `accepted`, as the definitions
+/// Whether the function takes the arguments. For the proof: the clause is by `accepted`, as the definitions
 /// are.
 fn accepts(function: FuncId, arguments: &[Typed]) -> bool
     ensures { result ≡ accepted (signature_of function) (map kind_of_typed arguments.now) }
@@ -84,7 +84,7 @@ fn apply_function(function: FuncId, arguments: Items<Typed>) -> Result<Typed, Ch
     Ok(Typed::Apply(function, arguments))
 }
 
-/// Whether the function is one of values, and takes a value of each argument. For the prover: the clause is
+/// Whether the function is one of values, and takes a value of each argument. For the proof: the clause is
 /// by `accepted`, as the definitions are.
 fn takes_each(function: FuncId, arguments: &[Typed]) -> bool
     ensures { result ≡ is_scalar function

@@ -116,7 +116,7 @@ fn prepare<C: Context>(
     }
 }
 
-/// What the expression comes to. What is worked out for it is put behind the results.
+/// What the expression comes to. What is worked out for it is put after the results.
 fn value_with<C: Context>(
     alloc: Global,
     context: &C,

@@ -57,7 +57,7 @@ impl Looked {
         }
     }
 
-    /// This look at some values, joined with the next one at those behind them.
+    /// This look at some values, joined with the next one at those after them.
     pub fn and(self, next: Looked) -> Looked
         ensures { result ≡ joined self next }
     {

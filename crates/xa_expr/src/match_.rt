@@ -184,7 +184,7 @@ impl Match {
     }
 }
 
-/// Whether a function of the signature takes arguments of these two kinds. For the prover: the clause is by
+/// Whether a function of the signature takes arguments of these two kinds. For the proof: the clause is by
 /// `accepted`, as the definitions are.
 fn takes_both(signature: Signature, first: Kind, second: Kind) -> bool
     ensures { result ≡ accepted signature (first ∷ second ∷ []) }

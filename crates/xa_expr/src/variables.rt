@@ -86,7 +86,7 @@ impl Variables {
         Ok(Typed::Variable(*place, kind))
     }
 
-    /// Checks the expression under the variables so far, and puts its definition behind them. If a variable
+    /// Checks the expression under the variables so far, and puts its definition after them. If a variable
     /// of the name is there already, the answer is false, whatever the expression. If the expression has a
     /// fault, the error is that of `check`. In both cases nothing changes.
     pub fn define(

@@ -87,12 +87,12 @@ standing_of reference document =
     ordering_then (compare_names (name reference.kind reference.id) (name_of document))
     (by_version reference document.version)
 
--- where the document at a place stands to those that may fit: behind all of them, if there is none
+-- where the document at a place stands to those that may fit: after all of them, if there is none
 abbrev pub standing : Reference → Option Active → Ordering
 standing reference None = Greater
 standing reference (Some document) = standing_of reference document
 
--- the places go from those before what may fit to those behind it
+-- the places go from those before what may fit to those after it
 abbrev pub IsFalling : List Active → Reference → List ℕ → Type 0
 IsFalling active reference places =
     IsNonDecreasingBy (λ place. ordering_index (standing reference (slice_get active place))) places

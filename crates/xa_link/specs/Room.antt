@@ -40,7 +40,7 @@ set_fitted room set children = do
   fitting ← all_fitted left children
   Ok (record { part = PolicySet set fitting.part; room = fitting.room })
 
--- trees behind those that are there, and the room that they leave
+-- trees after those that are there, and the room that they leave
 abbrev pub fitted_behind : List Linked → Result (Fitted (List Linked)) LinkError
     → Result (Fitted (List Linked)) LinkError
 fitted_behind before (Ok others) = Ok (record { part = before ++ others.part; room = others.room })

@@ -16,7 +16,7 @@ const MAX_UNSORTED_CHILDREN: usize = 24;
 
 /// How many documents may be looked at in vain for one tree, once they are in order: they take some 0.2
 /// seconds. A reference whose pattern begins with `*` may look at each version of its id. A tree of 1,000
-/// policies, each of which is found behind 1,023 others, takes a quarter of it.
+/// policies, each of which is found after 1,023 others, takes a quarter of it.
 const MAX_LOOKS: u32 = 4_096_000;
 
 /// Active documents, which are put in order when so many references are to be resolved that this pays.
@@ -100,7 +100,7 @@ fn fits_at(active: &[Active], place: usize, reference: &Reference) -> bool
     }
 }
 
-/// The first of the places whose document fits. The search ends at the first place behind those that may
+/// The first of the places whose document fits. The search ends at the first place after those that may
 /// fit. Each look in vain before that takes one of those that are left; without one it is answered as if
 /// memory were wanting.
 fn first_that_fits(

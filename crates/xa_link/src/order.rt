@@ -126,7 +126,7 @@ fn is_too_early(reference: &Reference, version: &Version) -> bool
 }
 
 /// Where the version stands to those that may do, the newest being the first: Less before them, Equal
-/// among them, Greater behind them.
+/// among them, Greater after them.
 fn by_version(reference: &Reference, version: &Version) -> Ordering
     ensures { result ≡ by_version reference.now version.now }
 {
@@ -140,7 +140,7 @@ fn by_version(reference: &Reference, version: &Version) -> Ordering
 }
 
 /// Where the document stands to those that may fit the reference: Less before them, Equal among them,
-/// Greater behind them.
+/// Greater after them.
 fn standing_of(reference: &Reference, document: &Active) -> Ordering
     ensures { result ≡ standing_of reference.now document.now }
 {

@@ -138,7 +138,7 @@ is_taken variables name = list_any (λ v. bytes_eq v.name name) variables
 abbrev pub free_name : List WrittenVariable → List ℕ → Result (List ℕ) NotationError
 free_name variables name = if is_taken variables name then Err BadValue else Ok name
 
--- definitions with one behind them (5.23)
+-- definitions with one after them (5.23)
 unfoldable pub behind_one : List WrittenVariable → Data → Result (List WrittenVariable) NotationError
 behind_one variables d = do
   _ ← fits table.VariableDefinition d
@@ -146,7 +146,7 @@ behind_one variables d = do
   expression ← needed_member member.Expression d >>= expression
   Ok (variables ++ record { name = name; expression = expression } ∷ [])
 
--- definitions behind others, in order
+-- definitions after others, in order
 abbrev pub written_variables : List WrittenVariable → Items → Result (List WrittenVariable) NotationError
 written_variables variables no_items = Ok variables
 written_variables variables (item d ds) = behind_one variables d >>= (λ vs. written_variables vs ds)

@@ -46,7 +46,7 @@ typed_any_of a = collected (map typed_all_of a.all_of) >>= (λ all_of. Ok (recor
 abbrev pub typed_target : WrittenTarget → Result Target CheckError
 typed_target t = collected (map typed_any_of t.any_of) >>= (λ any_of. Ok (record { any_of = any_of }))
 
--- variables (5.23), behind those before them: an expression may name what is before it. Of two of one name the first
+-- variables (5.23), after those before them: an expression may name what is before it. Of two of one name the first
 -- stands.
 abbrev pub typed_variables : List Definition → List WrittenVariable → Result (List Definition) CheckError
 typed_variables before [] = Ok before

@@ -244,7 +244,7 @@ pub(crate) fn not_empty(items: &[Json]) -> Result<&[Json], NotationError>
     Ok(items)
 }
 
-/// Each of the values, read in order, behind the items. `each` gives none: they are a parameter for the
+/// Each of the values, read in order, after the items. `each` gives none: they are a parameter for the
 /// prover, since what the loop keeps is this clause of the items so far.
 fn each_behind<R: Reader>(
     alloc: Global,

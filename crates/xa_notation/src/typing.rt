@@ -84,7 +84,7 @@ fn typed_target(alloc: Global, written: WrittenTarget) -> Result<Target, OrMemor
     Ok(Target { any_of })
 }
 
-/// The typed variables: each is defined behind those before it.
+/// The typed variables: each is defined after those before it.
 #[tactic(auto, using(crate::proofs::AddingLemmas::variable_first))]
 fn typed_variables(
     alloc: Global,
@@ -100,7 +100,7 @@ fn typed_variables(
     Ok(variables)
 }
 
-/// Puts the typed rule behind those that the policy has.
+/// Puts the typed rule after those that the policy has.
 fn add_rule(
     alloc: Global,
     policy: &mut Policy,
@@ -126,7 +126,7 @@ fn add_rule(
     )
 }
 
-/// The policy with the typed rules behind those that it has.
+/// The policy with the typed rules after those that it has.
 #[tactic(auto, using(crate::proofs::AddingLemmas::rule_first, crate::proofs::AddingLemmas::rules_end))]
 fn with_rules(
     alloc: Global,

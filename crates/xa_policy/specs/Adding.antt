@@ -1,4 +1,4 @@
--- How a policy and a policy set are built, step by step: rules one behind the other, and obligations and advice in
+-- How a policy and a policy set are built, step by step: rules one after the other, and obligations and advice in
 -- place of none.
 use Rattle.std.specs.Prelude.{List, [], ◌∷◌, ◌++◌, Result, Ok}
 use Rattle.xa_value.specs.Gives.{◌>>=◌}
@@ -14,7 +14,7 @@ use Rattle.xa_policy.specs.Policy.{PolicyParts, SetParts}
 abbrev pub no_expressions : DutyExpressions Typed
 no_expressions = record { obligations = []; advice = [] }
 
--- the policy with these rules behind those that it has
+-- the policy with these rules after those that it has
 abbrev pub with_rules : PolicyParts → List (Rule Typed) → PolicyParts
 with_rules p rules =
     record {
@@ -26,7 +26,7 @@ with_rules p rules =
       duties = p.duties;
     }
 
--- the policy with a rule behind those that it has, if the rule passes
+-- the policy with a rule after those that it has, if the rule passes
 abbrev pub rule_added : PolicyParts → Rule Expr → Result PolicyParts CheckError
 rule_added p rule = checked_rule p.variables rule >>= (λ r. Ok (with_rules p (r ∷ [])))
 

@@ -3,7 +3,7 @@ use Rattle.std.specs.Prelude.{◌≡◌, ℕ, ◌-◌, ◌≤◌, List, ◌++◌
 use Rattle.std.proofs.Common.{sym, ap, subst, ◌∙◌}
 use Rattle.std.proofs.lemmas.List.{take-append-drop, length-take-le}
 
--- `count` items are in the first places, and `filler` in each place behind them
+-- `count` items are in the first places, and `filler` in each place after them
 pub record IsRoom {X : Type 0} (filler : X) (places : List X) (count : ℕ) : Type 0 where
   pub size : length places ≡ 8
   pub within : count ≤ 8

@@ -52,7 +52,7 @@ outcome effect Match condition = by_condition effect condition
 outcome effect NoMatch condition = not_applicable
 outcome effect (Indeterminate fault) condition = left_open effect fault
 
--- a Permit or a Deny with duties behind those that it has, or left open by the first fault in them (7.18; the fault's
+-- a Permit or a Deny with duties after those that it has, or left open by the first fault in them (7.18; the fault's
 -- part is this project's choice)
 abbrev pub with_found : Effect → Verdict → Result DutyLists Fault → Verdict
 with_found effect e (Ok found) = record { decision = e.decision; status = e.status; duties = and_then e.duties found }

@@ -61,7 +61,7 @@ abbrev pub ending_decision : Alg → Decision → Decision
 ending_decision FirstApplicable d = first_applicable (d ∷ [])
 ending_decision _ d = d
 
--- the decision so far with those of the children behind, one after another
+-- the decision so far with those of the children after, one after another
 abbrev pub walked_decision : Alg → Decision → List Decision → Decision
 walked_decision algorithm so_far [] = so_far
 walked_decision algorithm so_far (d ∷ ds) =
@@ -89,7 +89,7 @@ decided so_far = record {
   duties = if is_some (effect_of so_far.decision) then so_far.duties else no_duties;
 }
 
--- what the children so far decide with the others behind them
+-- what the children so far decide with the others after them
 abbrev pub walked : Combination → List EvaluatedChild → Verdict
 walked so_far [] = decided so_far
 walked so_far (child ∷ children) =
@@ -101,7 +101,7 @@ pub record Named : Type 0 where
   pub asked : Bool
   pub ids : List DocumentKey
 
--- the policies and policy sets that are named so far with these behind them, if they are asked for
+-- the policies and policy sets that are named so far with these after them, if they are asked for
 abbrev pub with_named : Named → List DocumentKey → Named
 with_named so_far keys = record { asked = so_far.asked; ids = so_far.ids ++ (if so_far.asked then keys else []) }
 

@@ -36,7 +36,7 @@ impl Combination {
         }
     }
 
-    /// Takes the next child, and answers whether it ends the evaluation. If so, no child behind it changes
+    /// Takes the next child, and answers whether it ends the evaluation. If so, no child after it changes
     /// anything.
     pub(crate) fn add(&mut self, child: Verdict) -> Result<bool, AllocError>
         ensures ok { OnOk result (self.new ≡ with_next self.old child) }

@@ -185,7 +185,7 @@ fn combine_decisions(algorithm: Alg, children: &[Child]) -> Decision
     so_far
 }
 
-/// Only-one-applicable of an applicable child and the others behind it. The first target that isn't No
+/// Only-one-applicable of an applicable child and the others after it. The first target that isn't No
 /// match settles it.
 #[tactic(auto, using(crate::proofs::OnlyOneLemmas::only_one_steps))]
 fn unless_another_applies(decision: Decision, others: &[Child]) -> Decision

@@ -43,7 +43,7 @@ impl Effect {
         }
     }
 
-    /// Whether two effects are one. For the prover: the clause is by `same_effect`, as the definitions are.
+    /// Whether two effects are one. For the proof: the clause is by `same_effect`, as the definitions are.
     pub(crate) fn is(self, effect: Effect) -> bool
         ensures { result ≡ same_effect effect self }
     {

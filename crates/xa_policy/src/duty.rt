@@ -135,7 +135,7 @@ impl Duties {
         STEP.saturating_mul(count)
     }
 
-    /// Puts the obligations and the advice of another behind these.
+    /// Puts the obligations and the advice of another after these.
     pub(crate) fn append(&mut self, other: Duties) -> Result<(), AllocError>
         ensures { OnOk result (self.new ≡ and_then self.old other) }
     {
@@ -148,7 +148,7 @@ impl Duties {
     }
 }
 
-/// Puts the others behind those that there are. If there are none yet, the others are taken as they are:
+/// Puts the others after those that there are. If there are none yet, the others are taken as they are:
 /// what is carried up through nested sets isn't moved once more at each of them.
 fn put_behind(duties: &mut Vec<Duty>, mut others: Vec<Duty>) -> Result<(), AllocError>
     ensures { OnOk result (duties.new.items ≡ duties.old.items ++ others.items) }

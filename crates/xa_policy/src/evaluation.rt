@@ -57,7 +57,7 @@ fn target_of_rule<C: Context>(
     rule.target.matching(alloc, context)
 }
 
-/// What only-one-applicable makes of an applicable rule and the others behind it. The first target that
+/// What only-one-applicable makes of an applicable rule and the others after it. The first target that
 /// isn't No match settles it.
 #[tactic(auto, using(crate::proofs::TidyLemmas::applicable_steps))]
 fn rule_unless_another<'a, C: Context>(
@@ -328,7 +328,7 @@ fn only_applicable_child<C: Context>(
     Ok(Verdict::not_applicable(alloc))
 }
 
-/// What only-one-applicable makes of an applicable child and the others behind it. The first target that
+/// What only-one-applicable makes of an applicable child and the others after it. The first target that
 /// isn't No match settles it.
 #[cycle(evaluation)]
 #[tactic(auto, using(crate::proofs::TidyLemmas::applicable_steps))]

@@ -61,7 +61,7 @@ fn units_of_assignments(
         .saturating_add(units_of_given(given))
 }
 
-/// Puts an assignment of each of the values behind those so far.
+/// Puts an assignment of each of the values after those so far.
 fn put_each(
     expression: &AttributeAssignmentExpression<Typed>,
     values: &[Value],
@@ -76,7 +76,7 @@ fn put_each(
     Ok(())
 }
 
-/// Puts the assignments of what the expression gives behind those so far.
+/// Puts the assignments of what the expression gives after those so far.
 fn put(
     expression: &AttributeAssignmentExpression<Typed>,
     given: ValueOrBag,
@@ -170,7 +170,7 @@ fn own_duties<'a, C: Context>(
     Ok(Duties::of(obligations, advice))
 }
 
-/// What is decided, with the own obligations and advice of the effect behind those that it has; a fault
+/// What is decided, with the own obligations and advice of the effect after those that it has; a fault
 /// in them leaves the effect open.
 fn with_own_of<'a, C: Context>(
     alloc: Global,

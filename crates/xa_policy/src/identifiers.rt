@@ -48,7 +48,7 @@ impl Identifiers {
         self.found.len()
     }
 
-    /// Puts the key behind those so far, if they are asked for. It is a share: no text is copied.
+    /// Puts the key after those so far, if they are asked for. It is a share: no text is copied.
     pub(crate) fn add(&mut self, key: &Shared<DocumentKey>) -> Result<(), AllocError>
         ensures { OnOk result (self.new ≡ with_named self.old (key.now ∷ [])) }
     {
@@ -58,7 +58,7 @@ impl Identifiers {
         Ok(())
     }
 
-    /// Puts the key of a policy that decides this behind those so far, if that is Permit or Deny.
+    /// Puts the key of a policy that decides this after those so far, if that is Permit or Deny.
     pub(crate) fn add_by(
         &mut self,
         decision: Decision,
@@ -72,7 +72,7 @@ impl Identifiers {
         }
     }
 
-    /// Keeps the first `count`, and those behind them too if the policy set that found them decides Permit
+    /// Keeps the first `count`, and those after them too if the policy set that found them decides Permit
     /// or Deny.
     pub(crate) fn keep_by(&mut self, decision: Decision, count: usize)
         ensures { self.new ≡ kept_by decision count self.old }

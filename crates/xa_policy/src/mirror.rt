@@ -11,7 +11,7 @@ impl Alg {
     pub fn permit_overrides_mirrors_deny_overrides(children: &[Child])
         ensures { Mirrors Alg.PermitOverrides Alg.DenyOverrides children.now }
     {
-        // Nothing is done: the clause is for the prover, and holds of any children.
+        // For the proof: the clause, which holds of any children.
         let _ = children.len();
     }
 
@@ -20,7 +20,7 @@ impl Alg {
     pub fn permit_unless_deny_mirrors_deny_unless_permit(children: &[Child])
         ensures { Mirrors Alg.PermitUnlessDeny Alg.DenyUnlessPermit children.now }
     {
-        // Nothing is done: the clause is for the prover, and holds of any children.
+        // For the proof: the clause, which holds of any children.
         let _ = children.len();
     }
 
@@ -31,7 +31,7 @@ impl Alg {
         ensures permit { combined_decision Alg.OrderedPermitOverrides children.now
             ≡ combined_decision Alg.PermitOverrides children.now }
     {
-        // Nothing is done: the clause is for the prover, and holds of any children.
+        // For the proof: the clause, which holds of any children.
         let _ = children.len();
     }
 }

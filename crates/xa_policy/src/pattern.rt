@@ -25,7 +25,7 @@ pub enum PatternPart {
 /// A pattern of versions (XACML 3.0, core, section 5.13): the list of its parts.
 #[derive(Clone, Copy, Debug, PartialEq, Eq)]
 pub struct Pattern {
-    /// The parts, and `*` behind them.
+    /// The parts, and `*` after them.
     parts: [PatternPart; MAX_NUMBERS],
     /// How many there are.
     count: usize,
@@ -95,8 +95,7 @@ impl Pattern {
     pub fn reads_back(self)
         ensures { read_pattern (pattern_text self) ≡ Ok self }
     {
-        // Nothing is done: by the call's clause `valid` the prover knows that these are the parts of a
-        // pattern, which the law needs.
+        // For the proof: by the call's clause `valid` these are the parts of a pattern.
         let _ = self.parts();
     }
 

@@ -90,7 +90,7 @@ impl Policy {
         }
     }
 
-    /// Checks the rule's condition, obligations and advice, in this order, and puts it behind the rules
+    /// Checks the rule's condition, obligations and advice, in this order, and puts it after the rules
     /// so far. If one has a fault, nothing changes.
     #[tactic(auto, using(crate::proofs::CheckingLemmas::one_more_rule))]
     pub fn add_rule(&mut self, alloc: Global, rule: Rule<Expr>) -> Result<(), OrMemory<CheckError>>

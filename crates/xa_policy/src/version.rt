@@ -31,7 +31,7 @@ const MAX_NUMBER: usize = 999_999_999;
 /// A version (XACML 3.0, core, section 5.12): the list of its numbers.
 #[derive(Clone, Copy, Debug)]
 pub struct Version {
-    /// The numbers, and zeros behind them.
+    /// The numbers, and zeros after them.
     numbers: [u32; MAX_NUMBERS],
     /// How many there are.
     count: usize,
@@ -98,8 +98,7 @@ impl Version {
     pub fn reads_back(self)
         ensures { read_version (version_text self) ≡ Ok self }
     {
-        // Nothing is done: by the call's clause `valid` the prover knows that these are the numbers of a
-        // version, which the law needs.
+        // For the proof: by the call's clause `valid` these are the numbers of a version.
         let _ = self.numbers();
     }
 

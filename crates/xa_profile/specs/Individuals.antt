@@ -53,7 +53,7 @@ individual_named objects ids =
     if has_unknown objects ids then BadReference
     else of_places objects (in_request_order objects (places_named objects ids))
 
--- texts, and one more behind them unless it is there
+-- texts, and one more after them unless it is there
 abbrev pub with_new : List (List ℕ) → List ℕ → List (List ℕ)
 with_new texts text = if list_any (bytes_eq text) texts then texts else texts ++ text ∷ []
 
@@ -71,7 +71,7 @@ abbrev pub places_of : List CategoryObject → List ℕ → List ℕ
 places_of objects category =
     filter (λ place. is_of category (category_at objects place)) (range_with_len 0 (length objects))
 
--- each combination so far with each of the places behind it, the place changing fastest
+-- each combination so far with each of the places after it, the place changing fastest
 abbrev pub with_each : List (List ℕ) → List ℕ → List (List ℕ)
 with_each combinations places = flat_map (λ combination. map (λ place. combination ++ place ∷ []) places) combinations
 

@@ -34,7 +34,7 @@ use Rattle.xa_profile.specs.Member.{name_of}
 
 -- ---- members
 
--- a member, and those behind it
+-- a member, and those after it
 abbrev pub with : Member → Data → Members → Members
 with name d others = member (name_of name) d others
 

@@ -82,7 +82,7 @@ fn category_of(
     }
 }
 
-/// The objects of the member, under a shorthand or not, behind those that are there.
+/// The objects of the member, under a shorthand or not, after those that are there.
 fn with_objects(
     alloc: Global,
     objects: Items<CategoryObject>,
@@ -96,7 +96,7 @@ fn with_objects(
     each_behind(alloc, objects, &reader, items_if_any(value))
 }
 
-/// The objects under shorthands, behind those that are there.
+/// The objects under shorthands, after those that are there.
 fn with_shorthands(
     alloc: Global,
     mut objects: Items<CategoryObject>,

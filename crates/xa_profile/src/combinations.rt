@@ -18,7 +18,7 @@ fn are_too_many(combinations: usize, places: usize) -> bool
     }
 }
 
-/// A copy of the combination with the place behind it.
+/// A copy of the combination with the place after it.
 fn copy_with(alloc: Global, combination: &[usize], place: usize) -> Result<Items<usize>, AllocError>
     ensures { IfOk result (λ copy. copy ≡ combination.now ++ place ∷ []) }
 {
@@ -27,7 +27,7 @@ fn copy_with(alloc: Global, combination: &[usize], place: usize) -> Result<Items
     Ok(Items::from_vec(copy))
 }
 
-/// Puts a copy of the combination with each of the places behind it at the end.
+/// Puts a copy of the combination with each of the places after it at the end.
 fn push_copies(
     alloc: Global,
     all: &mut Vec<Items<usize>>,
@@ -43,7 +43,7 @@ fn push_copies(
     Ok(())
 }
 
-/// Puts the combination with each of the places behind it at the end. It is copied for all places but the
+/// Puts the combination with each of the places after it at the end. It is copied for all places but the
 /// last.
 fn push_with_each(
     alloc: Global,
@@ -63,7 +63,7 @@ fn push_with_each(
     Ok(())
 }
 
-/// Each combination with each of the places behind it.
+/// Each combination with each of the places after it.
 fn with_each(
     alloc: Global,
     combinations: Vec<Items<usize>>,

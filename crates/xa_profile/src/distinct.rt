@@ -20,7 +20,7 @@ fn has_category(objects: &[CategoryObject], category: &str) -> bool
     false
 }
 
-/// Whether two of the objects have the same category. Each object is compared with all those behind it.
+/// Whether two of the objects have the same category. Each object is compared with all those after it.
 fn has_category_twice(objects: &[CategoryObject]) -> bool
     ensures { result ≡ has_twice (map (λ object. object.category) objects.now) }
 {

@@ -16,7 +16,7 @@ fn unsigned_number(numeral: &Numeral<'_>) -> Option<Number>
     }
 }
 
-/// The number behind a minus: whole if it fits 64 bits and isn't zero, else the nearest float if that is
+/// The number after a minus: whole if it fits 64 bits and isn't zero, else the nearest float if that is
 /// finite.
 fn negative_number(numeral: &Numeral<'_>) -> Option<Number>
     ensures { option_map number_view result ≡ number_from true numeral.now }

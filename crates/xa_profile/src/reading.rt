@@ -125,7 +125,7 @@ pub(crate) fn items_if_any<'v, 'a>(value: Option<&'v Json<'a>>) -> &'v [Json<'a>
     }
 }
 
-/// Each of the values, read in order, behind the items.
+/// Each of the values, read in order, after the items.
 pub(crate) fn each_behind<R: Reader>(
     alloc: Global,
     mut items: Items<R::Output>,

@@ -60,8 +60,7 @@ impl Shelf {
         ensures faulty { IsErr (document_of text.now)
             → self.new ≡ record { texts = self.old.texts; readings = one_more self.old.readings } }
     {
-        // Nothing is done with the documents: by their keys, which are `String`s, the prover knows that
-        // each text that is held is UTF-8.
+        // For the proof: the documents' keys are `String`s, so each text that is held is UTF-8.
         let _documents = &self.documents;
         let Ok(written) = str::from_utf8(text) else {
             return self.read(text);

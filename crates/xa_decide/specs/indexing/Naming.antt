@@ -17,7 +17,7 @@ said [] = none
 said (v ∷ []) = one (text_of v)
 said (v ∷ w ∷ vs) = several
 
--- what some values say with others behind them
+-- what some values say with others after them
 abbrev pub both : Said → Said → Said
 both none b = b
 both (one text) none = one text

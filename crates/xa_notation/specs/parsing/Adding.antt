@@ -8,10 +8,10 @@ use Rattle.xa_policy.specs.Policy.{PolicyParts}
 use Rattle.xa_notation.specs.declared.written.WrittenRule.{WrittenRule}
 use Rattle.xa_notation.specs.Typing.{typed_rule}
 
--- the policy with a typed rule behind those that it has
+-- the policy with a typed rule after those that it has
 abbrev pub with_typed_rule : PolicyParts → WrittenRule → Result PolicyParts CheckError
 with_typed_rule p r = typed_rule p.variables r >>= (λ t. Ok (with_rules p (t ∷ [])))
 
--- the policy with typed rules behind those that it has
+-- the policy with typed rules after those that it has
 abbrev pub with_typed_rules : PolicyParts → List WrittenRule → Result PolicyParts CheckError
 with_typed_rules p rs = collected (map (typed_rule p.variables) rs) >>= (λ ts. Ok (with_rules p ts))

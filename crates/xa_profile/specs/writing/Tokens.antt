@@ -1,4 +1,4 @@
--- The tokens that are put behind those that a writer of JSON has written.
+-- The tokens that are put after those that a writer of JSON has written.
 use Rattle.std.specs.Prelude.{◌≡◌, ℕ, List, [], ◌∷◌, ◌++◌, Option, Some, None, Result, OnOk}
 use Rattle.json.specs.Token.{Token, key, string}
 use Rattle.json.specs.Tree.{json_tokens, items_tokens}
@@ -16,7 +16,7 @@ use Rattle.xa_profile.specs.Response.{identifiers_data, listing}
 abbrev pub tokens : Data → List Token
 tokens d = json_tokens (outline d)
 
--- the tokens of an array behind its opening bracket
+-- the tokens of an array after its opening bracket
 abbrev pub items_behind : List Data → List Token
 items_behind ds = items_tokens (items_outline (items_of ds))
 
@@ -39,6 +39,6 @@ abbrev pub identifiers_if_any_tokens : List DocumentKey → List Token
 identifiers_if_any_tokens [] = []
 identifiers_if_any_tokens (k ∷ ks) = member_tokens member.PolicyIdentifierList (identifiers_data (k ∷ ks))
 
--- these tokens were written behind those that there were, unless writing failed
+-- these tokens were written after those that there were, unless writing failed
 abbrev pub Appends : {E : Type 0} → Result (Unit {0}) E → Written → Written → List Token → Type 0
 Appends r old new ts = OnOk r ((new.before ≡ old.before) × (new.tokens ≡ old.tokens ++ ts))
