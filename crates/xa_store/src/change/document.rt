@@ -51,7 +51,7 @@ fn is_same_body(one: &[u8], other: &[u8]) -> bool
     one == other
 }
 
-/// The plan for a document that isn't there.
+/// The plan of an upload, if no document has the key.
 fn plan_upload_new<S: Alter>(
     alloc: Global,
     conn: &mut Connection<S>,
@@ -80,8 +80,8 @@ fn plan_upload_new<S: Alter>(
     Ok(step_and_epoch(alloc, step, raised)?)
 }
 
-/// The plan for a document that is there with that text: the same text again changes nothing. `found` is
-/// for the contract alone.
+/// The plan of an upload, if a document has the key: the same text again changes nothing. For the proof: the
+/// contract speaks of `found`.
 fn plan_upload_again(
     alloc: Global,
     found: DomainFound,
@@ -101,7 +101,7 @@ fn plan_upload_again(
     Err(ChangeError::Refused(Refusal::SameVersionOtherText))
 }
 
-/// The plan for a document of a domain that was found.
+/// The plan of an upload, to the domain that was found.
 fn plan_upload_in_domain<S: Alter>(
     alloc: Global,
     conn: &mut Connection<S>,
@@ -121,7 +121,7 @@ fn plan_upload_in_domain<S: Alter>(
     }
 }
 
-/// The plan, or why the document isn't uploaded.
+/// The plan of an upload, or why there is no plan.
 fn plan_upload<S: Alter>(
     alloc: Global,
     conn: &mut Connection<S>,
@@ -170,7 +170,7 @@ pub(crate) fn upload<S: Alter>(
     Ok(upload)
 }
 
-/// The plan for a document that is there, active or not.
+/// The plan of an activation or deactivation, of the document that was found.
 fn plan_active_over(
     alloc: Global,
     found: DomainFound,
@@ -196,7 +196,7 @@ fn plan_active_over(
     Ok(step_and_epoch(alloc, step, raised)?)
 }
 
-/// The plan for the activity of a document of a domain that was found.
+/// The plan of an activation or deactivation, in the domain that was found.
 fn plan_active_in_domain<S: Alter>(
     alloc: Global,
     conn: &mut Connection<S>,
@@ -214,7 +214,7 @@ fn plan_active_in_domain<S: Alter>(
     plan_active_over(alloc, found, &there, key, active)
 }
 
-/// The plan, or why the activity isn't set.
+/// The plan of an activation or deactivation, or why there is no plan.
 fn plan_active<S: Alter>(
     alloc: Global,
     conn: &mut Connection<S>,
@@ -245,7 +245,7 @@ pub(crate) fn set_active<S: Alter>(
     carry_out(alloc, conn, planned)
 }
 
-/// The plan to delete a document that is there.
+/// The plan of a deletion, of the document that was found.
 fn plan_delete_over(
     alloc: Global,
     found: DomainFound,
@@ -269,7 +269,7 @@ fn plan_delete_over(
     Ok(step_and_epoch(alloc, step, raised)?)
 }
 
-/// The plan to delete a document of a domain that was found.
+/// The plan of a deletion, in the domain that was found.
 fn plan_delete_in_domain<S: Alter>(
     alloc: Global,
     conn: &mut Connection<S>,
@@ -285,7 +285,7 @@ fn plan_delete_in_domain<S: Alter>(
     plan_delete_over(alloc, found, &there, key)
 }
 
-/// The plan, or why the document isn't deleted.
+/// The plan of a deletion, or why there is no plan.
 fn plan_delete<S: Alter>(
     alloc: Global,
     conn: &mut Connection<S>,

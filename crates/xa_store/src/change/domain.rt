@@ -40,7 +40,7 @@ fn create_steps(
     Ok(steps)
 }
 
-/// The plan for a domain that isn't there, with the next number.
+/// The plan of a creation, with the next number, if no domain has the name.
 fn plan_create_new(alloc: Global, name: &Text, number: i64) -> Result<Items<Step>, ChangeError>
     requires { IsTrue (is_domain_name name.now) }
     ensures plans { (rows : Rows) → AreNumbered rows → AreApart same_name rows.domains
@@ -51,7 +51,7 @@ fn plan_create_new(alloc: Global, name: &Text, number: i64) -> Result<Items<Step
     Ok(create_steps(alloc, name, number, next)?)
 }
 
-/// The plan, or why the domain isn't made.
+/// The plan of a creation, or why there is no plan.
 fn plan_create<S: Alter>(
     alloc: Global,
     conn: &mut Connection<S>,
@@ -82,7 +82,7 @@ pub(crate) fn create<S: Alter>(
     carry_out(alloc, conn, planned)
 }
 
-/// The plan for a domain that was found.
+/// The plan of a removal, of the domain that was found.
 fn plan_remove_in_domain(alloc: Global, found: DomainFound) -> Result<Items<Step>, ChangeError>
     ensures plans { (name : List ℕ) → (rows : Rows) → AreNumbered rows → IsKeyedBy number_key rows.domains
         → IsDomain name rows found → IsPlanned removed name rows result }
@@ -90,7 +90,7 @@ fn plan_remove_in_domain(alloc: Global, found: DomainFound) -> Result<Items<Step
     Ok(one_step(alloc, Step::DropDomain(found.number))?)
 }
 
-/// The plan, or why the domain isn't removed.
+/// The plan of a removal, or why there is no plan.
 fn plan_remove<S: Alter>(
     alloc: Global,
     conn: &mut Connection<S>,

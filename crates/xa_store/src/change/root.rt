@@ -42,7 +42,7 @@ fn root_steps(
     }
 }
 
-/// The plan for a domain that was found with that root.
+/// The plan of a new root, by the root that the domain has.
 fn plan_root_over(
     alloc: Global,
     found: DomainFound,
@@ -61,7 +61,7 @@ fn plan_root_over(
     Ok(root_steps(alloc, raised, root)?)
 }
 
-/// The plan, or why the root isn't set.
+/// The plan of a new root, or why there is no plan.
 fn plan_root<S: Alter>(
     alloc: Global,
     conn: &mut Connection<S>,

@@ -99,7 +99,7 @@ fn source_steps(
     row_steps(steps, raised.number, rows)
 }
 
-/// The plan for a domain that was found with that source.
+/// The plan of other source rows, by those that the domain has.
 fn plan_source_over(
     alloc: Global,
     found: DomainFound,
@@ -121,7 +121,7 @@ fn plan_source_over(
     Ok(source_steps(alloc, raised, rows)?)
 }
 
-/// The plan, or why the source isn't set.
+/// The plan of other source rows, or why there is no plan.
 fn plan_source<S: Alter>(
     alloc: Global,
     conn: &mut Connection<S>,

@@ -28,7 +28,7 @@ fn may_have_one_more_token(count: usize) -> bool
     count < MAX_TOKENS
 }
 
-/// The plan for a token that isn't there.
+/// The plan that adds a token, if the domain hasn't got it.
 fn plan_put_new<S: Alter>(
     alloc: Global,
     conn: &mut Connection<S>,
@@ -55,7 +55,7 @@ fn plan_put_new<S: Alter>(
     Ok(one_step(alloc, step)?)
 }
 
-/// The plan for a token of a domain that was found.
+/// The plan that puts a token into the domain that was found.
 fn plan_put_in_domain<S: Alter>(
     alloc: Global,
     conn: &mut Connection<S>,
@@ -80,7 +80,7 @@ fn plan_put_in_domain<S: Alter>(
     }
 }
 
-/// The plan, or why the token isn't put into the domain.
+/// The plan that puts a token into a domain, or why there is no plan.
 fn plan_put<S: Alter>(
     alloc: Global,
     conn: &mut Connection<S>,
@@ -110,7 +110,7 @@ pub(crate) fn put<S: Alter>(
     carry_out(alloc, conn, planned)
 }
 
-/// The plan to drop a token of a domain that was found.
+/// The plan that drops a token of the domain that was found.
 fn plan_drop_token_in_domain<S: Alter>(
     alloc: Global,
     conn: &mut Connection<S>,
@@ -128,7 +128,7 @@ fn plan_drop_token_in_domain<S: Alter>(
     Ok(one_step(alloc, step)?)
 }
 
-/// The plan, or why the token isn't dropped.
+/// The plan that drops a token, or why there is no plan.
 fn plan_drop_token<S: Alter>(
     alloc: Global,
     conn: &mut Connection<S>,
