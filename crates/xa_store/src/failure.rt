@@ -63,7 +63,7 @@ fn error_of_failure(failure: Failure) -> OpenError
     }
 }
 
-/// For a statement that is no query, or for a commit.
+/// For a statement that is no query, or for a commit: one function, which `map_err` takes.
 pub(crate) fn error_of_statement(error: Error) -> OpenError
     ensures { IsFailure result }
 {

@@ -33,8 +33,8 @@ use sqlite::types::ValueRef;
 use sqlite::{Alter, Connection, Error, Row};
 use xa_records::Failure;
 
-/// All rows that a plain query of these tables shows. It changes nothing. Apart from `query_rows` for the
-/// proof alone.
+/// All rows that a plain query of these tables shows. It changes nothing. For the proof: in a function of its
+/// own, the error is the database's.
 fn rows_shown<S: Alter>(
     conn: &mut Connection<S>,
     sql: &str,

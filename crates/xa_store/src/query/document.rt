@@ -64,7 +64,8 @@ fn in_order<T: Keyed>(items: Items<T>) -> Vec<T>
     items
 }
 
-/// The row of the document of that key, whose version stands beside it as a column holds it.
+/// The row of the document of that key, whose version stands beside it as a column holds it. For the proof:
+/// in a function of its own, the version's text is known by a clause.
 #[tactic(auto, using(crate::proofs::DocumentLemmas::document_plain))]
 fn document_rows<'k, S: Alter>(
     conn: &mut Connection<S>,

@@ -41,7 +41,8 @@ pub(crate) fn add_document<S: Alter>(
     )
 }
 
-/// Sets whether references may resolve to the document, whose version's text stands beside its key.
+/// Sets whether references may resolve to the document, whose version's text stands beside its key. For the
+/// proof: in a function of its own, that text is known by a clause.
 fn set_active_at<'a, S: Alter>(
     tx: &mut Transaction<'_, S>,
     number: i64,
