@@ -99,6 +99,8 @@ fn check_as<S: Alter>(
 ) -> Result<Tables, OpenError>
     ensures { Tested version (state S.Store conn.old) (state S.Store conn.new) result }
 {
+    // For the proof: `check_found` requires that no transaction is under way; of tables that `make` has just
+    // made, that is told only if the store was blank.
     if !conn.is_autocommit() {
         return Err(OpenError::Store);
     }

@@ -101,6 +101,7 @@ fn make_parts<S: Alter>(tx: &mut Transaction<'_, S>) -> Result<(), Failure>
 pub(crate) fn make<S: Alter>(conn: &mut Connection<S>) -> Result<(), OpenError>
     ensures { MakesTables (state S.Store conn.old) (state S.Store conn.new) result }
 {
+    // For the proof: `transaction` requires that none is under way, which no clause tells here.
     if !conn.is_autocommit() {
         return Err(OpenError::Store);
     }

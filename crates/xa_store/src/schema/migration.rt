@@ -75,6 +75,7 @@ fn take_all<S: Alter>(tx: &mut Transaction<'_, S>) -> Result<(), Failure>
 pub(crate) fn migrate<S: Alter>(conn: &mut Connection<S>) -> Result<(), OpenError>
     ensures { MigratesTables (state S.Store conn.old) (state S.Store conn.new) result }
 {
+    // For the proof: `transaction` requires that none is under way, which `Tested` doesn't tell.
     if !conn.is_autocommit() {
         return Err(OpenError::Store);
     }
