@@ -245,7 +245,7 @@ module _ {X : Type 0} (key : X → ℤ) where
 
   module _ (to_row : X → Row) (keyed : (x : X) → rowid (to_row x) ≡ Int (key x)) (d : DomainRow) (child : Child) (number : X → ℤ)
       (linked : (x : X) → list_any (is_child_of (work_on d child.table child.ref) (to_row x)) (moves d) ≡ int_eq (number x) d.number) (xs : List X) (up : IsKeyedBy key xs) where
-    -- and they still are when the actions on the other children, before it and behind, are done
+    -- and they still are when the actions on the other children, before it and after it, are done
     pub gone : (next : Trees) (before more : List Child) (db : Trees) → db child.table.tree ≡ map to_row xs → ActedOnAll next d (before ++ child ∷ more) db
         → list_all (λ (other : Child). is_other other.table.tree child.table.tree) before ≡ true → list_all (λ (other : Child). is_other other.table.tree child.table.tree) more ≡ true
         → next child.table.tree ≡ map to_row (delete_where (λ x. int_eq (number x) d.number) xs)

@@ -1,5 +1,14 @@
 //! Opening a connection as a keeper. Tables are made if there are none, else checked, and those of schema 1
 //! are brought into schema 2.
+//!
+//! The steps, in this order. Each has a function of its own, whose clauses settle one question:
+//! 1. `load`: is a transaction under way? Is a name of a keeper's tables taken? Its clauses (`Loads`) tell
+//!    what opening answers and leaves.
+//! 2. `make_and_check`, if no name is taken: are the tables made? If so, step 4 checks them as any others.
+//! 3. `load_kept`, if one is: which schema is it? Tables of schema 1 are brought into schema 2 after step 4
+//!    (`check_and_migrate`).
+//! 4. `check_as`: are there other tables, too (`found_tables`)?
+//! 5. `check_found`: is each row sound? Beside other tables this is checked in a transaction that is undone.
 ghost use Rattle.std.specs.Prelude.{◌≡◌, ◌≢◌, false, Err, IfErr, IfOk, IsTrue};
 ghost use Rattle.sqlite.specs.Held.{state};
 ghost use Rattle.sqlite.specs.State.{HasCleanDisk, Survives};

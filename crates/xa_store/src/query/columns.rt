@@ -1,4 +1,4 @@
-//! The columns that queries of several show, by the places at which they show them. Definitions have the
+//! The columns of queries that show several, by the places at which they are shown. Definitions have the
 //! numbers.
 
 /// The columns of a domain, as `sql::SHOW_DOMAIN` shows them.
