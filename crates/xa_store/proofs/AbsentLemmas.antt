@@ -4,8 +4,8 @@ use Rattle.std.specs.Option.{ok_or}
 use Rattle.xa_store.proofs.Common.{Absent, Change, ChangeError, IfAnswered, state_of, Rows, kept_of}
 use Rattle.xa_records.specs.declared.refusal.ChangeError.TheVariants.{Failed, Refused}
 use Rattle.xa_records.specs.declared.refusal.Refusal.{Refusal}
-use Rattle.xa_store.specs.Lookup.{FindsDomain, TellsAbsent}
-use Rattle.xa_store.specs.Turns.{IsPlanned}
+use Rattle.xa_store.specs.keeping.Lookup.{FindsDomain, TellsAbsent}
+use Rattle.xa_store.specs.keeping.Turns.{IsPlanned}
 use Rattle.xa_store.proofs.PlanLemmas.{no_state}
 
 -- what was looked for is there, or the change of it is refused

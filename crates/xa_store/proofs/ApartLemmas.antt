@@ -5,7 +5,7 @@ use Rattle.xa_store.proofs.Common.{Command, Begin, Rollback, IsPlain, Row, Schem
 use Rattle.sqlite.specs.Listing.{understood}
 use Rattle.sqlite.specs.State.{CommitsBy, text_of}
 use Rattle.sqlite_tied.specs.Compute.{everything}
-use Rattle.xa_store.specs.Check.{Begins, Checked, IsIdle, IsUndone, Tested, Undoes, found_as}
+use Rattle.xa_store.specs.keeping.Check.{Begins, Checked, IsIdle, IsUndone, Tested, Undoes, found_as}
 use Rattle.xa_store.specs.Opening.{IsFailure, IsRefusal}
 use Rattle.xa_store.specs.declared.keeper.tables.Tables.{Tables}
 use Rattle.xa_store.specs.declared.keeper.tables.Tables.TheVariants.{OnlyOurs, WithOthers}

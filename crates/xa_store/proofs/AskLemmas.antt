@@ -4,7 +4,7 @@ use Rattle.xa_store.proofs.Common.{Database, Row, Error, IsPlain, understood, Sc
 use Rattle.sqlite.specs.State.{Shown, FailsToQuery, IsNotRun, CommitsShowing}
 use Rattle.sqlite_resolve.specs.declared.compiled.Compiled.{Compiled}
 use Rattle.sqlite_schema.specs.declared.command.Returning.{Returning}
-use Rattle.xa_store.specs.Check.{GoesOn, HoldsBack}
+use Rattle.xa_store.specs.keeping.Check.{GoesOn, HoldsBack}
 
 shows_open : (old new : State) (sql : List ℕ) (c : Compiled) (params : Row) (rows : List Row) (o : Option Returning) → ShowsRows old new sql c params rows o → IsTrue old.is_open × IsTrue new.is_open
 shows_open old new sql c params rows None h = (h.3.0.was_open, h.3.0.is_open)

@@ -7,7 +7,7 @@ use Rattle.sqlite.specs.declared.error.Error.TheVariants.{SqliteFailure, SqlInpu
 use Rattle.sqlite.specs.declared.error.ErrorCode.TheVariants.{NameTaken, OutOfMemory as NoMemory}
 use Rattle.sqlite_trees.specs.declared.error.StoreError.{StoreError}
 use Rattle.sqlite_trees.specs.declared.error.StoreError.TheVariants.{OutOfMemory, Io, Corrupt, Full, Broken, Unstorable}
-use Rattle.xa_store.specs.Check.{Asks, GoesOn, IsUnguarded, error_of_check}
+use Rattle.xa_store.specs.keeping.Check.{Asks, GoesOn, IsUnguarded, error_of_check}
 use Rattle.xa_store.specs.Opening.{IsFailure}
 use Rattle.xa_store.proofs.AskLemmas.{commits_idle, failed_held, failed_open, failed_same, goes_then, holds_then, plain_at, shown_goes, shown_held, shown_open, shown_same}
 use Rattle.xa_store.proofs.QuietLemmas.{rests_after}

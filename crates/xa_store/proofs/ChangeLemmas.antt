@@ -1,7 +1,7 @@
 -- The rows of one domain are others, and those of no other domain.
 use Rattle.std.proofs.Common.{◌≡◌, ◌≢◌, inl, inr, ℕ, ℤ, ◌<ℤ◌, List, [], ◌∷◌, filter, find, Bool, true, false, cond, Option, Some, None, option_map, refl, sym, ap, subst, ◌∙◌, arith, int_eq}
 use Rattle.xa_store.proofs.Common.{AllByRecursion, eq_by_cmp, get, nat_cmp-IsAntisymmetric, slice_cmp-IsAntisymmetric, IsAntisymmetric, nat_list_cmp_total, ints, cases_Bool, both_ways, IsKeyedBy, all-filter, all_both, same_bytes, DomainState, compare_bytes, Domain, Becomes, IsChanged, IsNextEpoch, DomainRow, nat_of, Rows, state_at, domain_of, kept_of}
-use Rattle.xa_store.specs.Steps.{is_named, with_epoch}
+use Rattle.xa_store.specs.keeping.Steps.{is_named, with_epoch}
 use Rattle.xa_store.proofs.EntryLemmas.{got, found_passes}
 use Rattle.xa_store.proofs.FilterLemmas.{find_one}
 

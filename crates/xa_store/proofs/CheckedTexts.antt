@@ -3,8 +3,8 @@ use Rattle.std.proofs.Common.{◌≡◌, ℕ, true, List, [], ◌∷◌, map, co
 use Rattle.sqlite.specs.Listing.{understood}
 use Rattle.xa_store.proofs.Common.{Query, col, CheckedTable, Domains, Tokens, Documents, Roots, Attributes, Sources, SchemaVersion, Schema1, Schema2, read_columns, schema_of, sources_in, tree_of}
 use Rattle.sqlite_tied.specs.Compute.{everything}
-use Rattle.xa_store.specs.Check.{has_table, places_query, rows_query}
-use Rattle.xa_store.specs.Texts.{meta_rows}
+use Rattle.xa_store.specs.keeping.Check.{has_table, places_query, rows_query}
+use Rattle.xa_store.specs.keeping.Texts.{meta_rows}
 use Rattle.xa_store.proofs.TextLemmas.{of_table, reading, IsQuery, IsQueryIn}
 
 abbrev pub query_of : CheckedTable → Query

@@ -1,7 +1,7 @@
 -- One more row in a loop over rows, and among those that show the places of the rows of sources.
 use Rattle.std.proofs.Common.{◌≡◌, ℕ, suc, ◌+◌, ◌<◌, Bool, true, false, ◌&&◌, List, ◌∷◌, length, get_or, drop, unwrap_or, Option, Some, sym, ap, ◌∙◌, add-one, drop-cons}
 use Rattle.xa_store.proofs.Common.{Row, SourcePlace}
-use Rattle.xa_store.specs.Check.{are_consecutive, follows, is_next, place_told}
+use Rattle.xa_store.specs.keeping.Check.{are_consecutive, follows, is_next, place_told}
 
 -- the rest of a list, from one that it has
 pub rest_from : {X : Type 0} (xs : List X) (i : ℕ) (x : X) → x ≡ get_or xs i x → i < length xs → drop i xs ≡ x ∷ drop (i + 1) xs

@@ -1,7 +1,7 @@
 -- The places that the walk counts are those of each domain, from 0 on, each once.
 use Rattle.std.proofs.Common.{◌≡◌, ◌⊎◌, inl, inr, ◌+◌, ◌<◌, ◌≤◌, ℕ, zero, suc, ℤ, pos, negsuc, ◌+ℤ◌, Bool, true, false, ◌&&◌, cond, List, [], ◌∷◌, map, filter, length, get_or, int_eq, int_le, int_cmp, Ordering, Less, is_eq, is_lt, IsPermutation, IsSorted, refl, sym, ap, subst, ◌∙◌, arith, add-one}
 use Rattle.xa_store.proofs.Common.{IsTotalOrder, AllByRecursion, ordering_reverse, ordering_then, int_cmp_total, on_total, then_total, tied_itself, ints, IsPermutation-map, IsPermutation-sym, IsPermutation-trans, sort_by, same_int, IsPermutation-filter, all_from_test, all_of, all_weaker, ascending-map, ascending_weaker, filter_none, test_from_all, first_of_both, second_of_both, IsPermutation-sort_by, sorted_unique, IsAscending, SourcePlace, are_counted, count_from, places_of}
-use Rattle.xa_store.specs.Check.{follows, no_place}
+use Rattle.xa_store.specs.keeping.Check.{follows, no_place}
 use Rattle.xa_store.proofs.KeyLemmas.{own_number}
 use Rattle.xa_store.proofs.OrderedLemmas.{apart_among, rises_sorted}
 use Rattle.xa_store.proofs.RiseLemmas.{both_true}

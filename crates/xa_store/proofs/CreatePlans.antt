@@ -2,10 +2,10 @@
 use Rattle.std.proofs.Common.{◌≡◌, ◌≢◌, ℕ, ◌+◌, ◌<◌, ◌^◌, ℤ, pos, List, [], ◌∷◌, filter, find, Bool, true, false, cond, Option, Some, None, option_map, Ok, Err, Ordering, Less, Equal, Greater, is_eq, int_cmp, int_eq, int_lt, true≢false, refl, sym, ap, ap₂, subst, ◌∙◌, arith}
 use Rattle.xa_store.proofs.Common.{AllByRecursion, match_ordering, get, eq_by_cmp_equiv, nat_list_cmp_total, insert_by, AreApart, int_eq_apart, all_both, all_weaker, created, DomainState, new_domain, Domain, Becomes, IsChanged, IsNextNumber, IsRaised, state_of, numbered_changed, Exists, is_domain_name, is_count, DomainRow, nat_of, AreNumbered, same_name, Rows, state_at, domain_of, kept_of}
 use Rattle.xa_store.specs.declared.query.domain.DomainFound.{DomainFound}
-use Rattle.xa_store.specs.Lookup.{FindsDomain, IsNext}
-use Rattle.xa_store.specs.Plan.{RaisesTo, create_steps}
-use Rattle.xa_store.specs.Steps.{is_named}
-use Rattle.xa_store.specs.Turns.{Plans}
+use Rattle.xa_store.specs.keeping.Lookup.{FindsDomain, IsNext}
+use Rattle.xa_store.specs.keeping.Plan.{RaisesTo, create_steps}
+use Rattle.xa_store.specs.keeping.Steps.{is_named}
+use Rattle.xa_store.specs.keeping.Turns.{Plans}
 use Rattle.xa_store.proofs.ChangeLemmas.{kept_at, not_same, number_of}
 use Rattle.xa_store.proofs.FilterLemmas.{find_none}
 use Rattle.xa_store.proofs.HitLemmas.{turn_bytes}

@@ -4,11 +4,11 @@ use Rattle.xa_store.proofs.Common.{IsTotalOrder, get, entries, len, len-entries,
 use Rattle.xa_records.specs.declared.listed.Listed.{Listed}
 use Rattle.xa_records.specs.declared.active_text.ActiveText.{ActiveText}
 use Rattle.xa_store.specs.declared.query.document_row.DocumentFound.{DocumentFound}
-use Rattle.xa_store.specs.Lookup.{FindsDocument, found_of}
+use Rattle.xa_store.specs.keeping.Lookup.{FindsDocument, found_of}
 use Rattle.xa_store.specs.Rows.{given as given_by, version_in}
-use Rattle.xa_store.specs.Columns.{TellsOne, document_told, listed_told, text_told}
-use Rattle.xa_store.specs.Steps.{is_document}
-use Rattle.xa_store.specs.Texts.{show_document, show_document_kinds, show_documents, show_active_documents}
+use Rattle.xa_store.specs.keeping.Columns.{TellsOne, document_told, listed_told, text_told}
+use Rattle.xa_store.specs.keeping.Steps.{is_document}
+use Rattle.xa_store.specs.keeping.Texts.{show_document, show_document_kinds, show_documents, show_active_documents}
 use Rattle.xa_store.proofs.EntryLemmas.{got, has}
 use Rattle.xa_store.proofs.FilterLemmas.{filter_both}
 use Rattle.xa_store.proofs.FoundLemmas.{finds_one, found_is, found_all, find_both, map_alike, read_back}

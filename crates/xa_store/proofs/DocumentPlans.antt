@@ -5,11 +5,11 @@ use Rattle.xa_records.specs.declared.upload.Upload.TheVariants.{New, Same}
 use Rattle.xa_records.proofs.FinMapLemmas.{get_put, get_taken, put_again}
 use Rattle.xa_store.specs.declared.query.document_row.DocumentFound.{DocumentFound}
 use Rattle.xa_store.specs.declared.query.domain.DomainFound.{DomainFound}
-use Rattle.xa_store.specs.Lookup.{FindsDocument, IsDomain}
-use Rattle.xa_store.specs.Plan.{IsUploadPlanned, RaisesTo, epoch_step}
+use Rattle.xa_store.specs.keeping.Lookup.{FindsDocument, IsDomain}
+use Rattle.xa_store.specs.keeping.Plan.{IsUploadPlanned, RaisesTo, epoch_step}
 use Rattle.xa_store.specs.declared.step.Step.TheVariants.{AddDocument, SetActive, DropDocument}
-use Rattle.xa_store.specs.Steps.{KeyReads, is_document, with_epoch}
-use Rattle.xa_store.specs.Turns.{Plans}
+use Rattle.xa_store.specs.keeping.Steps.{KeyReads, is_document, with_epoch}
+use Rattle.xa_store.specs.keeping.Turns.{Plans}
 use Rattle.xa_store.proofs.ChangeLemmas.{IsOnly, Rewrote, number_of}
 use Rattle.xa_store.proofs.EntryLemmas as entry
 use Rattle.xa_store.proofs.FilterLemmas.{filter_both, filter_delete, filter_delete_apart, filter_push, filter_push_apart, filter_update, filter_update_apart, find_none, find_one}

@@ -2,8 +2,8 @@
 use Rattle.std.proofs.Common.{◌≡◌, ℕ, ℤ, pos, List, [], ◌∷◌, ◌++◌, map, filter, Bool, true, false, ◌&&◌, refl, sym, ap, ◌∙◌, int_eq, Ok}
 use Rattle.xa_store.proofs.Common.{AllByRecursion, eq_by_cmp, eq_by_cmp_equiv, and_parts, and_from, Row, Chosen, State, Executes, col, Trees, Null, Int, Text, Blob, cast_row, with_rowid, next_rowid, next_key, update_where, delete_where, all_weaker, all_map, same_int, DocumentKey, compare_keys, version_text, keys_total, DocumentRow, kind_number, activity_number, document_row, document_in, AreTables, same_document, schema_2, policies}
 use Rattle.xa_store.specs.declared.step.Step.TheVariants.{AddDocument, SetActive, DropDocument}
-use Rattle.xa_store.specs.Steps.{KeyReads, is_document}
-use Rattle.xa_store.specs.Texts as text
+use Rattle.xa_store.specs.keeping.Steps.{KeyReads, is_document}
+use Rattle.xa_store.specs.keeping.Texts as text
 use Rattle.xa_store.proofs.ChangeLemmas.{none_pass}
 use Rattle.xa_store.proofs.HitLemmas.{document_hit, same_key}
 use Rattle.xa_store.proofs.HoldLemmas.{Back, came_last, changed, documents_now, went_out, written_back}

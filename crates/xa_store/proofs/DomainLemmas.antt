@@ -2,9 +2,9 @@
 use Rattle.std.proofs.Common.{◌≡◌, ℕ, ℤ, pos, negsuc, ◌≤ℤ◌, List, [], ◌∷◌, map, filter, Option, Some, None, Result, Ok, Err, IfOk, refl, sym, ap, ◌∙◌, arith}
 use Rattle.xa_store.proofs.Common.{AllByRecursion, ints, Row, column, State, Shown, Trees, Value, Int, Text, IsPlain, understood, col, reads_as, all_of, Failure, DomainRow, nat_of, domain_row, domain_in, Ours, schema_2, rows_of}
 use Rattle.xa_store.specs.declared.query.domain.DomainFound.{DomainFound}
-use Rattle.xa_store.specs.Lookup.{FindsDomain, TellDomain}
-use Rattle.xa_store.specs.Steps.{is_named}
-use Rattle.xa_store.specs.Texts.{show_domain}
+use Rattle.xa_store.specs.keeping.Lookup.{FindsDomain, TellDomain}
+use Rattle.xa_store.specs.keeping.Steps.{is_named}
+use Rattle.xa_store.specs.keeping.Texts.{show_domain}
 use Rattle.xa_store.proofs.FoundLemmas.{found_one, found_none}
 use Rattle.xa_store.proofs.HitLemmas.{name_hit}
 use Rattle.xa_store.proofs.SqlLemmas.{Answered, answered, hits}

@@ -2,8 +2,8 @@
 use Rattle.std.proofs.Common.{◌≡◌, ℕ, ℤ, pos, List, [], ◌∷◌, map, filter, Bool, true, false, not, ◌&&◌, refl, ap, ◌∙◌, int_eq, Ok}
 use Rattle.xa_store.proofs.Common.{Chosen, State, Executes, Trees, Null, Int, Text, cast_row, with_rowid, insert_by, is_apart, all_of, all_weaker, any_from_none, IsKeyedBy-insert_by, apart_insert, DomainRow, domain_row, domain_in, AreTables, same_name, schema_2, domains}
 use Rattle.xa_store.specs.declared.step.Step.TheVariants.{AddDomain}
-use Rattle.xa_store.specs.Steps.{is_named}
-use Rattle.xa_store.specs.Texts as text
+use Rattle.xa_store.specs.keeping.Steps.{is_named}
+use Rattle.xa_store.specs.keeping.Texts as text
 use Rattle.xa_store.proofs.ChangeLemmas.{none_pass}
 use Rattle.xa_store.proofs.HitLemmas.{turn_bytes}
 use Rattle.xa_store.proofs.HoldLemmas.{Back, came, domains_now}

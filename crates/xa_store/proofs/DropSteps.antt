@@ -2,8 +2,8 @@
 use Rattle.std.proofs.Common.{◌≡◌, ◌≢◌, inl, inr, ℕ, ℤ, List, [], ◌∷◌, map, drop, filter, find, option_map, true, false, cond, Some, unwrap_or, Ok, refl, sym, ap, subst, ◌∙◌, int_eq}
 use Rattle.xa_store.proofs.Common.{edit_of, Row, Given, Edited, State, Executes, col, Trees, Int, Enforced, Eq, has_rowid, value_cmp-Int, works, Leads, ids_of, IsNoIndex, without_all, row_at, delete_where, all_of, same_int, deletes-map, at_ints, last_term, DomainRow, domain_row, domain_in, token_row, token_in, document_row, document_in, root_row, root_in, placed_row, placed_row_in, AreTables, schema_2, domains, tokens, policies, attributes, sources, rows_of}
 use Rattle.xa_store.specs.declared.step.Step.TheVariants.{DropDomain}
-use Rattle.xa_store.specs.Steps.{without_domain}
-use Rattle.xa_store.specs.Texts as text
+use Rattle.xa_store.specs.keeping.Steps.{without_domain}
+use Rattle.xa_store.specs.keeping.Texts as text
 use Rattle.xa_store.proofs.CascadeLemmas.{ActedOnAll, all_acted, all_children, by_number, child_at, gone, its_root, root_child_at, untouched, works_of_drop}
 use Rattle.xa_store.proofs.EntryLemmas.{found_passes}
 use Rattle.xa_store.proofs.FilterLemmas.{find_one}

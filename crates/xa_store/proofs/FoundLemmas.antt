@@ -1,8 +1,8 @@
 -- What a query of one table finds, as records of its rows.
 use Rattle.std.proofs.Common.{◌≡◌, ℕ, List, [], ◌∷◌, map, filter, Bool, false, Ordering, is_eq, Option, Some, None, option_map, find, slice_get, ◌&&◌, Result, Ok, Err, IfOk, refl, sym, ap, subst, ◌∙◌, IsPermutation}
 use Rattle.xa_store.proofs.Common.{AllByRecursion, IsPermutation-map, Row, overlay, Output, output_cmp, Term, Trees, sort_by, slice_get-filter, map-map, filter-map, ascending-map, ascending_weaker, sorted_is-sort_by, sort_by-map, output_cmp_total, IsAscending}
-use Rattle.xa_store.specs.Lookup.{FindsOne}
-use Rattle.xa_store.specs.Columns.{TellsOne}
+use Rattle.xa_store.specs.keeping.Lookup.{FindsOne}
+use Rattle.xa_store.specs.keeping.Columns.{TellsOne}
 use Rattle.xa_store.proofs.FilterLemmas.{filter_both, find_one, find_none, filter_alike}
 use Rattle.xa_store.proofs.SqlLemmas.{Answered, hits, show, out, hit_by, missed_by}
 use Rattle.xa_store.proofs.TextLemmas.{of_table}

@@ -3,7 +3,7 @@ use Rattle.std.proofs.Common.{◌≡◌, ℕ, ℤ, Bool, true, false, ◌&&◌, 
 use Rattle.xa_store.proofs.Common.{eq_by_cmp, ordering_then, nat_list_cmp_total, Trees, Int, Text, Blob, Eq, at_ints, at_texts, at_blobs, then_term, last_term, turn_eq, same_bytes, bytes_eq_refl, DocumentKey, DocumentKind, compare_keys, place_of_kind, version_text, compare_bytes, keys_exact, DomainRow, TokenRow, DocumentRow, RootRow, PlacedRow, domain_row, token_row, document_row, root_row, placed_row, kind_number, version_in, col}
 use Rattle.xa_policy.specs.declared.reference.DocumentKind.TheVariants.{Policy, PolicySet}
 use Rattle.xa_records.proofs.FinMapLemmas.{here_or_elsewhere}
-use Rattle.xa_store.specs.Steps.{is_named, is_token, is_document}
+use Rattle.xa_store.specs.keeping.Steps.{is_named, is_token, is_document}
 use Rattle.xa_store.proofs.SqlLemmas.{hits}
 use Rattle.xa_store.proofs.TextLemmas.{is}
 

@@ -5,8 +5,8 @@ use Rattle.xa_records.specs.declared.refusal.ChangeError.TheVariants.{Failed, Re
 use Rattle.xa_records.specs.Keeper.{Changing}
 use Rattle.xa_store.specs.Keeper.{Keeper, IsKeeper, IsSound}
 use Rattle.xa_store.specs.KeeperReading.{custody_by, kept_by}
-use Rattle.xa_store.specs.Health.{AnswersAs, TellsChange}
-use Rattle.xa_store.specs.Turns.{Turns}
+use Rattle.xa_store.specs.keeping.Health.{AnswersAs, TellsChange}
+use Rattle.xa_store.specs.keeping.Turns.{Turns}
 use Rattle.xa_store.proofs.KeeperReadingLemmas.{sound_store}
 use Rattle.xa_store.proofs.QuietLemmas.{ours_after}
 

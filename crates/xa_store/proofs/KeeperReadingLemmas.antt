@@ -4,8 +4,8 @@ use Rattle.xa_store.proofs.Common.{Database, Held, state, State, HasCleanDisk, G
 use Rattle.xa_records.specs.Keeper.{Reading}
 use Rattle.xa_store.specs.Keeper.{Keeper, IsKeeper}
 use Rattle.xa_store.specs.KeeperReading.{custody_by, kept_by}
-use Rattle.xa_store.specs.Quiet.{Quiet}
-use Rattle.xa_store.specs.Health.{TellsReading}
+use Rattle.xa_store.specs.keeping.Quiet.{Quiet}
+use Rattle.xa_store.specs.keeping.Health.{TellsReading}
 use Rattle.xa_store.proofs.QuietLemmas.{ours_after}
 use Rattle.xa_store.proofs.ReopenLemmas.{are_ours}
 

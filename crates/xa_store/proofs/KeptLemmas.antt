@@ -3,7 +3,7 @@ use Rattle.std.proofs.Common.{◌≡◌, Bool, List, find, int_eq, Option, Some,
 use Rattle.xa_store.proofs.Common.{get, eq_by_cmp, DocumentKey, compare_keys, IsDocumentOf, StoredDocument, Domain, keys_exact, keys_total, DomainRow, DocumentRow, AreDocuments, Rows, documents_at, domain_of, kept_of, state_at}
 use Rattle.xa_records.specs.Keyed.{KeepsDocuments}
 use Rattle.xa_records.proofs.KeyedLemmas.{key_is}
-use Rattle.xa_store.specs.Steps.{is_named}
+use Rattle.xa_store.specs.keeping.Steps.{is_named}
 use Rattle.xa_store.proofs.ChangeLemmas.{found_all, kept_at}
 use Rattle.xa_store.proofs.EntryLemmas as entry
 use Rattle.xa_store.proofs.EntryLemmas.{found_passes}

@@ -1,7 +1,7 @@
 -- The tables are checked one after another.
 use Rattle.std.proofs.Common.{◌≡◌, ℤ, Bool, true, false, ◌&&◌, cond, inl, inr, map, Option, Some, Result, Ok, Err, IsTrue, refl, sym, ap, subst, ◌∙◌, arith}
 use Rattle.xa_store.proofs.Common.{list_all, Database, IsDatabase, State, HasCleanDisk, Trees, IsSound, all_from_test, CheckedTable, Domains, Tokens, Documents, Roots, SchemaVersion, Schema1, Schema2, OpenError, NotThisSchema, Damaged, Store, Memory, are_counted, are_rising, as_read, is_count, is_left_empty, is_sound, is_sound_table, checked, tables_in, known_next, opened, place_in, read_meta, row_number, schema_of, sources_in, tree_of, RestsIn}
-use Rattle.xa_store.specs.Check.{has_table, AreSources, Asks, Checked, FindsRest, GivesAs, GivesNext, CheckedBy, TellsSound, Orders, Walked, Walks}
+use Rattle.xa_store.specs.keeping.Check.{has_table, AreSources, Asks, Checked, FindsRest, GivesAs, GivesNext, CheckedBy, TellsSound, Orders, Walked, Walks}
 use Rattle.xa_store.specs.Opening.{IsFailure}
 use Rattle.xa_store.proofs.AreRowsLemmas.{sources_of_schema_1_are, sources_are}
 use Rattle.xa_store.proofs.AskedLemmas.{as_failed, asks_then, rests_before, same_before}

@@ -3,9 +3,9 @@ use Rattle.std.proofs.Common.{◌≡◌, inl, inr, [], true, false, Result, Ok, 
 use Rattle.xa_store.proofs.Common.{both_ways, Database, Held, state, State, HasCleanDisk, KeepsCommit, KeepsCounts, Shows, Survives, Ghosts, Trees, Error, survives_begin, survives_then, IsSound, OpenError, Schema1, SameNow}
 use Rattle.sqlite.specs.Steps.{FailsToCommit}
 use Rattle.xa_store.specs.declared.schema.creation.Part.TheVariants as parts
-use Rattle.xa_store.specs.Check.{IsSoundIn, MakesTables, MigratesTables}
-use Rattle.xa_store.specs.Creation.{AreMade, IsBefore}
-use Rattle.xa_store.specs.Migration.{IsDone, HasSchema1, IsSoundSchema1}
+use Rattle.xa_store.specs.keeping.Check.{IsSoundIn, MakesTables, MigratesTables}
+use Rattle.xa_store.specs.keeping.Creation.{AreMade, IsBefore}
+use Rattle.xa_store.specs.keeping.Migration.{IsDone, HasSchema1, IsSoundSchema1}
 use Rattle.xa_store.specs.Opening.{AreNewTables, IsBlank, IsFailure, IsMigrated}
 use Rattle.xa_store.proofs.MigratedLemmas.{is_migrated}
 

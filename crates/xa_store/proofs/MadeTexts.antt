@@ -7,9 +7,9 @@ use Rattle.sqlite.specs.Listing.{understood}
 use Rattle.sqlite.specs.Change.{created}
 use Rattle.sqlite.proofs.Callers.{IsPlain}
 use Rattle.sqlite_tied.specs.Compute.{everything}
-use Rattle.xa_store.specs.Creation.{with_meta, with_domains, with_tokens, with_policies, with_roots}
+use Rattle.xa_store.specs.keeping.Creation.{with_meta, with_domains, with_tokens, with_policies, with_roots}
 use Rattle.xa_store.specs.Opening.{no_tables}
-use Rattle.xa_store.specs.Texts.{create_meta, create_domains, create_tokens, create_policies, create_roots, create_attributes, create_sources, add_meta_row}
+use Rattle.xa_store.specs.keeping.Texts.{create_meta, create_domains, create_tokens, create_policies, create_roots, create_attributes, create_sources, add_meta_row}
 use Rattle.xa_store.proofs.TextLemmas.{IsChange}
 
 -- under the schema the text is the statement that makes the table

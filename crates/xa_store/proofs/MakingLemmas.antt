@@ -6,10 +6,10 @@ use Rattle.sqlite.specs.Does.{Tally, Does, MakesSequence, MakesTable, lacks_sequ
 use Rattle.sqlite_catalog.specs.Change.{KeepsRows}
 use Rattle.xa_store.specs.declared.schema.creation.Part.{Part}
 use Rattle.xa_store.specs.declared.schema.creation.Part.TheVariants as parts
-use Rattle.xa_store.specs.Creation.{AreEmpty, AreMade, part_statement, with_meta, with_domains, with_tokens, with_policies, with_roots, IsBefore, IsAfter}
-use Rattle.xa_store.specs.Execution.{StaysInside}
+use Rattle.xa_store.specs.keeping.Creation.{AreEmpty, AreMade, part_statement, with_meta, with_domains, with_tokens, with_policies, with_roots, IsBefore, IsAfter}
+use Rattle.xa_store.specs.keeping.Execution.{StaysInside}
 use Rattle.xa_store.specs.Opening.{no_tables}
-use Rattle.xa_store.specs.Texts as texts
+use Rattle.xa_store.specs.keeping.Texts as texts
 use Rattle.xa_store.proofs.MadeTexts.{IsMaking, schema_1_made, all_made, meta_is, domains_is, tokens_is, policies_is, roots_is, attributes_is, sources_is, first_row, first_row_is}
 use Rattle.xa_store.proofs.ApartLemmas.{survives_still}
 use Rattle.xa_store.proofs.HoldLemmas.{is_other, kept}

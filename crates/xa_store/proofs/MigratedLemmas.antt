@@ -1,7 +1,7 @@
 -- Tables that were brought into schema 2 are sound, and mean what those of schema 1 meant.
 use Rattle.std.proofs.Common.{◌≡◌, ℕ, ◌+◌, ◌<◌, ℤ, pos, true, ◌&&◌, cond, List, [], ◌∷◌, map, filter, int_cmp, int_eq, int_lt, Ok, Err, refl, sym, ap, subst, ◌∙◌, arith}
 use Rattle.xa_store.proofs.Common.{from_entries, list_all, on, ints, Database, Row, Trees, IsSound, sort_by, filter-map, map-map, map_same, first_of_both, second_of_both, sort_by-map, SourceRow, Damaged, CheckedTable, Domains, Tokens, Documents, Roots, Attributes, Sources, Schema1, Schema2, are_counted, are_rising, are_sound_rows, as_read, is_count, is_empty, is_left_empty, is_sound, is_sound_row, is_sound_table, is_whole_row, checked, tables_in, known_next, opened, place_in, read_meta, row_number, PlacedRow, DomainRow, placed_row_in, document_in, domain_in, meta_row, nat_of, next_in, root_in, token_in, unissued_in, sources_at, documents_at, domain_entry, rows_of_schema_1, world_of_schema_1, library_of, roles_of, root_at, rows_of, source_of, state_at, tokens_at, world_of}
-use Rattle.xa_store.specs.Migration.{IsDone, IsSoundSchema1, moved_row, moved_rows}
+use Rattle.xa_store.specs.keeping.Migration.{IsDone, IsSoundSchema1, moved_row, moved_rows}
 use Rattle.xa_store.specs.Opening.{IsMigrated}
 use Rattle.xa_store.proofs.MigratingLemmas.{its_meta}
 use Rattle.xa_store.proofs.OursLemmas.{found, in_kind, next_counts, places_counted}

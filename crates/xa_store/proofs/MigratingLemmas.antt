@@ -5,9 +5,9 @@ use Rattle.std.proofs.lemmas.List.Sums.{fold-append}
 use Rattle.sqlite_rules.specs.Edit.{edit_of}
 use Rattle.xa_store.specs.declared.schema.migration.Stage.{Stage}
 use Rattle.xa_store.specs.declared.schema.migration.Stage.TheVariants as stages
-use Rattle.xa_store.specs.Check.{HasNumbers}
-use Rattle.xa_store.specs.Migration.{IsAfter, IsBefore, IsSoundSchema1, moved_rows, stage_statement}
-use Rattle.xa_store.specs.Texts as text
+use Rattle.xa_store.specs.keeping.Check.{HasNumbers}
+use Rattle.xa_store.specs.keeping.Migration.{IsAfter, IsBefore, IsSoundSchema1, moved_rows, stage_statement}
+use Rattle.xa_store.specs.keeping.Texts as text
 use Rattle.xa_store.proofs.ActionLemmas.{works_of_coming}
 use Rattle.xa_store.proofs.AreRowsLemmas.{sources_of_schema_1_are}
 use Rattle.xa_store.proofs.HoldLemmas.{of_other}

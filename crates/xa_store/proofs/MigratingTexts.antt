@@ -4,7 +4,7 @@ use Rattle.xa_store.proofs.Common.{Collation, Binary, Insert, Query, Term, lit, 
 use Rattle.sqlite.specs.Listing.{understood}
 use Rattle.sqlite.specs.Source.TheVariants.{Query as Queried}
 use Rattle.sqlite_tied.specs.Compute.{everything}
-use Rattle.xa_store.specs.Texts as text
+use Rattle.xa_store.specs.keeping.Texts as text
 use Rattle.xa_store.proofs.RisingTexts.{by_rowid}
 use Rattle.xa_store.proofs.TextLemmas.{IsChange, delete, is_one, of_table, update}
 

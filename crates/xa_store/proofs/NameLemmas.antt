@@ -1,8 +1,8 @@
 -- What the query for the names of domains finds.
 use Rattle.std.proofs.Common.{◌≡◌, ℕ, List, [], ◌∷◌, map, filter, Bool, true, false, Ordering, is_eq, refl, sym, ap, subst, ◌∙◌}
 use Rattle.xa_store.proofs.Common.{Row, State, Shown, Trees, Text, IsPlain, understood, col, reads_as, sort_by, all_of, filter_all, map-map, IsAscending, last_key, value_cmp-Text, compare_bytes, Domain, names_of, bytes_total, DomainRow, domain_row, domain_in, Ours, schema_2, rows_of, domain_of, domain_entry, world_of}
-use Rattle.xa_store.specs.Columns.{name_told}
-use Rattle.xa_store.specs.Texts.{show_domain_names}
+use Rattle.xa_store.specs.keeping.Columns.{name_told}
+use Rattle.xa_store.specs.keeping.Texts.{show_domain_names}
 use Rattle.xa_store.proofs.FoundLemmas.{found_sorted}
 use Rattle.xa_store.proofs.OrderedLemmas.{entries_sorted}
 use Rattle.xa_store.proofs.SqlLemmas.{Answered, answered}

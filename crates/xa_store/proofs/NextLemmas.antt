@@ -1,8 +1,8 @@
 -- What the look for the next number finds.
 use Rattle.std.proofs.Common.{◌≡◌, ℤ, pos, List, [], ◌∷◌, filter, false, true, cond, Result, Ok, Err, IfOk, refl, sym, ap, subst, ◌∙◌}
 use Rattle.xa_store.proofs.Common.{Row, State, Shown, Trees, Int, IsPlain, understood, col, reads_as, Eq, at_ints, last_term, Failure, meta_row, next_in, Ours, schema_2, rows_of}
-use Rattle.xa_store.specs.Lookup.{IsNext, TellNext}
-use Rattle.xa_store.specs.Texts.{show_next_number}
+use Rattle.xa_store.specs.keeping.Lookup.{IsNext, TellNext}
+use Rattle.xa_store.specs.keeping.Texts.{show_next_number}
 use Rattle.xa_store.proofs.DomainLemmas.{never_negative, same_int_value}
 use Rattle.xa_store.proofs.SqlLemmas.{Answered, answered, hits, one_hit}
 use Rattle.xa_store.proofs.TextLemmas.{is_one, show_next_number_is}

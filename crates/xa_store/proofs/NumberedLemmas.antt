@@ -2,7 +2,7 @@
 use Rattle.std.proofs.Common.{◌≡◌, ◌<◌, ◌≤◌, ◌^◌, ℕ, ℤ, ◌<ℤ◌, pos, negsuc, true, false, cond, List, [], ◌∷◌, filter, find, int_eq, int_lt, Option, Some, None, option_map, refl, sym, ap, ap₂, subst, ◌∙◌, arith}
 use Rattle.xa_store.proofs.Common.{AllByRecursion, get, ints, IsKeyedBy, get_by, int_eq_apart, all_both, all_weaker, filter_none, first_of_both, second_of_both, same_bytes, new_domain, Domain, IsNumbered, is_assigned, is_count, PlacedRow, DocumentRow, DomainRow, RootRow, TokenRow, nat_of, reference_of, AreNumbered, AreWhole, Rows, domain_of, kept_of, library_of, roles_of, source_of, state_at}
 use Rattle.sqlite.specs.Ops.{fits_i64}
-use Rattle.xa_store.specs.Steps.{is_named}
+use Rattle.xa_store.specs.keeping.Steps.{is_named}
 use Rattle.xa_store.proofs.ChangeLemmas.{found_all, kept_at, number_of}
 use Rattle.xa_store.proofs.EntryLemmas.{found_passes}
 use Rattle.xa_store.proofs.FilterLemmas.{find_none}

@@ -12,7 +12,7 @@ use Rattle.sqlite_sql.specs.Text.{joined, text_in}
 use Rattle.sqlite_sql.specs.declared.aggregate.AggregateOp.TheVariants.{Concat}
 use Rattle.sqlite_sql.specs.declared.ops.UnaryOp.TheVariants.{Not}
 use Rattle.sqlite_value.specs.Order.{value_cmp}
-use Rattle.xa_store.specs.Check.{has_table, order_query, HasNumbers, Walks}
+use Rattle.xa_store.specs.keeping.Check.{has_table, order_query, HasNumbers, Walks}
 use Rattle.xa_store.proofs.NumberTexts.{AreShort, later_text, same_numbers}
 use Rattle.xa_store.proofs.ReadLemmas.{bare, checked_sound, checked_up, head_read, int_back, numbers_read, rising, walked_numbers}
 use Rattle.xa_store.proofs.RisingTexts.{by_rowid, order_is, rising_query, sorted_query, sorted_tree, text_over}

@@ -1,8 +1,8 @@
 -- What the query for the places of the rows of sources tells, and the query of the first table.
 use Rattle.std.proofs.Common.{◌≡◌, ℕ, Bool, true, false, ◌&&◌, List, [], ◌∷◌, map, filter, length, Ordering, is_eq, int_cmp, refl, sym, ap, subst, ◌∙◌, arith, IsPermutation}
 use Rattle.xa_store.proofs.Common.{nil_from_length, length_permutation, IsPermutation-map, IsPlain, understood, Row, Output, State, Shown, col, Trees, Int, reads_as, one_permutation, sort_by, all_of, ascending-map, ascending_weaker, filter_all, map-map, sort_by-map, IsAscending, then_key, last_key, value_cmp-Int, SchemaVersion, Schema1, Schema2, SourcePlace, are_counted, is_empty, is_left_empty, known_next, place_in, read_meta, schema_of, sources_in, tree_of, PlacedRow, placed_row_in, placed_row, AreRows, Rests, RestsIn, same_place, schema_2}
-use Rattle.xa_store.specs.Check.{are_consecutive, follows, no_place, places_query}
-use Rattle.xa_store.specs.Texts.{meta_rows}
+use Rattle.xa_store.specs.keeping.Check.{are_consecutive, follows, no_place, places_query}
+use Rattle.xa_store.specs.keeping.Texts.{meta_rows}
 use Rattle.xa_store.proofs.CountedLemmas.{count_on, place_cmp, walk_counts}
 use Rattle.xa_store.proofs.FoundLemmas.{found_sorted}
 use Rattle.xa_store.proofs.HitLemmas.{eq_then}

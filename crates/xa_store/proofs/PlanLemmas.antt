@@ -2,8 +2,8 @@
 use Rattle.std.proofs.Common.{◌≡◌, inl, ℕ, ◌<◌, ◌≤◌, ℤ, pos, List, [], filter, Option, Some, None, option_map, Result, Ok, Err, refl, sym, ap, subst, ◌∙◌, arith}
 use Rattle.xa_store.proofs.Common.{get, IsKeyedBy, DomainState, ◌>>=◌, within, Becomes, Domain, Kept, IsChanged, IsNextEpoch, IsNextNumber, state_of, numbered_changed, DomainRow, nat_of, AreNumbered, AreWhole, Rows, state_at, domain_of, kept_of}
 use Rattle.xa_records.specs.declared.refusal.Refusal.{Refusal}
-use Rattle.xa_store.specs.Steps.{AllowsAll, after_all, is_named}
-use Rattle.xa_store.specs.Turns.{Plans}
+use Rattle.xa_store.specs.keeping.Steps.{AllowsAll, after_all, is_named}
+use Rattle.xa_store.specs.keeping.Turns.{Plans}
 use Rattle.xa_store.specs.declared.step.Step.{Step}
 use Rattle.xa_store.proofs.ChangeLemmas.{IsOnly, Rewrote, kept_at, kept_one, number_of, rewritten}
 use Rattle.xa_store.proofs.FilterLemmas.{find_none}

@@ -1,7 +1,7 @@
 -- Calls that only read, one after another.
 use Rattle.std.proofs.Common.{◌≡◌, IsTrue, sym, ap, ◌∙◌, subst}
 use Rattle.xa_store.proofs.Common.{Database, Schema, State, HasCleanDisk, AreDocuments, AreTables, AreNumbered, AreWhole, IsOurDatabase, Ours, Rests, RestsIn, SameNow, rows_of}
-use Rattle.xa_store.specs.Quiet.{Quiet}
+use Rattle.xa_store.specs.keeping.Quiet.{Quiet}
 
 pub rests_after : {under : Schema} (old new : State) → RestsIn under old → SameNow old new → RestsIn under new
 rests_after old new rests same =

@@ -6,8 +6,8 @@ use Rattle.xa_records.specs.declared.gate.Token.{Token}
 use Rattle.xa_records.specs.declared.kept_view.KeptView.{KeptView}
 use Rattle.xa_records.specs.declared.listed.Listed.{Listed}
 use Rattle.xa_store.specs.declared.query.domain.DomainFound.{DomainFound}
-use Rattle.xa_store.specs.Lookup.{IsDomain, TellsGate}
-use Rattle.xa_store.specs.Steps.{is_named}
+use Rattle.xa_store.specs.keeping.Lookup.{IsDomain, TellsGate}
+use Rattle.xa_store.specs.keeping.Steps.{is_named}
 use Rattle.xa_store.proofs.ChangeLemmas.{kept_at, kept_one}
 use Rattle.xa_store.proofs.FilterLemmas.{find_none}
 

@@ -3,9 +3,9 @@ use Rattle.std.proofs.Common.{◌≡◌, ◌≢◌, ℕ, ◌<◌, ℤ, pos, List
 use Rattle.xa_store.proofs.Common.{AllByRecursion, eq_by_cmp, get, ints, both_ways, IsKeyedBy, get_by, delete_where, sort_by, int_eq_apart, same_int, all_weaker, slice_get-filter, same_bytes, removed, compare_bytes, Domain, Becomes, IsChanged, IsNextNumber, numbered_changed, count_from, places_of, PlacedRow, DomainRow, RootRow, nat_of, reference_of, AreNumbered, AreWhole, place_of, Rows, sources_at, roles_of, library_of, root_at, source_of, state_at, domain_of, kept_of}
 use Rattle.xa_store.specs.declared.query.domain.DomainFound.{DomainFound}
 use Rattle.xa_store.specs.declared.step.Step.TheVariants.{DropDomain}
-use Rattle.xa_store.specs.Lookup.{IsDomain}
-use Rattle.xa_store.specs.Steps.{is_named, without_domain}
-use Rattle.xa_store.specs.Turns.{Plans}
+use Rattle.xa_store.specs.keeping.Lookup.{IsDomain}
+use Rattle.xa_store.specs.keeping.Steps.{is_named, without_domain}
+use Rattle.xa_store.specs.keeping.Turns.{Plans}
 use Rattle.xa_store.proofs.ChangeLemmas.{IsOnly, found_all, kept_at, kept_one, not_same, number_of, one_passes}
 use Rattle.xa_store.proofs.EntryLemmas.{found_passes}
 use Rattle.xa_store.proofs.FilterLemmas.{filter_delete_all, filter_delete_others, find_none, filter_alike}

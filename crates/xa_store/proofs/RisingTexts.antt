@@ -8,7 +8,7 @@ use Rattle.sqlite_sql.specs.declared.ops.UnaryOp.TheVariants.{Not}
 use Rattle.sqlite_sql.specs.Group.{Aggregate}
 use Rattle.sqlite_tied.specs.Compute.{everything}
 use Rattle.sqlite_value.specs.Keys.{ascending}
-use Rattle.xa_store.specs.Check.{has_table, order_query}
+use Rattle.xa_store.specs.keeping.Check.{has_table, order_query}
 use Rattle.xa_store.proofs.TextLemmas.{IsQueryIn}
 
 -- the rows that the query makes of its own

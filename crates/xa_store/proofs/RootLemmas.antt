@@ -1,10 +1,10 @@
 -- What the query for a root finds.
 use Rattle.std.proofs.Common.{◌≡◌, ℕ, zero, suc, ℤ, List, [], ◌∷◌, map, Bool, int_eq, Option, option_and_then, refl, sym}
 use Rattle.xa_store.proofs.Common.{Row, column, State, Shown, Trees, Int, Text, IsPlain, understood, Term, col, reads_as, all_of, bytes_of, or_null, unless_null, null_back, DocumentKind, Reference, read_pattern, read_version, RootRow, root_row, root_in, given, kind_number, text_at, Ours, schema_2, rows_of, state_at}
-use Rattle.xa_store.specs.Lookup.{FindsOne}
+use Rattle.xa_store.specs.keeping.Lookup.{FindsOne}
 use Rattle.xa_store.specs.Rows.{reference_of}
-use Rattle.xa_store.specs.Columns.{TellsOne, root_told}
-use Rattle.xa_store.specs.Texts.{show_root}
+use Rattle.xa_store.specs.keeping.Columns.{TellsOne, root_told}
+use Rattle.xa_store.specs.keeping.Texts.{show_root}
 use Rattle.xa_store.proofs.FoundLemmas.{finds_one, found_is}
 use Rattle.xa_store.proofs.HitLemmas.{root_hit}
 use Rattle.xa_store.proofs.SqlLemmas.{Answered, answered}

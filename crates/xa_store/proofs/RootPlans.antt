@@ -2,11 +2,11 @@
 use Rattle.std.proofs.Common.{◌≡◌, ◌≢◌, inr, ◌+◌, ◌<◌, ◌^◌, ℕ, ℤ, List, [], Bool, true, false, not, cond, Option, Some, None, option_map, option_and_then, Ok, refl, sym, ap, subst, ◌∙◌, int_eq}
 use Rattle.xa_store.proofs.Common.{is_utf8, IsKeyedBy, get_by, insert_by, without_key, all-insert_by, int_eq_apart, Reference, pattern_text, read_pattern, read_version, version_text, within, root_set, DomainState, is_assigned, is_count, is_pattern, is_version, DomainRow, RootRow, given, nat_of, AreNumbered, AreRootTexts, AreWhole, is_if_any, Rows, root_at, state_at}
 use Rattle.xa_store.specs.declared.query.domain.DomainFound.{DomainFound}
-use Rattle.xa_store.specs.Lookup.{IsDomain}
-use Rattle.xa_store.specs.Plan.{HasRootTexts, RaisesTo, RootReads, root_steps}
+use Rattle.xa_store.specs.keeping.Lookup.{IsDomain}
+use Rattle.xa_store.specs.keeping.Plan.{HasRootTexts, RaisesTo, RootReads, root_steps}
 use Rattle.xa_store.specs.Rows.{root_of, reference_of}
-use Rattle.xa_store.specs.Steps.{after_all, AllowsAll, with_epoch}
-use Rattle.xa_store.specs.Turns.{Plans}
+use Rattle.xa_store.specs.keeping.Steps.{after_all, AllowsAll, with_epoch}
+use Rattle.xa_store.specs.keeping.Turns.{Plans}
 use Rattle.xa_store.proofs.ChangeLemmas.{IsOnly, Rewrote, number_of}
 use Rattle.xa_store.proofs.KeyLemmas.{get_by-insert_by, get_by-without_key, own_number}
 use Rattle.xa_store.proofs.PlanLemmas.{planned, unchanged}

@@ -3,8 +3,8 @@ use Rattle.std.proofs.Common.{◌≡◌, ◌⊎◌, inl, inr, List, true, false,
 use Rattle.xa_store.proofs.Common.{both_ways, Database, Held, state, State, HasCleanDisk, KeepsCommit, Survives, Ghosts, Trees, Error, Failure, AreTables, IsOurDatabase, Ours, Rests, SameNow, rows_of}
 use Rattle.sqlite.specs.Steps.{FailsToCommit}
 use Rattle.xa_store.specs.declared.step.Step.{Step}
-use Rattle.xa_store.specs.Steps.{AllowsAll}
-use Rattle.xa_store.specs.Execution.{Committed, IsInside, Took, Holds, Runs}
+use Rattle.xa_store.specs.keeping.Steps.{AllowsAll}
+use Rattle.xa_store.specs.keeping.Execution.{Committed, IsInside, Took, Holds, Runs}
 
 module _ {S : Type 0} (g : Ghosts S) (old mid last : Held S) (steps : List Step) where
   abbrev begun : State

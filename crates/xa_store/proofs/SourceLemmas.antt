@@ -1,8 +1,8 @@
 -- What the query for a source finds.
 use Rattle.std.proofs.Common.{◌≡◌, ℤ, List, [], ◌∷◌, map, Bool, false, Ordering, is_eq, int_eq, int_cmp, refl, ap, ◌∙◌}
 use Rattle.xa_store.proofs.Common.{AllByRecursion, Row, column, State, Shown, Trees, Int, Text, IsPlain, understood, Term, col, reads_as, sort_by, all_of, all_weaker, map-map, IsAscending, last_key, value_cmp-Int, PlacedRow, placed_row, placed_row_in, issuer_columns, type_number, value_text, Ours, same_place, schema_2, rows_of, state_at, sources_at}
-use Rattle.xa_store.specs.Columns.{source_told}
-use Rattle.xa_store.specs.Texts.{show_source}
+use Rattle.xa_store.specs.keeping.Columns.{source_told}
+use Rattle.xa_store.specs.keeping.Texts.{show_source}
 use Rattle.xa_store.proofs.FoundLemmas.{found_sorted, map_alike, read_back}
 use Rattle.xa_store.proofs.HitLemmas.{source_hit}
 use Rattle.xa_store.proofs.OrderedLemmas.{all_among, all_sorted, apart_among, apart_then}

@@ -6,12 +6,12 @@ use Rattle.xa_value.specs.declared.value.Value.{Value}
 use Rattle.xa_value.specs.declared.value.Value.TheVariants as value
 use Rattle.xa_store.specs.declared.query.domain.DomainFound.{DomainFound}
 use Rattle.xa_store.specs.declared.step.Step.TheVariants.{AddSourceRow}
-use Rattle.xa_store.specs.Lookup.{IsDomain}
-use Rattle.xa_store.specs.Plan.{HaveTexts, RaisesTo, RowsRead, row_steps, source_steps}
+use Rattle.xa_store.specs.keeping.Lookup.{IsDomain}
+use Rattle.xa_store.specs.keeping.Plan.{HaveTexts, RaisesTo, RowsRead, row_steps, source_steps}
 use Rattle.xa_store.specs.Rows.{value_in, value_text}
 use Rattle.xa_store.specs.Sound.{place_of as placed}
-use Rattle.xa_store.specs.Steps.{AllowsAll, ReadsBack, after, after_all, is_place, with_epoch}
-use Rattle.xa_store.specs.Turns.{Plans}
+use Rattle.xa_store.specs.keeping.Steps.{AllowsAll, ReadsBack, after, after_all, is_place, with_epoch}
+use Rattle.xa_store.specs.keeping.Turns.{Plans}
 use Rattle.xa_store.proofs.ChangeLemmas.{IsOnly, Rewrote, number_of}
 use Rattle.xa_store.proofs.ColumnNumbers.{of_type}
 use Rattle.xa_store.proofs.FilterLemmas.{filter_both, filter_delete_all, filter_delete_others, filter_push, filter_push_apart}

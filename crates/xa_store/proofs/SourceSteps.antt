@@ -2,8 +2,8 @@
 use Rattle.std.proofs.Common.{◌≡◌, ℕ, ℤ, List, [], ◌∷◌, ◌++◌, map, filter, Bool, true, false, refl, sym, ap, ◌∙◌, int_eq, Ok}
 use Rattle.xa_store.proofs.Common.{Chosen, State, Executes, col, Trees, Null, Int, Text, Eq, cast_row, with_rowid, next_rowid, next_key, delete_where, all_of, or_null, at_ints, last_term, SourceRow, PlacedRow, placed_row, placed_row_in, type_number, value_text, AreTables, schema_2, sources}
 use Rattle.xa_store.specs.declared.step.Step.TheVariants.{AddSourceRow, DropSource}
-use Rattle.xa_store.specs.Steps.{ReadsBack, is_place}
-use Rattle.xa_store.specs.Texts as text
+use Rattle.xa_store.specs.keeping.Steps.{ReadsBack, is_place}
+use Rattle.xa_store.specs.keeping.Texts as text
 use Rattle.xa_store.proofs.ChangeLemmas.{none_pass}
 use Rattle.xa_store.proofs.HoldLemmas.{sources_now, came_last, went_out}
 use Rattle.xa_store.proofs.SqlLemmas.{answered}

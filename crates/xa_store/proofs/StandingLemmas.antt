@@ -6,7 +6,7 @@ use Rattle.sqlite.specs.declared.error.Error.TheVariants.{SqliteFailure}
 use Rattle.sqlite.specs.declared.error.ErrorCode.TheVariants.{Closed}
 use Rattle.sqlite_trees.specs.declared.error.StoreError.{StoreError}
 use Rattle.sqlite_trees.specs.declared.error.StoreError.TheVariants.{OutOfMemory, Io, Corrupt, Full, Broken, Unstorable}
-use Rattle.xa_store.specs.Health.{Looks, Sees}
+use Rattle.xa_store.specs.keeping.Health.{Looks, Sees}
 use Rattle.xa_store.proofs.AskLemmas.{rolled_same, unchanged_same}
 
 -- ---- a statement that is prepared, or isn't

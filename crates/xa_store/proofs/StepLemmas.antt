@@ -7,8 +7,8 @@ use Rattle.sqlite.specs.Ops.{unary}
 use Rattle.xa_store.specs.declared.step.RaisedEpoch.{RaisedEpoch}
 use Rattle.xa_store.specs.declared.step.Step.{Step}
 use Rattle.xa_store.specs.declared.step.Step.TheVariants.{SetNext, SetEpoch, AddRoot, DropRoot}
-use Rattle.xa_store.specs.Steps.{after}
-use Rattle.xa_store.specs.Texts as text
+use Rattle.xa_store.specs.keeping.Steps.{after}
+use Rattle.xa_store.specs.keeping.Texts as text
 use Rattle.xa_store.proofs.ColumnNumbers.{of_kind}
 use Rattle.xa_store.proofs.HoldLemmas.{Back, Hold, came, changed, domains_now, meta_now, roots_now, went_out}
 use Rattle.xa_store.proofs.SqlLemmas.{answered}

@@ -2,7 +2,7 @@
 use Rattle.std.proofs.Common.{◌≡◌, ◌⊎◌, inl, inr, ℕ, ℤ, w64, true, false, List, [], ◌∷◌, ◌++◌, Option, Some, None, Result, Ok, Err, IsTrue, OnOk, refl, sym, ap, subst, ◌∙◌, arith}
 use Rattle.xa_store.proofs.Common.{FitsSigned, Database, GivesOn, HasBegun, IsPlain, Held, state, understood, Row, State, HasCleanDisk, IsUnchanged, IsRolledBack, Survives, FailsToQuery, Fails, Ghosts, Error, given_begin, begins_as, begun_plain, unchanged_then, survives_then, OpenError, NotThisSchema, Damaged, Store, Memory, CheckedTable, SchemaVersion, row_number, schema_of, RestsIn, SameNow}
 use Rattle.sqlite.specs.Given.{HasGiven}
-use Rattle.xa_store.specs.Check.{has_table, rows_query, AreHeld, GoesOn, HoldsBack, IsRead, IsUnguarded, Moves, error_of_check, TellsNext, Walked, Walks, is_next_sound_row}
+use Rattle.xa_store.specs.keeping.Check.{has_table, rows_query, AreHeld, GoesOn, HoldsBack, IsRead, IsUnguarded, Moves, error_of_check, TellsNext, Walked, Walks, is_next_sound_row}
 use Rattle.xa_store.proofs.AskLemmas.{goes_then, goes_unchanged, held_rolled, held_unchanged, holds_then, rolled_same, shown_goes, shown_held, unchanged_same}
 use Rattle.xa_store.proofs.AskedLemmas.{failed_fits, never_damaged, never_refused, same_then}
 use Rattle.xa_store.proofs.CheckedTexts.{checked_is}

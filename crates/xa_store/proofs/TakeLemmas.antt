@@ -2,8 +2,8 @@
 use Rattle.std.proofs.Common.{◌≡◌, List, [], ◌∷◌, Result, Ok, Err, IsTrue, OnOk, refl, sym, ap, subst, ◌∙◌, arith}
 use Rattle.xa_store.proofs.Common.{State, HasCleanDisk, Survives, survives_then, Failure, Rows, rows_of}
 use Rattle.xa_store.specs.declared.step.Step.{Step}
-use Rattle.xa_store.specs.Execution.{IsInside, StaysInside, Takes, Took}
-use Rattle.xa_store.specs.Steps.{AllowsAll, after_all}
+use Rattle.xa_store.specs.keeping.Execution.{IsInside, StaysInside, Takes, Took}
+use Rattle.xa_store.specs.keeping.Steps.{AllowsAll, after_all}
 use Rattle.xa_store.proofs.ApartLemmas.{survives_still}
 use Rattle.xa_store.proofs.StepLemmas.{Stepped}
 

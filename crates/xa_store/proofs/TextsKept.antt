@@ -3,7 +3,7 @@ use Rattle.std.proofs.Common.{ℕ, Bool, true, false, not, cond, int_eq, List, [
 use Rattle.xa_store.proofs.Common.{AllByRecursion, update_where, DocumentKey, IsDocumentOf, DocumentRow, AreDocuments, Rows}
 use Rattle.xa_store.specs.declared.step.Step.{Step}
 use Rattle.xa_store.specs.declared.step.Step.TheVariants.{AddDocument, SetActive, DropDocument, DropDomain}
-use Rattle.xa_store.specs.Steps.{Allows, AllowsAll, IsOfKey, after, after_all, is_document}
+use Rattle.xa_store.specs.keeping.Steps.{Allows, AllowsAll, IsOfKey, after, after_all, is_document}
 
 module _ {X : Type 0} (P : X → Type 0) where
   pub all_filter : (p : X → Bool) (xs : List X) → AllByRecursion P xs → AllByRecursion P (filter p xs)

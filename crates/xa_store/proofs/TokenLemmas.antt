@@ -2,10 +2,10 @@
 use Rattle.std.proofs.Common.{◌≡◌, ℕ, ℤ, List, [], ◌∷◌, map, length, false, Ordering, is_eq, int_eq, Option, refl, sym, ap, ◌∙◌}
 use Rattle.xa_store.proofs.Common.{entries, len, len-entries, length-map, Row, State, Shown, Trees, Int, Blob, IsPlain, understood, col, reads_as, sort_by, all_of, map-map, map_same, IsAscending, last_key, value_cmp-Blob, Role, compare_bytes, token_of, bytes_total, TokenRow, token_row, token_in, role_number, Ours, same_token, schema_2, rows_of, state_at, tokens_at, token_entry}
 use Rattle.xa_records.specs.declared.gate.Token.{Token}
-use Rattle.xa_store.specs.Lookup.{FindsRole}
-use Rattle.xa_store.specs.Columns.{TellsOne, role_told, token_told}
-use Rattle.xa_store.specs.Steps.{is_token}
-use Rattle.xa_store.specs.Texts.{show_role, show_tokens}
+use Rattle.xa_store.specs.keeping.Lookup.{FindsRole}
+use Rattle.xa_store.specs.keeping.Columns.{TellsOne, role_told, token_told}
+use Rattle.xa_store.specs.keeping.Steps.{is_token}
+use Rattle.xa_store.specs.keeping.Texts.{show_role, show_tokens}
 use Rattle.xa_store.proofs.FoundLemmas.{finds_one, found_sorted}
 use Rattle.xa_store.proofs.HitLemmas.{token_hit, tokens_hit}
 use Rattle.xa_store.proofs.OrderedLemmas.{apart_among, apart_then, entries_sorted}

@@ -2,10 +2,10 @@
 use Rattle.std.proofs.Common.{◌≡◌, ◌≢◌, inl, ℕ, ℤ, List, [], ◌∷◌, ◌++◌, filter, find, Bool, true, false, ◌||◌, not, cond, nat_lt, Option, Some, None, option_map, is_some, Ok, Err, refl, sym, ap, subst, ◌∙◌, int_eq}
 use Rattle.xa_store.proofs.Common.{AllByRecursion, eq_by_cmp, FinMap, contains_key, insert, remove, len, IsKeyedBy, next_key, update_where, delete_where, int_eq_apart, same_int, Role, Absent, Quota, token_dropped, token_put, with_tokens, within, DomainState, compare_bytes, IsNextEpoch, state_of, bytes_exact, bytes_total, is_digest, DomainRow, TokenRow, nat_of, AreNumbered, Rows, roles_of, state_at, tokens_at, kept_of}
 use Rattle.xa_store.specs.declared.query.domain.DomainFound.{DomainFound}
-use Rattle.xa_store.specs.Lookup.{FindsRole, IsDomain}
+use Rattle.xa_store.specs.keeping.Lookup.{FindsRole, IsDomain}
 use Rattle.xa_store.specs.declared.step.Step.TheVariants.{AddToken, SetRole, DropToken}
-use Rattle.xa_store.specs.Steps.{is_named, is_token, with_epoch}
-use Rattle.xa_store.specs.Turns.{Plans}
+use Rattle.xa_store.specs.keeping.Steps.{is_named, is_token, with_epoch}
+use Rattle.xa_store.specs.keeping.Turns.{Plans}
 use Rattle.xa_store.proofs.ChangeLemmas.{IsOnly, Rewrote, number_of, one_passes}
 use Rattle.xa_store.proofs.EntryLemmas.{got, pushed, updated, deleted}
 use Rattle.xa_store.proofs.FilterLemmas.{filter_both, filter_delete, filter_delete_apart, filter_push, filter_push_apart, filter_update, filter_update_apart, find_none, find_one, filter_alike}

@@ -2,8 +2,8 @@
 use Rattle.std.proofs.Common.{◌≡◌, ℕ, ℤ, List, [], ◌∷◌, ◌++◌, map, filter, true, false, ◌&&◌, Ok, refl, sym, ap, ◌∙◌, int_eq}
 use Rattle.xa_store.proofs.Common.{eq_by_cmp, and_parts, and_from, Chosen, State, Executes, col, Trees, Null, Int, Blob, Eq, cast_row, with_rowid, next_rowid, next_key, update_where, delete_where, all_of, all_weaker, same_int, at_ints, at_blobs, then_term, last_term, same_bytes, bytes_eq_refl, Role, compare_bytes, TokenRow, role_number, token_row, token_in, AreTables, same_token, schema_2, tokens}
 use Rattle.xa_store.specs.declared.step.Step.TheVariants.{AddToken, SetRole, DropToken}
-use Rattle.xa_store.specs.Steps.{is_token}
-use Rattle.xa_store.specs.Texts as text
+use Rattle.xa_store.specs.keeping.Steps.{is_token}
+use Rattle.xa_store.specs.keeping.Texts as text
 use Rattle.xa_store.proofs.ChangeLemmas.{none_pass}
 use Rattle.xa_store.proofs.HitLemmas.{turn_bytes}
 use Rattle.xa_store.proofs.HoldLemmas.{Back, came_last, changed, tokens_now, went_out}

@@ -3,10 +3,10 @@ use Rattle.std.proofs.Common.{◌≡◌, ◌⊎◌, inl, inr, ℕ, List, Result,
 use Rattle.xa_store.proofs.Common.{Database, Held, state, Ghosts, State, HasCleanDisk, Trees, ChangeError, Failure, Change, IfAnswered, IsMade, AreDocuments, AreNumbered, AreOurs, AreWhole, Ours, SameNow, Rows, rows_of, kept_of, world_of}
 use Rattle.xa_records.specs.declared.refusal.ChangeError.TheVariants.{Failed, Refused}
 use Rattle.xa_store.specs.declared.step.Step.{Step}
-use Rattle.xa_store.specs.Quiet.{Quiet}
-use Rattle.xa_store.specs.Steps.{AllowsAll}
-use Rattle.xa_store.specs.Execution.{Holds, Made, Runs}
-use Rattle.xa_store.specs.Turns.{IsPlanned, Plans, Turns, answer_of}
+use Rattle.xa_store.specs.keeping.Quiet.{Quiet}
+use Rattle.xa_store.specs.keeping.Steps.{AllowsAll}
+use Rattle.xa_store.specs.keeping.Execution.{Holds, Made, Runs}
+use Rattle.xa_store.specs.keeping.Turns.{IsPlanned, Plans, Turns, answer_of}
 use Rattle.xa_store.proofs.QuietLemmas.{ours_after}
 use Rattle.xa_store.proofs.ReopenLemmas.{tables_open}
 use Rattle.xa_store.proofs.TextsKept.{documents_kept}

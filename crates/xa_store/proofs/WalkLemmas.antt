@@ -1,7 +1,7 @@
 -- Reading a table row by row.
 use Rattle.std.proofs.Common.{◌≡◌, ℤ, true, false, ◌&&◌, List, [], ◌∷◌, ◌++◌, Option, Some, None, sym, ap, ◌∙◌, append-nil, append_assoc}
 use Rattle.xa_store.proofs.Common.{Row, CheckedTable, row_number}
-use Rattle.xa_store.specs.Check.{checks, is_next_sound_row}
+use Rattle.xa_store.specs.keeping.Check.{checks, is_next_sound_row}
 
 -- what the rows that were given say of all rows, when these follow
 abbrev pub Leads : CheckedTable → ℤ → List Row → Option ℤ → Type 0

@@ -1,7 +1,7 @@
 -- The columns of all rows hold what they should, also after rows have come, gone and changed.
 use Rattle.std.proofs.Common.{◌≡◌, ℕ, ◌+◌, ◌<◌, ◌^◌, ℤ, pos, negsuc, true, List, map, nat_lt, int_eq, int_le, int_lt, int_cmp, ap, subst, ◌∙◌, arith}
 use Rattle.xa_store.proofs.Common.{AllByRecursion, nat_tests, ints, insert_by, sort_by, all-insert_by, all_weaker, filter-map, map-map, first_of_both, second_of_both, is_domain_name, SourcePlace, is_assigned, is_count, is_digest, places_of, DomainRow, TokenRow, DocumentRow, RootRow, PlacedRow, nat_of, AreRootTexts, AreSourceTexts, AreWhole, place_of, Rows, sources_at}
-use Rattle.xa_store.specs.Steps.{is_named, with_epoch}
+use Rattle.xa_store.specs.keeping.Steps.{is_named, with_epoch}
 use Rattle.xa_store.proofs.ChangeLemmas.{IsOnly}
 use Rattle.xa_store.proofs.RiseLemmas.{both_true, lt_trans}
 use Rattle.xa_store.proofs.TextsKept.{all_filter, all_update}

@@ -5,9 +5,9 @@
 ghost use Rattle.std.specs.Prelude.{◌≡◌, ◌++◌, [], ◌∷◌, Result, Err, IfErr, IfOk};
 ghost use Rattle.sqlite.specs.Held.{state};
 ghost use Rattle.xa_records.specs.declared.refusal.Failure.{Failure as Failed};
-ghost use Rattle.xa_store.specs.Execution.{Runs};
-ghost use Rattle.xa_store.specs.Plan.{epoch_step};
-ghost use Rattle.xa_store.specs.Turns.{answer_of};
+ghost use Rattle.xa_store.specs.keeping.Execution.{Runs};
+ghost use Rattle.xa_store.specs.keeping.Plan.{epoch_step};
+ghost use Rattle.xa_store.specs.keeping.Turns.{answer_of};
 
 pub(crate) mod document;
 pub(crate) mod domain;

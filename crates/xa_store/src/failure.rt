@@ -5,7 +5,7 @@ ghost use Rattle.sqlite.specs.declared.error.Error.TheVariants.{SqliteFailure};
 ghost use Rattle.sqlite.specs.declared.error.ErrorCode.TheVariants.{OutOfMemory};
 ghost use Rattle.xa_records.specs.declared.refusal.Failure.TheVariants as failures;
 ghost use Rattle.xa_store.specs.declared.error.OpenError.TheVariants.{Memory};
-ghost use Rattle.xa_store.specs.Check.{error_of_check};
+ghost use Rattle.xa_store.specs.keeping.Check.{error_of_check};
 ghost use Rattle.xa_store.specs.Opening.{IsFailure};
 
 use crate::error::OpenError;

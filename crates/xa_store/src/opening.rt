@@ -12,7 +12,7 @@
 ghost use Rattle.std.specs.Prelude.{◌≡◌, ◌≢◌, false, Err, IfErr, IfOk, IsTrue};
 ghost use Rattle.sqlite.specs.Held.{state};
 ghost use Rattle.sqlite.specs.State.{HasCleanDisk, Survives};
-ghost use Rattle.xa_store.specs.Check.{IsIdle, Loads, Tested, found_as};
+ghost use Rattle.xa_store.specs.keeping.Check.{IsIdle, Loads, Tested, found_as};
 ghost use Rattle.xa_store.specs.Keeper.{IsSound};
 ghost use Rattle.xa_store.specs.Opened.{schema_of};
 ghost use Rattle.xa_store.specs.Opening.{has_room, held_in, schema_version_in, IsBlank, IsKnown, IsRefusal};

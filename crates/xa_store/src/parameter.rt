@@ -5,7 +5,7 @@ ghost use Rattle.sqlite.specs.Values.{bound_value};
 ghost use Rattle.sqlite_value.specs.Value.{owned};
 ghost use Rattle.xa_policy.specs.Pattern.{pattern_text};
 ghost use Rattle.xa_policy.specs.Version.{version_text};
-ghost use Rattle.xa_store.specs.Execution.{text_column};
+ghost use Rattle.xa_store.specs.keeping.Execution.{text_column};
 ghost use Rattle.xa_store.specs.Rows.{activity_number, kind_number, role_number, type_number};
 
 use sqlite::types::ValueRef;

@@ -11,7 +11,7 @@ ghost use Rattle.sqlite.specs.Values.{bound};
 ghost use Rattle.sqlite.specs.declared.error.Error.TheVariants.{SqliteFailure};
 ghost use Rattle.sqlite.specs.declared.error.ErrorCode.TheVariants.{OutOfMemory};
 ghost use Rattle.xa_records.specs.declared.refusal.Failure.TheVariants.{Memory};
-ghost use Rattle.xa_store.specs.Quiet.{FailsToQueryOver, OnlyReadsOver, ShownOver};
+ghost use Rattle.xa_store.specs.keeping.Quiet.{FailsToQueryOver, OnlyReadsOver, ShownOver};
 ghost use Rattle.xa_store.specs.Tables.{schema_2};
 
 pub(crate) mod cell;

@@ -6,11 +6,11 @@ ghost use Rattle.sqlite_keyed.specs.Keyed.{IsKeyedBy};
 ghost use Rattle.xa_records.specs.Changes.{activity_set, deleted, upload_of, uploaded, within};
 ghost use Rattle.xa_records.specs.DomainState.{IsDocumentOf};
 ghost use Rattle.xa_records.specs.Kept.{state_of};
-ghost use Rattle.xa_store.specs.Lookup.{FindsDocument, IsDomain};
-ghost use Rattle.xa_store.specs.Plan.{IsUploadPlanned, PlansFound, PlansOver, number_key, upload_by};
-ghost use Rattle.xa_store.specs.Quiet.{OnlyReadsForChangeOver, OverRows};
+ghost use Rattle.xa_store.specs.keeping.Lookup.{FindsDocument, IsDomain};
+ghost use Rattle.xa_store.specs.keeping.Plan.{IsUploadPlanned, PlansFound, PlansOver, number_key, upload_by};
+ghost use Rattle.xa_store.specs.keeping.Quiet.{OnlyReadsForChangeOver, OverRows};
 ghost use Rattle.xa_store.specs.Sound.{AreNumbered, Ours};
-ghost use Rattle.xa_store.specs.Turns.{PlansIn, Turns};
+ghost use Rattle.xa_store.specs.keeping.Turns.{PlansIn, Turns};
 ghost use Rattle.xa_store.specs.World.{Rows, world_of};
 
 use crate::change::found::{document_to_change, domain_to_change};

@@ -1,7 +1,7 @@
 //! The domain, the document and the token that a change is of. If they are absent, it is refused.
 ghost use Rattle.std.specs.Prelude.{None, Some, IfErr};
-ghost use Rattle.xa_store.specs.Lookup.{FindsDocument, FindsDomain, FindsRole, IsDomain, TellsAbsent};
-ghost use Rattle.xa_store.specs.Quiet.{OnlyReadsForChangeOver, OverRows, ReadsRows};
+ghost use Rattle.xa_store.specs.keeping.Lookup.{FindsDocument, FindsDomain, FindsRole, IsDomain, TellsAbsent};
+ghost use Rattle.xa_store.specs.keeping.Quiet.{OnlyReadsForChangeOver, OverRows, ReadsRows};
 
 use crate::query::document::document_of;
 use crate::query::document_row::DocumentFound;

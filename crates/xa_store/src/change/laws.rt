@@ -5,10 +5,10 @@ ghost use Rattle.std.specs.Str.{is_utf8};
 ghost use Rattle.xa_policy.specs.Pattern.{pattern_text, read_pattern};
 ghost use Rattle.xa_policy.specs.Version.{read_version, version_text};
 ghost use Rattle.xa_store.specs.Opened.{is_digest, is_pattern, is_version};
-ghost use Rattle.xa_store.specs.Plan.{HasRootTexts, RootReads};
+ghost use Rattle.xa_store.specs.keeping.Plan.{HasRootTexts, RootReads};
 ghost use Rattle.xa_store.specs.Rows.{given, reference_of, root_of};
 ghost use Rattle.xa_store.specs.Sound.{AreRootTexts, is_if_any};
-ghost use Rattle.xa_store.specs.Steps.{KeyReads};
+ghost use Rattle.xa_store.specs.keeping.Steps.{KeyReads};
 
 use xa_policy::{DocumentKey, Pattern, Reference, Version};
 use xa_records::Digest;

@@ -1,6 +1,6 @@
 //! The number after another: numbers of domains and epochs rise by one.
 ghost use Rattle.std.specs.Prelude.{◌≡◌, Ok, Err, IfErr, IfOk};
-ghost use Rattle.xa_store.specs.Plan.{RaisesTo};
+ghost use Rattle.xa_store.specs.keeping.Plan.{RaisesTo};
 
 use crate::query::domain::DomainFound;
 use crate::step::RaisedEpoch;

@@ -2,10 +2,10 @@
 ghost use Rattle.std.specs.Prelude.{◌≡◌, ℕ, nat_lt, List, None};
 ghost use Rattle.sqlite.specs.Held.{state};
 ghost use Rattle.xa_records.specs.Changes.{token_dropped, token_put, within};
-ghost use Rattle.xa_store.specs.Lookup.{FindsRole, IsDomain};
-ghost use Rattle.xa_store.specs.Plan.{PlansFound};
-ghost use Rattle.xa_store.specs.Quiet.{OnlyReadsForChangeOver, OverRows};
-ghost use Rattle.xa_store.specs.Turns.{IsPlanned, PlansIn, Turns};
+ghost use Rattle.xa_store.specs.keeping.Lookup.{FindsRole, IsDomain};
+ghost use Rattle.xa_store.specs.keeping.Plan.{PlansFound};
+ghost use Rattle.xa_store.specs.keeping.Quiet.{OnlyReadsForChangeOver, OverRows};
+ghost use Rattle.xa_store.specs.keeping.Turns.{IsPlanned, PlansIn, Turns};
 
 use crate::change::found::{domain_to_change, role_to_change};
 use crate::change::laws::has_all_bytes;

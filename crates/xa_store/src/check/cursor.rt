@@ -4,8 +4,9 @@ ghost use Rattle.sqlite.specs.Given.{HasGiven, row_if};
 ghost use Rattle.sqlite.specs.Held.{state};
 ghost use Rattle.sqlite.specs.Order.{Row as SqlRow};
 ghost use Rattle.sqlite.specs.State.{HasCleanDisk, IsUnchanged};
-ghost use Rattle.xa_store.specs.Check.{IsKeptOrUndone, Moves, SurvivesOver, TellsNext, TellsNumber, Walked};
-ghost use Rattle.xa_store.specs.Check.{comes_after, has_table};
+ghost use Rattle.xa_store.specs.keeping.Check.{IsKeptOrUndone, Moves, SurvivesOver, TellsNext};
+ghost use Rattle.xa_store.specs.keeping.Check.{TellsNumber, Walked};
+ghost use Rattle.xa_store.specs.keeping.Check.{comes_after, has_table};
 
 use crate::check::row::{is_sound_row, row_number};
 use crate::error::OpenError;

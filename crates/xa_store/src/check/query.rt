@@ -5,7 +5,7 @@ ghost use Rattle.sqlite.specs.Held.{state};
 ghost use Rattle.sqlite.specs.Listing.{understood};
 ghost use Rattle.sqlite.specs.State.{HasCleanDisk, Shown};
 ghost use Rattle.xa_store.specs.declared.schema.version.SchemaVersion.{SchemaVersion as Version};
-ghost use Rattle.xa_store.specs.Check.{AsksOver};
+ghost use Rattle.xa_store.specs.keeping.Check.{AsksOver};
 ghost use Rattle.xa_store.specs.Opened.{schema_of};
 ghost use Rattle.xa_store.specs.Opening.{IsFailure};
 ghost use Rattle.xa_store.specs.Sound.{RestsIn};

@@ -2,7 +2,7 @@
 //! they were, whatever the queries do.
 ghost use Rattle.std.specs.Prelude.{◌≢◌};
 ghost use Rattle.sqlite.specs.Held.{state};
-ghost use Rattle.xa_store.specs.Check.{Begins, IsIdle, Tested, Undoes, found_as};
+ghost use Rattle.xa_store.specs.keeping.Check.{Begins, IsIdle, Tested, Undoes, found_as};
 ghost use Rattle.xa_store.specs.Opened.{schema_of};
 ghost use Rattle.xa_store.specs.declared.keeper.tables.Tables.TheVariants.{WithOthers};
 

@@ -7,7 +7,7 @@ ghost use Rattle.xa_store.specs.CheckedColumns.{rowid};
 ghost use Rattle.xa_store.specs.Opened.{holds_body, holds_key_of, holds_typed_value, holds_value};
 ghost use Rattle.xa_store.specs.Opened.{holds_value_text, int_in, is_printed, is_sound_row};
 ghost use Rattle.xa_store.specs.Opened.{is_value, known_next, next_of, type_numbered};
-ghost use Rattle.xa_store.specs.Check.{follows, place_told};
+ghost use Rattle.xa_store.specs.keeping.Check.{follows, place_told};
 ghost use Rattle.xa_store.specs.declared.schema.checked_table.CheckedTable.TheVariants.{Attributes, Sources};
 ghost use Rattle.xa_store.specs.declared.schema.checked_table.CheckedTable.TheVariants.{Documents, Domains};
 ghost use Rattle.xa_store.specs.declared.schema.checked_table.CheckedTable.TheVariants.{Roots, Tokens};

@@ -5,7 +5,7 @@ ghost use Rattle.sqlite.specs.Held.{state};
 ghost use Rattle.sqlite.specs.declared.error.Error.TheVariants.{SqliteFailure};
 ghost use Rattle.sqlite.specs.declared.error.ErrorCode.TheVariants.{Closed};
 ghost use Rattle.xa_records.specs.Keeper.{IsOneMore};
-ghost use Rattle.xa_store.specs.Health.{Looks, Sees, TellsChange, TellsFailure, TellsReading};
+ghost use Rattle.xa_store.specs.keeping.Health.{Looks, Sees, TellsChange, TellsFailure, TellsReading};
 
 use crate::sql;
 use sqlite::{Alter, Connection, Error, ErrorCode, Statement};

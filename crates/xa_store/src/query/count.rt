@@ -1,7 +1,7 @@
 //! How many tokens and documents a domain has.
 ghost use Rattle.std.specs.Prelude.{◌≡◌};
 ghost use Rattle.std.specs.FinMap.{len};
-ghost use Rattle.xa_store.specs.Quiet.{OnlyReadsOver, ReadsRows};
+ghost use Rattle.xa_store.specs.keeping.Quiet.{OnlyReadsOver, ReadsRows};
 ghost use Rattle.xa_store.specs.World.{state_at};
 
 use crate::query::query_rows;

@@ -1,6 +1,6 @@
 //! Documents as rows tell them: the one that was found by its key, and those of which a row tells the key.
 ghost use Rattle.std.specs.Prelude.{◌≡◌, IfOk};
-ghost use Rattle.xa_store.specs.Columns.{document_told, key_told, listed_told, text_told};
+ghost use Rattle.xa_store.specs.keeping.Columns.{document_told, key_told, listed_told, text_told};
 
 use crate::query::cell::{bytes_in, flag_in, kind_in, text_in, version_in};
 use crate::query::columns::{active_text, document_found, document_key, listed};

@@ -1,7 +1,7 @@
 //! The domain of a name: its number and its epoch.
 ghost use Rattle.std.specs.Prelude.{IfOk};
-ghost use Rattle.xa_store.specs.Lookup.{FindsDomain, TellDomain};
-ghost use Rattle.xa_store.specs.Quiet.{OnlyReadsOver, ReadsRows};
+ghost use Rattle.xa_store.specs.keeping.Lookup.{FindsDomain, TellDomain};
+ghost use Rattle.xa_store.specs.keeping.Quiet.{OnlyReadsOver, ReadsRows};
 
 use crate::query::cell::number_in;
 use crate::query::columns::domain_found;

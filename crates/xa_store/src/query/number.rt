@@ -1,7 +1,7 @@
 //! The number that the next domain gets.
 ghost use Rattle.std.specs.Prelude.{IfOk};
-ghost use Rattle.xa_store.specs.Lookup.{IsNext, TellNext};
-ghost use Rattle.xa_store.specs.Quiet.{OnlyReadsOver, ReadsRows};
+ghost use Rattle.xa_store.specs.keeping.Lookup.{IsNext, TellNext};
+ghost use Rattle.xa_store.specs.keeping.Quiet.{OnlyReadsOver, ReadsRows};
 
 use crate::query::cell::number_in;
 use crate::query::query_rows;

@@ -1,7 +1,7 @@
 //! The root of a domain.
 ghost use Rattle.std.specs.Prelude.{◌≡◌};
-ghost use Rattle.xa_store.specs.Quiet.{OnlyReadsOver, ReadsRows};
-ghost use Rattle.xa_store.specs.Columns.{root_told};
+ghost use Rattle.xa_store.specs.keeping.Quiet.{OnlyReadsOver, ReadsRows};
+ghost use Rattle.xa_store.specs.keeping.Columns.{root_told};
 ghost use Rattle.xa_store.specs.World.{state_at};
 
 use crate::query::cell::{kind_in, pattern_if_any, text_in, version_if_any};

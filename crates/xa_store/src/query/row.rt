@@ -1,7 +1,7 @@
 //! The trait of all that is read from one row, and the readers of one row and of many.
 ghost use Rattle.std.specs.Prelude.{◌≡◌, map, IfOk};
 ghost use Rattle.sqlite.specs.Order.{Row as SqlRow};
-ghost use Rattle.xa_store.specs.Columns.{TellsOne};
+ghost use Rattle.xa_store.specs.keeping.Columns.{TellsOne};
 
 use sqlite::Row;
 use std::alloc::Global;

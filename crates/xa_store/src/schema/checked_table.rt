@@ -1,6 +1,6 @@
 //! The tables whose rows are checked one by one when a store is opened, each by two queries.
 ghost use Rattle.std.specs.Prelude.{◌≡◌};
-ghost use Rattle.xa_store.specs.Check.{order_query, rows_query};
+ghost use Rattle.xa_store.specs.keeping.Check.{order_query, rows_query};
 
 use crate::sql;
 

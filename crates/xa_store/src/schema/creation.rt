@@ -2,9 +2,9 @@
 ghost use Rattle.std.specs.Prelude.{◌≡◌, [], ◌∷◌, IsTrue, OnOk};
 ghost use Rattle.sqlite.specs.Held.{state};
 ghost use Rattle.sqlite.specs.State.{HasCleanDisk};
-ghost use Rattle.xa_store.specs.Check.{MakesTables};
-ghost use Rattle.xa_store.specs.Creation.{part_statement, AreMade, IsAfter, IsBefore};
-ghost use Rattle.xa_store.specs.Execution.{StaysInside};
+ghost use Rattle.xa_store.specs.keeping.Check.{MakesTables};
+ghost use Rattle.xa_store.specs.keeping.Creation.{part_statement, AreMade, IsAfter, IsBefore};
+ghost use Rattle.xa_store.specs.keeping.Execution.{StaysInside};
 ghost use Rattle.xa_store.specs.declared.schema.creation.Part.TheVariants as parts;
 
 use crate::error::OpenError;

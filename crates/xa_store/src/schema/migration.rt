@@ -3,9 +3,10 @@ ghost use Rattle.std.specs.Prelude.{◌≡◌, IsTrue, OnOk};
 ghost use Rattle.sqlite.specs.Held.{state};
 ghost use Rattle.sqlite.specs.State.{HasCleanDisk};
 ghost use Rattle.sqlite.specs.Tree.{Trees};
-ghost use Rattle.xa_store.specs.Check.{MigratesTables};
-ghost use Rattle.xa_store.specs.Migration.{stage_statement, IsAfter, IsBefore, IsDone, IsSoundSchema1};
-ghost use Rattle.xa_store.specs.Execution.{StaysInside};
+ghost use Rattle.xa_store.specs.keeping.Check.{MigratesTables};
+ghost use Rattle.xa_store.specs.keeping.Migration.{stage_statement, IsAfter, IsBefore};
+ghost use Rattle.xa_store.specs.keeping.Migration.{IsDone, IsSoundSchema1};
+ghost use Rattle.xa_store.specs.keeping.Execution.{StaysInside};
 ghost use Rattle.xa_store.specs.declared.schema.migration.Stage.TheVariants as stages;
 
 use crate::error::OpenError;

@@ -1,6 +1,6 @@
 //! The two schemas of a keeper's tables, and what differs between them.
 ghost use Rattle.std.specs.Prelude.{◌≡◌};
-ghost use Rattle.xa_store.specs.Check.{places_query};
+ghost use Rattle.xa_store.specs.keeping.Check.{places_query};
 ghost use Rattle.xa_store.specs.Opened.{number_of, sources_in};
 
 use crate::schema::checked_table::CheckedTable;

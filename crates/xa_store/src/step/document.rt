@@ -3,7 +3,7 @@ ghost use Rattle.std.specs.Prelude.{◌≡◌};
 ghost use Rattle.sqlite.specs.Held.{state};
 ghost use Rattle.xa_store.specs.declared.step.Step.TheVariants.{AddDocument, DropDocument, SetActive};
 ghost use Rattle.xa_policy.specs.Version.{version_text};
-ghost use Rattle.xa_store.specs.Execution.{IsTakenBy, StaysInsideOver, Takes};
+ghost use Rattle.xa_store.specs.keeping.Execution.{IsTakenBy, StaysInsideOver, Takes};
 
 use crate::parameter::{activity_number, kind_number};
 use crate::sql;

@@ -1,7 +1,7 @@
 //! The statements that add and drop a domain, and set its epoch and the number of the next.
 ghost use Rattle.std.specs.Prelude.{◌≡◌};
 ghost use Rattle.xa_store.specs.declared.step.Step.TheVariants.{AddDomain, DropDomain, SetEpoch, SetNext};
-ghost use Rattle.xa_store.specs.Execution.{IsTakenBy};
+ghost use Rattle.xa_store.specs.keeping.Execution.{IsTakenBy};
 
 use crate::sql;
 use crate::step::RaisedEpoch;

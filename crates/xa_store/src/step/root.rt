@@ -1,7 +1,7 @@
 //! The statements that add and drop a root.
 ghost use Rattle.std.specs.Prelude.{◌≡◌};
 ghost use Rattle.xa_store.specs.declared.step.Step.TheVariants.{AddRoot, DropRoot};
-ghost use Rattle.xa_store.specs.Execution.{IsTakenBy};
+ghost use Rattle.xa_store.specs.keeping.Execution.{IsTakenBy};
 
 use crate::parameter::{kind_number, text_of_pattern, text_of_version, text_or_null};
 use crate::sql;

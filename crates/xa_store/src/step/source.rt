@@ -1,7 +1,7 @@
 //! The statements that add a row of a source, and drop a source.
 ghost use Rattle.std.specs.Prelude.{◌≡◌};
 ghost use Rattle.xa_store.specs.declared.step.Step.TheVariants.{AddSourceRow, DropSource};
-ghost use Rattle.xa_store.specs.Execution.{IsTakenBy};
+ghost use Rattle.xa_store.specs.keeping.Execution.{IsTakenBy};
 
 use crate::parameter::{text_or_null, type_number};
 use crate::sql;

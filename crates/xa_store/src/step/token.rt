@@ -1,7 +1,7 @@
 //! The statements that add and drop a token, and set its role.
 ghost use Rattle.std.specs.Prelude.{◌≡◌};
 ghost use Rattle.xa_store.specs.declared.step.Step.TheVariants.{AddToken, DropToken, SetRole};
-ghost use Rattle.xa_store.specs.Execution.{IsTakenBy};
+ghost use Rattle.xa_store.specs.keeping.Execution.{IsTakenBy};
 
 use crate::parameter::role_number;
 use crate::sql;

@@ -6,7 +6,7 @@ ghost use Rattle.sqlite.specs.declared.error.Error.{Error as SqliteError};
 ghost use Rattle.sqlite.specs.declared.error.Error.TheVariants.{SqliteFailure};
 ghost use Rattle.sqlite.specs.declared.error.ErrorCode.TheVariants.{OutOfMemory};
 ghost use Rattle.xa_records.specs.declared.refusal.Failure.TheVariants.{Memory};
-ghost use Rattle.xa_store.specs.Execution.{CommittedOver, FailsToCommitOver, Runs};
+ghost use Rattle.xa_store.specs.keeping.Execution.{CommittedOver, FailsToCommitOver, Runs};
 
 use crate::failure::failure_of;
 use crate::step::Step;

@@ -1,6 +1,6 @@
 use Rattle.std.proofs.Common.{sym, subst}
 use Rattle.xa_store.proofs.Common.{state}
-use Rattle.xa_store.specs.Check.{Tested, found_as}
+use Rattle.xa_store.specs.keeping.Check.{Tested, found_as}
 use Rattle.xa_store.proofs.OpenLemmas.{ours_told}
 use Rattle.xa_store.proofs.opening.check_found.Goals as goal
 

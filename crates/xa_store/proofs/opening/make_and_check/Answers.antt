@@ -1,6 +1,6 @@
 use Rattle.std.proofs.Common.{◌≡◌, Result, Ok, Err, MatchResult, IsErrAnd, sym, subst, rules}
 use Rattle.xa_store.proofs.Common.{state, State, OpenError, Schema2}
-use Rattle.xa_store.specs.Check.{Loads, Tested}
+use Rattle.xa_store.specs.keeping.Check.{Loads, Tested}
 use Rattle.xa_store.specs.Opening.{IsFailure}
 use Rattle.xa_store.specs.declared.keeper.tables.Tables.{Tables}
 use Rattle.xa_store.proofs.OpenLemmas.{made_failed, made_sound, not_made}

@@ -4,7 +4,7 @@ use Rattle.sqlite.specs.Values.{bound}
 use Rattle.sqlite.specs.declared.error.Error.TheVariants.{SqliteFailure}
 use Rattle.sqlite.specs.declared.error.ErrorCode.TheVariants.{OutOfMemory}
 use Rattle.xa_records.specs.declared.refusal.Failure.TheVariants.{Memory}
-use Rattle.xa_store.specs.Quiet.{FailsToQueryOver}
+use Rattle.xa_store.specs.keeping.Quiet.{FailsToQueryOver}
 use Rattle.xa_store.proofs.query.query_rows.Goals as goal
 
 -- an answer whose error is told otherwise

@@ -1,6 +1,6 @@
 use Rattle.std.proofs.Common.{◌≡◌, sym, subst, rules, SFits, w64}
 use Rattle.xa_store.proofs.Common.{to_z-of_z, both_ways, activity_set, within}
-use Rattle.xa_store.specs.Turns.{Plans}
+use Rattle.xa_store.specs.keeping.Turns.{Plans}
 use Rattle.xa_store.proofs.DocumentPlans.{plan_activity, plan_still}
 use Rattle.xa_store.proofs.change.document.plan_active_over.Goals as goal
 

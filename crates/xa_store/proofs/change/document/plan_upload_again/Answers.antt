@@ -1,5 +1,5 @@
 use Rattle.std.proofs.Common.{Ok, sym, subst, ◌∙◌}
-use Rattle.xa_store.specs.Plan.{IsUploadPlanned}
+use Rattle.xa_store.specs.keeping.Plan.{IsUploadPlanned}
 use Rattle.xa_store.proofs.DocumentPlans.{plan_again, plan_other}
 use Rattle.xa_store.proofs.change.document.plan_upload_again.Goals as goal
 

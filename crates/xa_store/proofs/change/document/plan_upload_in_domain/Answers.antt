@@ -1,7 +1,7 @@
 use Rattle.std.proofs.Common.{None, subst, rules, w64}
 use Rattle.xa_store.proofs.Common.{to_z-of_z, state, Rows, rows_of}
-use Rattle.xa_store.specs.Lookup.{FindsDocument, IsDomain}
-use Rattle.xa_store.specs.Plan.{IsUploadPlanned}
+use Rattle.xa_store.specs.keeping.Lookup.{FindsDocument, IsDomain}
+use Rattle.xa_store.specs.keeping.Plan.{IsUploadPlanned}
 use Rattle.xa_store.proofs.QuietLemmas.{ours_between, rows_between}
 use Rattle.xa_store.proofs.change.document.plan_upload_in_domain.Goals as goal
 

@@ -1,6 +1,6 @@
 use Rattle.std.proofs.Common.{◌≡◌, true, false, nat_lt, Ok, sym, subst, rules, w64, ◌∙◌}
 use Rattle.xa_store.proofs.Common.{to_z-of_z, state, rows_of}
-use Rattle.xa_store.specs.Plan.{IsUploadPlanned}
+use Rattle.xa_store.specs.keeping.Plan.{IsUploadPlanned}
 use Rattle.xa_store.proofs.DocumentPlans.{plan_full, plan_upload}
 use Rattle.xa_store.proofs.change.document.plan_upload_new.Goals as goal
 

@@ -1,6 +1,6 @@
 use Rattle.std.proofs.Common.{sym, subst, rules, SFits, w64}
 use Rattle.xa_store.proofs.Common.{to_z-of_z, created}
-use Rattle.xa_store.specs.Turns.{Plans}
+use Rattle.xa_store.specs.keeping.Turns.{Plans}
 use Rattle.xa_store.proofs.CreatePlans.{plan_created}
 use Rattle.xa_store.proofs.change.domain.plan_create_new.Goals as goal
 

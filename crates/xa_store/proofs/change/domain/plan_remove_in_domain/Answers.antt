@@ -1,6 +1,6 @@
 use Rattle.std.proofs.Common.{sym, subst, rules, SFits, w64}
 use Rattle.xa_store.proofs.Common.{to_z-of_z, removed}
-use Rattle.xa_store.specs.Turns.{Plans}
+use Rattle.xa_store.specs.keeping.Turns.{Plans}
 use Rattle.xa_store.proofs.RemovePlans.{plan_removed}
 use Rattle.xa_store.proofs.change.domain.plan_remove_in_domain.Goals as goal
 

@@ -1,6 +1,6 @@
 use Rattle.std.proofs.Common.{IsTrue, w64}
 use Rattle.xa_store.proofs.Common.{to_z-of_z, state, rows_of}
-use Rattle.xa_store.specs.Lookup.{FindsDocument}
+use Rattle.xa_store.specs.keeping.Lookup.{FindsDocument}
 use Rattle.xa_store.proofs.AbsentLemmas.{found_absent, found_answers, found_there}
 use Rattle.xa_store.proofs.change.found.document_to_change.Goals as goal
 

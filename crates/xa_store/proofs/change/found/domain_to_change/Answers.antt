@@ -1,6 +1,6 @@
 use Rattle.std.proofs.Common.{IsTrue}
 use Rattle.xa_store.proofs.Common.{state, rows_of}
-use Rattle.xa_store.specs.Lookup.{FindsDomain}
+use Rattle.xa_store.specs.keeping.Lookup.{FindsDomain}
 use Rattle.xa_store.proofs.AbsentLemmas.{found_absent, found_answers, found_there}
 use Rattle.xa_store.proofs.change.found.domain_to_change.Goals as goal
 

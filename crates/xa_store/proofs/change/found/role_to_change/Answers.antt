@@ -1,6 +1,6 @@
 use Rattle.std.proofs.Common.{IsTrue, w64}
 use Rattle.xa_store.proofs.Common.{to_z-of_z, state, rows_of}
-use Rattle.xa_store.specs.Lookup.{FindsRole}
+use Rattle.xa_store.specs.keeping.Lookup.{FindsRole}
 use Rattle.xa_store.proofs.AbsentLemmas.{found_absent, found_answers, found_there}
 use Rattle.xa_store.proofs.change.found.role_to_change.Goals as goal
 

@@ -1,6 +1,6 @@
 use Rattle.std.proofs.Common.{sym, subst}
 use Rattle.xa_store.proofs.Common.{both_ways, root_set, within}
-use Rattle.xa_store.specs.Turns.{Plans}
+use Rattle.xa_store.specs.keeping.Turns.{Plans}
 use Rattle.xa_store.proofs.RootPlans.{plan_new, plan_same}
 use Rattle.xa_store.proofs.change.root.plan_root_over.Goals as goal
 

@@ -1,6 +1,6 @@
 use Rattle.std.proofs.Common.{sym, subst}
 use Rattle.std.proofs.lemmas.List.{drop_all}
-use Rattle.xa_store.specs.Plan.{HaveTexts, RowsRead}
+use Rattle.xa_store.specs.keeping.Plan.{HaveTexts, RowsRead}
 use Rattle.xa_store.proofs.CountLemmas.{rest_from}
 use Rattle.xa_store.proofs.change.source.check_rows.Goals as goal
 

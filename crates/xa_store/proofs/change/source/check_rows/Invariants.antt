@@ -1,5 +1,5 @@
 use Rattle.std.proofs.Common.{drop}
-use Rattle.xa_store.specs.Plan.{HaveTexts, RowsRead}
+use Rattle.xa_store.specs.keeping.Plan.{HaveTexts, RowsRead}
 use Rattle.xa_store.proofs.change.source.check_rows.Given as goal
 
 -- all of them do, if those that are left do

@@ -1,6 +1,6 @@
 use Rattle.std.proofs.Common.{inl, inr, sym, subst, ◌∙◌}
 use Rattle.xa_store.proofs.Common.{both_ways, source_set, within}
-use Rattle.xa_store.specs.Turns.{Plans}
+use Rattle.xa_store.specs.keeping.Turns.{Plans}
 use Rattle.xa_store.proofs.SourcePlans.{at_most, plan_new, plan_same, too_many}
 use Rattle.xa_store.proofs.change.source.plan_source_over.Goals as goal
 

@@ -1,6 +1,6 @@
 use Rattle.std.proofs.Common.{◌≡◌, ◌≤◌, ◌+◌, ◌++◌, length}
 use Rattle.std.specs.Vec.Iter.{into_iter_items}
-use Rattle.xa_store.specs.Plan.{row_steps}
+use Rattle.xa_store.specs.keeping.Plan.{row_steps}
 use Rattle.xa_store.proofs.change.source.row_steps.Given as goal
 
 -- the steps so far, before those of the rows that are left

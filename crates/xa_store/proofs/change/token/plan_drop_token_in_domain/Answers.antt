@@ -1,6 +1,6 @@
 use Rattle.std.proofs.Common.{◌≡◌, Err, sym, subst, rules, w64}
 use Rattle.xa_store.proofs.Common.{to_z-of_z, state, token_dropped, within, rows_of}
-use Rattle.xa_store.specs.Turns.{Plans}
+use Rattle.xa_store.specs.keeping.Turns.{Plans}
 use Rattle.xa_store.proofs.AbsentLemmas.{refused_plan}
 use Rattle.xa_store.proofs.TokenPlans.{plan_drop, plan_no_drop}
 use Rattle.xa_store.proofs.change.token.plan_drop_token_in_domain.Goals as goal

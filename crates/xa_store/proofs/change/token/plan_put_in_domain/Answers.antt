@@ -1,7 +1,7 @@
 use Rattle.std.proofs.Common.{None, sym, subst, rules, w64}
 use Rattle.xa_store.proofs.Common.{to_z-of_z, state, token_put, within, Rows, rows_of}
-use Rattle.xa_store.specs.Lookup.{FindsRole, IsDomain}
-use Rattle.xa_store.specs.Turns.{IsPlanned, Plans}
+use Rattle.xa_store.specs.keeping.Lookup.{FindsRole, IsDomain}
+use Rattle.xa_store.specs.keeping.Turns.{IsPlanned, Plans}
 use Rattle.xa_store.proofs.QuietLemmas.{ours_between, rows_between}
 use Rattle.xa_store.proofs.TokenPlans.{plan_role}
 use Rattle.xa_store.proofs.change.token.plan_put_in_domain.Goals as goal

@@ -1,6 +1,6 @@
 use Rattle.std.proofs.Common.{◌≡◌, true, false, nat_lt, sym, subst, rules, w64, ◌∙◌}
 use Rattle.xa_store.proofs.Common.{to_z-of_z, state, token_put, within, rows_of}
-use Rattle.xa_store.specs.Turns.{Plans}
+use Rattle.xa_store.specs.keeping.Turns.{Plans}
 use Rattle.xa_store.proofs.TokenPlans.{plan_full, plan_token}
 use Rattle.xa_store.proofs.change.token.plan_put_new.Goals as goal
 

@@ -1,6 +1,6 @@
 use Rattle.std.proofs.Common.{◌≡◌, true, ◌∙◌, ℕ, ℤ, inl, inr, List, [], Option, Result, Ok, Err, refl, sym, subst, subst₂, rules, w64}
 use Rattle.xa_store.proofs.Common.{to_z-of_z, FitsSigned, HasGiven, Held, state, Row, State, HasCleanDisk, FailsToQuery, Survives, CommitsShowing, Ghosts, Trees, Error, OpenError, CheckedTable, SchemaVersion}
-use Rattle.xa_store.specs.Check.{has_table, error_of_check, rows_query, Moves, Walked, Walks}
+use Rattle.xa_store.specs.keeping.Check.{has_table, error_of_check, rows_query, Moves, Walked, Walks}
 use Rattle.xa_store.specs.Opening.{IsFailure}
 use Rattle.xa_store.proofs.AskedLemmas.{a_failure, failed_fits, not_asked, survives_asked}
 use Rattle.xa_store.proofs.StreamLemmas.{checked_plain, keeps_begun, keeps_on, stands_begun, survived_on, walk_ended, walk_goes_on, walk_stopped}

@@ -1,6 +1,6 @@
 use Rattle.std.proofs.Common.{◌≡◌}
 use Rattle.xa_store.proofs.Common.{state, Survives}
-use Rattle.xa_store.specs.Check.{IsUnguarded}
+use Rattle.xa_store.specs.keeping.Check.{IsUnguarded}
 use Rattle.xa_store.proofs.StreamLemmas.{Keeps, Stands}
 use Rattle.xa_store.proofs.check.cursor.walk.Given as goal
 

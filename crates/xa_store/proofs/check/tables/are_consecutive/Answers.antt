@@ -1,5 +1,5 @@
 use Rattle.std.proofs.Common.{◌≡◌, ◌∙◌, sym, Some}
-use Rattle.xa_store.specs.Check.{place_told}
+use Rattle.xa_store.specs.keeping.Check.{place_told}
 use Rattle.xa_store.proofs.CountLemmas.{goes_on, stops}
 use Rattle.xa_store.proofs.check.tables.are_consecutive.Goals as goal
 

@@ -1,5 +1,5 @@
 use Rattle.std.proofs.Common.{◌≡◌, drop}
-use Rattle.xa_store.specs.Check.{are_consecutive, no_place}
+use Rattle.xa_store.specs.keeping.Check.{are_consecutive, no_place}
 use Rattle.xa_store.proofs.check.tables.are_consecutive.Given as goal
 
 abbrev pub invariant-loop-row : goal.invariant-loop-row

@@ -1,6 +1,6 @@
 use Rattle.std.proofs.Common.{◌≡◌, ℤ, Err, Result, SFits, w64, rules, subst}
 use Rattle.xa_store.proofs.Common.{to_z-of_z, IsDatabase, state, State, HasCleanDisk, OpenError, SchemaVersion, is_sound, schema_of, RestsIn}
-use Rattle.xa_store.specs.Check.{TellsSound}
+use Rattle.xa_store.specs.keeping.Check.{TellsSound}
 use Rattle.xa_store.proofs.LoadLemmas.{all_checked, not_looked}
 use Rattle.xa_store.proofs.check.tables.check.Goals as goal
 

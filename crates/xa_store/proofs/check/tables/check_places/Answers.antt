@@ -1,6 +1,6 @@
 use Rattle.std.proofs.Common.{◌≡◌, ◌∙◌, Err, rules, sym, subst}
 use Rattle.xa_store.proofs.Common.{IsPlain, state, understood, schema_of}
-use Rattle.xa_store.specs.Check.{are_consecutive, no_place, TellsSound}
+use Rattle.xa_store.specs.keeping.Check.{are_consecutive, no_place, TellsSound}
 use Rattle.xa_store.proofs.AskedLemmas.{as_failed, as_told}
 use Rattle.xa_store.proofs.LoadLemmas.{failure_checked}
 use Rattle.xa_store.proofs.PlaceLemmas.{places_count, places_plain}

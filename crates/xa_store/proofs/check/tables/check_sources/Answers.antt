@@ -1,6 +1,6 @@
 use Rattle.std.proofs.Common.{sym, subst}
 use Rattle.xa_store.proofs.Common.{state}
-use Rattle.xa_store.specs.Check.{Asks, FindsRest}
+use Rattle.xa_store.specs.keeping.Check.{Asks, FindsRest}
 use Rattle.xa_store.proofs.LoadLemmas.{none_beside}
 use Rattle.xa_store.proofs.check.tables.check_sources.Goals as goal
 

@@ -1,6 +1,6 @@
 use Rattle.std.proofs.Common.{◌≡◌, ◌&&◌, true, sym, subst}
 use Rattle.xa_store.proofs.Common.{state, is_sound_table, sources_in, Domains, Tokens, Documents, Roots}
-use Rattle.xa_store.specs.Check.{has_table, CheckedBy}
+use Rattle.xa_store.specs.keeping.Check.{has_table, CheckedBy}
 use Rattle.xa_store.proofs.LoadLemmas.{all_tables, has_sources, checked_then}
 use Rattle.xa_store.proofs.check.tables.check_tables.Goals as goal
 

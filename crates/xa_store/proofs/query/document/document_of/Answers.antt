@@ -1,7 +1,7 @@
 use Rattle.std.proofs.Common.{w64}
 use Rattle.xa_store.proofs.Common.{to_z-of_z, state, rows_of}
-use Rattle.xa_store.specs.Lookup.{FindsDocument}
-use Rattle.xa_store.specs.Columns.{TellsOne, document_told}
+use Rattle.xa_store.specs.keeping.Lookup.{FindsDocument}
+use Rattle.xa_store.specs.keeping.Columns.{TellsOne, document_told}
 use Rattle.xa_store.proofs.FoundLemmas.{finds_in}
 use Rattle.xa_store.proofs.DocumentLemmas.{document_found, reads_as_version}
 use Rattle.xa_store.proofs.query.document.document_of.Goals as goal

@@ -1,6 +1,6 @@
 use Rattle.std.proofs.Common.{◌≡◌, None, Some, map, rules, w64, ap, subst, ◌∙◌}
 use Rattle.xa_store.proofs.Common.{to_z-of_z, state, entries, token_of, rows_of, state_at}
-use Rattle.xa_store.specs.Lookup.{FindsDomain}
+use Rattle.xa_store.specs.keeping.Lookup.{FindsDomain}
 use Rattle.xa_store.proofs.QuietLemmas.{ours_between, rows_between}
 use Rattle.xa_store.proofs.ReadingLemmas.{gate_absent, gate_is}
 use Rattle.xa_store.proofs.query.reading.gate_by_name.Goals as goal

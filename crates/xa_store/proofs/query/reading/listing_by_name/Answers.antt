@@ -1,6 +1,6 @@
 use Rattle.std.proofs.Common.{◌≡◌, None, Some, rules, SFits, w64, ap, subst, ◌∙◌}
 use Rattle.xa_store.proofs.Common.{to_z-of_z, state, listing_of_state, rows_of, state_at}
-use Rattle.xa_store.specs.Lookup.{FindsDomain}
+use Rattle.xa_store.specs.keeping.Lookup.{FindsDomain}
 use Rattle.xa_store.proofs.QuietLemmas.{ours_between, rows_between}
 use Rattle.xa_store.proofs.ReadingLemmas.{listing_absent, listing_there}
 use Rattle.xa_store.proofs.query.reading.listing_by_name.Goals as goal

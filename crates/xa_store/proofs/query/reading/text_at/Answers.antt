@@ -1,6 +1,6 @@
 use Rattle.std.proofs.Common.{◌≡◌, None, Some, rules, w64, sym, subst}
 use Rattle.xa_store.proofs.Common.{to_z-of_z, state, rows_of}
-use Rattle.xa_store.specs.Lookup.{FindsDocument}
+use Rattle.xa_store.specs.keeping.Lookup.{FindsDocument}
 use Rattle.xa_store.proofs.DocumentLemmas.{text_is}
 use Rattle.xa_store.proofs.query.reading.text_at.Goals as goal
 

@@ -1,6 +1,6 @@
 use Rattle.std.proofs.Common.{◌≡◌, None, Some, rules, w64, ap, subst}
 use Rattle.xa_store.proofs.Common.{to_z-of_z, state, text_in, rows_of, state_at}
-use Rattle.xa_store.specs.Lookup.{FindsDomain}
+use Rattle.xa_store.specs.keeping.Lookup.{FindsDomain}
 use Rattle.xa_store.proofs.QuietLemmas.{ours_between, rows_between}
 use Rattle.xa_store.proofs.FoundLemmas.{becomes}
 use Rattle.xa_store.proofs.ReadingLemmas.{text_absent, text_there}

@@ -1,6 +1,6 @@
 use Rattle.std.proofs.Common.{◌≡◌, w64}
 use Rattle.xa_store.proofs.Common.{to_z-of_z, state, rows_of, state_at}
-use Rattle.xa_store.specs.Columns.{TellsOne, root_told}
+use Rattle.xa_store.specs.keeping.Columns.{TellsOne, root_told}
 use Rattle.xa_store.proofs.FoundLemmas.{finds_in}
 use Rattle.xa_store.proofs.RootLemmas.{root_read}
 use Rattle.xa_store.proofs.query.root.root_of.Goals as goal

@@ -1,7 +1,7 @@
 use Rattle.std.proofs.Common.{w64}
 use Rattle.xa_store.proofs.Common.{to_z-of_z, state, rows_of}
-use Rattle.xa_store.specs.Lookup.{FindsRole}
-use Rattle.xa_store.specs.Columns.{TellsOne, role_told}
+use Rattle.xa_store.specs.keeping.Lookup.{FindsRole}
+use Rattle.xa_store.specs.keeping.Columns.{TellsOne, role_told}
 use Rattle.xa_store.proofs.FoundLemmas.{finds_in}
 use Rattle.xa_store.proofs.TokenLemmas.{role_found}
 use Rattle.xa_store.proofs.query.token.role_of.Goals as goal

@@ -1,6 +1,6 @@
 use Rattle.std.proofs.Common.{◌≡◌, refl, subst, rules}
 use Rattle.xa_store.proofs.Common.{state}
-use Rattle.xa_store.specs.Check.{MakesTables}
+use Rattle.xa_store.specs.keeping.Check.{MakesTables}
 use Rattle.xa_store.proofs.MadeLemmas.{made_or_not}
 use Rattle.xa_store.proofs.schema.creation.make.Goals as goal
 

@@ -3,7 +3,7 @@ use Rattle.std.proofs.lemmas.List.{drop_all}
 use Rattle.xa_store.proofs.Common.{state, HasCleanDisk}
 use Rattle.xa_store.specs.declared.schema.creation.Part.{Part}
 use Rattle.xa_store.specs.declared.schema.creation.Part.TheVariants as parts
-use Rattle.xa_store.specs.Creation.{IsAfter, IsBefore}
+use Rattle.xa_store.specs.keeping.Creation.{IsAfter, IsBefore}
 use Rattle.xa_store.proofs.MakingLemmas.{MadeSoFar, none_made, one_made, stays_then}
 use Rattle.xa_store.proofs.schema.creation.make_parts.Goals as goal
 

@@ -1,6 +1,6 @@
 use Rattle.std.proofs.Common.{◌≡◌, refl, subst, rules}
 use Rattle.xa_store.proofs.Common.{state}
-use Rattle.xa_store.specs.Check.{MigratesTables}
+use Rattle.xa_store.specs.keeping.Check.{MigratesTables}
 use Rattle.xa_store.proofs.MadeLemmas.{migrated_or_not}
 use Rattle.xa_store.proofs.schema.migration.migrate.Goals as goal
 

@@ -1,6 +1,6 @@
 use Rattle.std.proofs.Common.{◌≡◌, refl, subst, rules}
 use Rattle.xa_store.proofs.Common.{state}
-use Rattle.xa_store.specs.Execution.{Runs}
+use Rattle.xa_store.specs.keeping.Execution.{Runs}
 use Rattle.xa_store.proofs.RunLemmas.{run_ended}
 use Rattle.xa_store.proofs.step.transaction.run.Goals as goal
 

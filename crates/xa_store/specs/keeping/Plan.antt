@@ -16,16 +16,16 @@ use Rattle.xa_records.specs.declared.refusal.Failure.{Failure}
 use Rattle.xa_records.specs.declared.refusal.Failure.TheVariants.{Memory, Store}
 use Rattle.xa_records.specs.declared.upload.Upload.{Upload}
 use Rattle.xa_records.specs.declared.upload.Upload.TheVariants.{New, Same}
-use Rattle.xa_store.specs.Lookup.{IsDomain}
+use Rattle.xa_store.specs.keeping.Lookup.{IsDomain}
 use Rattle.xa_store.specs.Rows.{DomainRow, root_of, reference_of}
-use Rattle.xa_store.specs.Turns.{IsPlanned}
+use Rattle.xa_store.specs.keeping.Turns.{IsPlanned}
 use Rattle.xa_store.specs.World.{Rows, kept_of, rows_now}
 use Rattle.xa_store.specs.declared.query.domain.DomainFound.{DomainFound}
 use Rattle.xa_store.specs.declared.step.Step.{Step}
 use Rattle.xa_store.specs.declared.step.Step.TheVariants.{AddDomain, SetNext, SetEpoch, AddRoot}
 use Rattle.xa_store.specs.declared.step.Step.TheVariants.{DropRoot, AddSourceRow, DropSource}
 use Rattle.xa_store.specs.Sound.{AreNumbered, AreRootTexts, AreSourceTexts, Ours}
-use Rattle.xa_store.specs.Steps.{ReadsBack}
+use Rattle.xa_store.specs.keeping.Steps.{ReadsBack}
 
 -- the steps that make a domain: it gets the number, and the next domain gets the one after it
 abbrev pub create_steps : List ℕ → ℤ → ℤ → List Step

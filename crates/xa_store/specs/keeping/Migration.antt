@@ -15,7 +15,7 @@ use Rattle.xa_store.specs.declared.schema.version.SchemaVersion.TheVariants.{Sch
 use Rattle.xa_store.specs.Opened.{opened}
 use Rattle.xa_store.specs.Rows.{meta_row, next_in}
 use Rattle.xa_store.specs.Tables.{meta_tree, schema_1, schema_2, tree_of}
-use Rattle.xa_store.specs.Texts as text
+use Rattle.xa_store.specs.keeping.Texts as text
 
 -- the statement of the stage
 abbrev pub stage_statement : Stage → List ℕ

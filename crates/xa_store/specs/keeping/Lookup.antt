@@ -12,7 +12,7 @@ use Rattle.xa_records.specs.declared.refusal.Refusal.TheVariants.{Absent}
 use Rattle.xa_store.specs.declared.query.document_row.DocumentFound.{DocumentFound}
 use Rattle.xa_store.specs.declared.query.domain.DomainFound.{DomainFound}
 use Rattle.xa_store.specs.Rows.{DomainRow, DocumentRow, nat_of}
-use Rattle.xa_store.specs.Steps.{is_named, is_token, is_document}
+use Rattle.xa_store.specs.keeping.Steps.{is_named, is_token, is_document}
 use Rattle.xa_store.specs.World.{Rows}
 
 -- the row is the one of that name

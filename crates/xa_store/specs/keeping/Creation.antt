@@ -10,7 +10,7 @@ use Rattle.xa_store.specs.declared.schema.creation.Part.{Part}
 use Rattle.xa_store.specs.declared.schema.creation.Part.TheVariants as part
 use Rattle.xa_store.specs.Opening.{no_tables, AreNewTables}
 use Rattle.xa_store.specs.Tables.{meta, domains, tokens, policies, roots, schema_1, schema_2, meta_tree, tree_of}
-use Rattle.xa_store.specs.Texts as text
+use Rattle.xa_store.specs.keeping.Texts as text
 
 -- the statement that makes the part
 abbrev pub part_statement : Part → List ℕ

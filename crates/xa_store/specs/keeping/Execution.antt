@@ -13,7 +13,7 @@ use Rattle.sqlite_typed.specs.Columns.{or_null}
 use Rattle.xa_records.specs.declared.refusal.Failure.{Failure}
 use Rattle.xa_store.specs.declared.step.Step.{Step}
 use Rattle.xa_store.specs.Sound.{AreTables, IsOurDatabase, Ours, Rests, SameNow}
-use Rattle.xa_store.specs.Steps.{Allows, AllowsAll, after_all}
+use Rattle.xa_store.specs.keeping.Steps.{Allows, AllowsAll, after_all}
 use Rattle.xa_store.specs.Tables.{schema_2}
 use Rattle.xa_store.specs.World.{Rows, rows_of}
 

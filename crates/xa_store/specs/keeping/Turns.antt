@@ -12,7 +12,7 @@ use Rattle.xa_records.specs.Keeper.{Changes, IfAnswered}
 use Rattle.xa_records.specs.Kept.{IsMade, state_of}
 use Rattle.xa_store.specs.declared.step.Step.{Step}
 use Rattle.xa_store.specs.Sound.{AreNumbered, AreOurs, AreWhole, Ours}
-use Rattle.xa_store.specs.Steps.{after_all, AllowsAll}
+use Rattle.xa_store.specs.keeping.Steps.{after_all, AllowsAll}
 use Rattle.xa_store.specs.World.{Rows, kept_of, rows_now, world_of}
 
 -- the steps make the change of the domain of that name, and may be taken
