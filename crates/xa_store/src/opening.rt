@@ -2,11 +2,11 @@
 //! are brought into schema 2.
 //!
 //! The steps, in this order. Each has a function of its own, whose clauses settle one question:
-//! 1. `load`: is a transaction under way? Is a name of a keeper's tables taken? Its clauses (`Loads`) tell
-//!    what opening answers and leaves.
+//! 1. `make_or_check`: is a transaction under way? Is a name of a keeper's tables taken? Its clauses
+//!    (`Loads`) tell what opening answers and leaves.
 //! 2. `make_and_check`, if no name is taken: are the tables made? If so, step 4 checks them as any others.
-//! 3. `load_kept`, if one is: which schema is it? Tables of schema 1 are brought into schema 2 after step 4
-//!    (`check_and_migrate`).
+//! 3. `check_existing`, if one is: which schema is it? Tables of schema 1 are brought into schema 2 after
+//!    step 4 (`check_and_migrate`).
 //! 4. `check_as`: are there other tables, too (`found_tables`)?
 //! 5. `check_found`: is each row sound? Beside other tables this is checked in a transaction that is undone.
 ghost use Rattle.std.specs.Prelude.{◌≡◌, ◌≢◌, false, Err, IfErr, IfOk, IsTrue};
@@ -31,7 +31,7 @@ use crate::keeper::SqlRecords;
 use crate::keeper::tables::Tables;
 use crate::schema::creation::make;
 use crate::schema::migration::migrate;
-use crate::schema::shape::{has_room, is_of, schema_version_in};
+use crate::schema::shape::{has_room, has_schema, schema_version_in};
 use crate::schema::version::SchemaVersion;
 use sqlite::{Alter, Connection};
 use sqlite_schema::schema::Schema;
@@ -62,7 +62,7 @@ impl<S: Alter> SqlRecords<S> {
         ensures stays { HasCleanDisk (state S.Store (held_in S.Store result)) → IsKnown (state S.Store conn)
             → IfOk result (λ k. IsTrue (state S.Store k.conn).is_open) }
     {
-        match load(alloc, &mut conn) {
+        match make_or_check(alloc, &mut conn) {
             Ok(tables) => Ok(SqlRecords::over(conn, tables)),
             Err(error) => Err((error, conn)),
         }
@@ -74,7 +74,7 @@ fn found_tables(version: SchemaVersion, schema: &Schema) -> Tables
     ensures ours { result ≡ OnlyOurs → schema.now ≡ schema_of version }
     ensures others { result ≡ WithOthers → schema.now ≢ schema_of version }
 {
-    if is_of(version, schema) {
+    if has_schema(version, schema) {
         Tables::OnlyOurs
     } else {
         Tables::WithOthers
@@ -140,7 +140,7 @@ fn check_and_migrate<S: Alter>(alloc: Global, conn: &mut Connection<S>) -> Resul
 }
 
 /// Checks the tables that are there, and brings those of schema 1 into schema 2. It says which they are.
-fn load_kept<S: Alter>(alloc: Global, conn: &mut Connection<S>) -> Result<Tables, OpenError>
+fn check_existing<S: Alter>(alloc: Global, conn: &mut Connection<S>) -> Result<Tables, OpenError>
     requires { has_room (state S.Store conn.old).now.schema ≡ false }
     ensures { Loads (state S.Store conn.old) (state S.Store conn.new) result }
 {
@@ -151,7 +151,7 @@ fn load_kept<S: Alter>(alloc: Global, conn: &mut Connection<S>) -> Result<Tables
 }
 
 /// Makes the tables or checks them, and says which they are.
-fn load<S: Alter>(alloc: Global, conn: &mut Connection<S>) -> Result<Tables, OpenError>
+fn make_or_check<S: Alter>(alloc: Global, conn: &mut Connection<S>) -> Result<Tables, OpenError>
     ensures loads { Loads (state S.Store conn.old) (state S.Store conn.new) result }
     ensures busy { IsTrue (state S.Store conn.old).in_transaction
         → (result ≡ Err Store) × (conn.new ≡ conn.old) }
@@ -162,6 +162,6 @@ fn load<S: Alter>(alloc: Global, conn: &mut Connection<S>) -> Result<Tables, Ope
     if has_room(conn.schema()) {
         make_and_check(alloc, conn)
     } else {
-        load_kept(alloc, conn)
+        check_existing(alloc, conn)
     }
 }

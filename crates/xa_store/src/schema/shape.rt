@@ -346,7 +346,7 @@ pub(crate) fn is_schema_2(schema: &Schema) -> bool
 }
 
 /// Whether it is that schema, and nothing else is in it.
-pub(crate) fn is_of(version: SchemaVersion, schema: &Schema) -> bool
+pub(crate) fn has_schema(version: SchemaVersion, schema: &Schema) -> bool
     ensures { IsTrue result ↔ (schema.now ≡ schema_of version) }
 {
     match version {

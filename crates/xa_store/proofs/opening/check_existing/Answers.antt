@@ -2,7 +2,7 @@ use Rattle.std.proofs.Common.{sym, ap, ◌∙◌}
 use Rattle.xa_store.proofs.Common.{state}
 use Rattle.xa_store.specs.Opening.{schema_version_in}
 use Rattle.xa_store.proofs.OpenLemmas.{tested_loads}
-use Rattle.xa_store.proofs.opening.load_kept.Goals as goal
+use Rattle.xa_store.proofs.opening.check_existing.Goals as goal
 
 pub check_and_migrate-requires-clause-taken : goal.check_and_migrate-requires-clause-taken
 check_and_migrate-requires-clause-taken g c = c.requires
