@@ -2,7 +2,7 @@
 use Rattle.std.proofs.Common.{◌≡◌, inl, inr, [], true, false, Result, Ok, Err, OnOk, IfErr, MatchResult, IsErrAnd, IsTrue, refl, sym, subst, ◌∙◌, arith}
 use Rattle.xa_store.proofs.Common.{both_ways, Database, Held, state, State, HasCleanDisk, KeepsCommit, KeepsCounts, Shows, Survives, Ghosts, Trees, Error, survives_begin, survives_then, IsSound, OpenError, Schema1, SameNow}
 use Rattle.sqlite.specs.Steps.{FailsToCommit}
-use Rattle.xa_store.specs.declared.schema.creation.Part.TheVariants as parts
+use Rattle.xa_store.specs.declared.schema.creation.CreationStep.TheVariants as steps
 use Rattle.xa_store.specs.keeping.Check.{IsSoundIn, MakesTables, MigratesTables}
 use Rattle.xa_store.specs.keeping.Creation.{AreMade, IsBefore}
 use Rattle.xa_store.specs.keeping.Migration.{IsDone, HasSchema1, IsSoundSchema1}
@@ -42,7 +42,7 @@ module _ {S : Type 0} (g : Ghosts S) (old mid last : Held S) where
 
     -- ---- the tables as they are made
 
-    module _ (makes : HasCleanDisk (state g mid) → IsTrue begun.in_transaction → IsBefore parts.Meta begun.now → AreMade (state g mid).now) where
+    module _ (makes : HasCleanDisk (state g mid) → IsTrue begun.in_transaction → IsBefore steps.Meta begun.now → AreMade (state g mid).now) where
       from_blank : HasCleanDisk (state g mid) → IsTrue begun.in_transaction → IsBlank (state g old) → AreMade (state g mid).now
       from_blank clean inside blank = makes clean inside (record { schema = blank.schema; empty = tt })
 

@@ -4,9 +4,9 @@ use Rattle.xa_store.proofs.Common.{AllByRecursion, Database, IsDatabase, underst
 use Rattle.sqlite.specs.Change.{created, next_tree}
 use Rattle.sqlite.specs.Does.{Tally, Does, MakesSequence, MakesTable, lacks_sequence, sequence_text}
 use Rattle.sqlite_catalog.specs.Change.{KeepsRows}
-use Rattle.xa_store.specs.declared.schema.creation.Part.{Part}
-use Rattle.xa_store.specs.declared.schema.creation.Part.TheVariants as parts
-use Rattle.xa_store.specs.keeping.Creation.{AreEmpty, AreMade, part_statement, with_meta, with_domains, with_tokens, with_policies, with_roots, IsBefore, IsAfter}
+use Rattle.xa_store.specs.declared.schema.creation.CreationStep.{CreationStep}
+use Rattle.xa_store.specs.declared.schema.creation.CreationStep.TheVariants as steps
+use Rattle.xa_store.specs.keeping.Creation.{AreEmpty, AreMade, creation_statement, with_meta, with_domains, with_tokens, with_policies, with_roots, IsBefore, IsAfter}
 use Rattle.xa_store.specs.keeping.Execution.{StaysInside}
 use Rattle.xa_store.specs.Opening.{no_tables}
 use Rattle.xa_store.specs.keeping.Texts as texts
@@ -75,16 +75,16 @@ still old new stays empty Roots = stays 7 refl ∙ empty.1.1.1.1.0
 still old new stays empty Attributes = stays 8 refl ∙ empty.1.1.1.1.1.0
 still old new stays empty Sources = stays 10 refl ∙ empty.1.1.1.1.1.1.0
 
--- a part that was made is there, and those before it still are
-pub taken : (part : Part) (old new : State) (count : ℕ) → IsBefore part old.now → Executes (part_statement part) [] old new (Ok count) → IsAfter part new.now
-taken parts.Meta old new count before h = grown no_tables texts.create_meta meta meta_is refl old new before.schema count h with_meta refl before.empty
-taken parts.Domains old new count before h = grown with_meta texts.create_domains domains domains_is refl old new before.schema count h with_domains refl before.empty
-taken parts.Tokens old new count before h = grown with_domains texts.create_tokens tokens tokens_is refl old new before.schema count h with_tokens refl before.empty
-taken parts.Policies old new count before h = grown with_tokens texts.create_policies policies policies_is refl old new before.schema count h with_policies refl before.empty
-taken parts.Roots old new count before h = grown with_policies texts.create_roots roots roots_is refl old new before.schema count h with_roots refl before.empty
-taken parts.Attributes old new count before h = grown with_roots texts.create_attributes attributes attributes_is refl old new before.schema count h schema_1 schema_1_made before.empty
-taken parts.Sources old new count before h = grown schema_1 texts.create_sources sources sources_is refl old new before.schema count h schema_2 all_made before.empty
-taken parts.FirstRow old new count before h =
+-- what stands after a step, by its statement
+pub taken : (step : CreationStep) (old new : State) (count : ℕ) → IsBefore step old.now → Executes (creation_statement step) [] old new (Ok count) → IsAfter step new.now
+taken steps.Meta old new count before h = grown no_tables texts.create_meta meta meta_is refl old new before.schema count h with_meta refl before.empty
+taken steps.Domains old new count before h = grown with_meta texts.create_domains domains domains_is refl old new before.schema count h with_domains refl before.empty
+taken steps.Tokens old new count before h = grown with_domains texts.create_tokens tokens tokens_is refl old new before.schema count h with_tokens refl before.empty
+taken steps.Policies old new count before h = grown with_tokens texts.create_policies policies policies_is refl old new before.schema count h with_policies refl before.empty
+taken steps.Roots old new count before h = grown with_policies texts.create_roots roots roots_is refl old new before.schema count h with_roots refl before.empty
+taken steps.Attributes old new count before h = grown with_roots texts.create_attributes attributes attributes_is refl old new before.schema count h schema_1 schema_1_made before.empty
+taken steps.Sources old new count before h = grown schema_1 texts.create_sources sources sources_is refl old new before.schema count h schema_2 all_made before.empty
+taken steps.FirstRow old new count before h =
     let adds = inserts texts.add_meta_row [] old new before.schema 0 meta refl count first_row 4 refl refl first_row_is h in
     let row = Int (pos 1) ∷ Null ∷ Int (pos 2) ∷ Int (pos 1) ∷ [] in
     let put : with_rowid Chosen (old.now.trees 0) (cast_row meta row) ≡ meta_row (pos 1) = ap (with_rowid Chosen (old.now.trees 0)) (meta_cast (pos 1)) in
@@ -98,22 +98,22 @@ pub on_ok : {X E P Q : Type 0} (r : Result X E) → OnOk r P → (P → Q) → O
 on_ok (Ok x) p f = f p
 on_ok (Err e) p f = tt
 
--- ---- one part after another
+-- ---- one step after another
 
-abbrev pub all_parts : List Part
-all_parts = parts.Meta ∷ parts.Domains ∷ parts.Tokens ∷ parts.Policies ∷ parts.Roots ∷ parts.Attributes ∷ parts.Sources ∷ parts.FirstRow ∷ []
+abbrev pub all_steps : List CreationStep
+all_steps = steps.Meta ∷ steps.Domains ∷ steps.Tokens ∷ steps.Policies ∷ steps.Roots ∷ steps.Attributes ∷ steps.Sources ∷ steps.FirstRow ∷ []
 
--- what stands when these parts are left
-abbrev pub Reaches : List Part → Database → Type 0
+-- what stands when these steps are left
+abbrev pub Reaches : List CreationStep → Database → Type 0
 Reaches [] = AreMade
-Reaches (part ∷ left) = IsBefore part
+Reaches (step ∷ left) = IsBefore step
 
--- all parts but those that are left were made
-pub record MadeSoFar (left : List Part) (old mid : State) : Type 0 where
+-- all steps but those that are left were taken
+pub record MadeSoFar (left : List CreationStep) (old mid : State) : Type 0 where
   pub stays : StaysInside {X = Unit {0}} old mid (Ok tt)
-  pub reaches : HasCleanDisk mid → IsTrue old.in_transaction → IsBefore parts.Meta old.now → Reaches left mid.now
+  pub reaches : HasCleanDisk mid → IsTrue old.in_transaction → IsBefore steps.Meta old.now → Reaches left mid.now
 
-pub none_made : (s : State) → MadeSoFar all_parts s s
+pub none_made : (s : State) → MadeSoFar all_steps s s
 none_made s = record {
   stays = record { survives = survives_still s; kept = λ clean inside. record { was_open = λ up. up; committed = λ up. refl }; inside = λ clean inside. inside };
   reaches = λ clean inside before. before;
@@ -130,27 +130,27 @@ stays_then old mid new so_far r on = record {
   inside = λ clean inside. on.inside clean (so_far.inside (omega (arith, on.survives.clean, clean)) inside);
 }
 
-part_at : (at : ℕ) → at < 8 → (db : Database) → Reaches (drop at all_parts) db → IsBefore (get_or all_parts at parts.Meta) db
-part_at at lt db = subst (λ (left : List Part). Reaches left db → IsBefore (get_or all_parts at parts.Meta) db) (sym (drop-cons all_parts at parts.Meta lt)) (λ h. h)
+step_at : (at : ℕ) → at < 8 → (db : Database) → Reaches (drop at all_steps) db → IsBefore (get_or all_steps at steps.Meta) db
+step_at at lt db = subst (λ (left : List CreationStep). Reaches left db → IsBefore (get_or all_steps at steps.Meta) db) (sym (drop-cons all_steps at steps.Meta lt)) (λ h. h)
 
-next_part : (at : ℕ) → at < 8 → (db : Database) → IsAfter (get_or all_parts at parts.Meta) db → Reaches (drop (at + 1) all_parts) db
-next_part zero lt db h = h
-next_part (suc zero) lt db h = h
-next_part (suc (suc zero)) lt db h = h
-next_part (suc (suc (suc zero))) lt db h = h
-next_part (suc (suc (suc (suc zero)))) lt db h = h
-next_part (suc (suc (suc (suc (suc zero))))) lt db h = h
-next_part (suc (suc (suc (suc (suc (suc zero)))))) lt db h = h
-next_part (suc (suc (suc (suc (suc (suc (suc zero))))))) lt db h = h
-next_part (suc (suc (suc (suc (suc (suc (suc (suc at)))))))) lt db h = absurd (omega (arith, lt))
+next_step : (at : ℕ) → at < 8 → (db : Database) → IsAfter (get_or all_steps at steps.Meta) db → Reaches (drop (at + 1) all_steps) db
+next_step zero lt db h = h
+next_step (suc zero) lt db h = h
+next_step (suc (suc zero)) lt db h = h
+next_step (suc (suc (suc zero))) lt db h = h
+next_step (suc (suc (suc (suc zero)))) lt db h = h
+next_step (suc (suc (suc (suc (suc zero))))) lt db h = h
+next_step (suc (suc (suc (suc (suc (suc zero)))))) lt db h = h
+next_step (suc (suc (suc (suc (suc (suc (suc zero))))))) lt db h = h
+next_step (suc (suc (suc (suc (suc (suc (suc (suc at)))))))) lt db h = absurd (omega (arith, lt))
 
-module _ (at : ℕ) (lt : at < 8) (old mid new : State) (so_far : MadeSoFar (drop at all_parts) old mid) (x : Unit {0}) (on : StaysInside {X = Unit {0}} mid new (Ok x)) where
-  pub one_made : (HasCleanDisk new → IsTrue mid.in_transaction → IsBefore (get_or all_parts at parts.Meta) mid.now → IsAfter (get_or all_parts at parts.Meta) new.now) → MadeSoFar (drop (at + 1) all_parts) old new
+module _ (at : ℕ) (lt : at < 8) (old mid new : State) (so_far : MadeSoFar (drop at all_steps) old mid) (x : Unit {0}) (on : StaysInside {X = Unit {0}} mid new (Ok x)) where
+  pub one_made : (HasCleanDisk new → IsTrue mid.in_transaction → IsBefore (get_or all_steps at steps.Meta) mid.now → IsAfter (get_or all_steps at steps.Meta) new.now) → MadeSoFar (drop (at + 1) all_steps) old new
   one_made makes =
       let both = stays_then old mid new so_far.stays (Ok x) on in
       record {
         stays = record { survives = both.survives; kept = both.kept; inside = both.inside };
         reaches = λ clean inside before.
             let clean_mid : HasCleanDisk mid = omega (arith, on.survives.clean, clean) in
-            next_part at lt new.now (makes clean (so_far.stays.inside clean_mid inside) (part_at at lt mid.now (so_far.reaches clean_mid inside before)));
+            next_step at lt new.now (makes clean (so_far.stays.inside clean_mid inside) (step_at at lt mid.now (so_far.reaches clean_mid inside before)));
       }

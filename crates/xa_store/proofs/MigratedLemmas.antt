@@ -73,7 +73,7 @@ module _ (first : Trees) (sound : IsSoundSchema1 first) (d : Database) (done : I
   meta : db 0 ≡ meta_row next ∷ []
   meta = done.meta ∙ ap (λ n. meta_row n ∷ []) (ap next_in (its_meta first sound))
 
-  -- tables that no stage touches
+  -- tables that no step touches
   as_before : (rows was : List Row) (kind : CheckedTable) → rows ≡ was → are_sound_rows kind next (map (as_read kind) was) ≡ true → are_sound_rows kind next (map (as_read kind) rows) ≡ true
   as_before rows was kind at h = ap (λ rows. are_sound_rows kind next (map (as_read kind) rows)) at ∙ h
 

@@ -3,10 +3,10 @@ use Rattle.std.proofs.Common.{◌≡◌, ℕ, ◌+◌, ℤ, pos, ◌+ℤ◌, Lis
 use Rattle.xa_store.proofs.Common.{AllByRecursion, Row, column, overlay, Output, output_cmp, Chosen, State, Executes, col, Trees, Null, Int, Text, one_step, IsSound, Datatype, Enforced, IsSureAnswer, Eq, output_cmp_total, put_row, cast_row, numbered, put_all, with_rowid, IsKeyedBy, next_key, all_map, all_of, ascending-map, filter_none, map-map, second_of_both, sorted_unique, puts-map, at_ints, last_term, Attributes, Schema1, are_rising, is_number, row_number, PlacedRow, placed_row_in, placed_row, meta_row, meta_row_of, next_in, type_number, value_text, AreRows, same_place, attributes, schema_1, meta, schema_2, sources}
 use Rattle.std.proofs.lemmas.List.Sums.{fold-append}
 use Rattle.sqlite_rules.specs.Edit.{edit_of}
-use Rattle.xa_store.specs.declared.schema.migration.Stage.{Stage}
-use Rattle.xa_store.specs.declared.schema.migration.Stage.TheVariants as stages
+use Rattle.xa_store.specs.declared.schema.migration.MigrationStep.{MigrationStep}
+use Rattle.xa_store.specs.declared.schema.migration.MigrationStep.TheVariants as steps
 use Rattle.xa_store.specs.keeping.Check.{HasNumbers}
-use Rattle.xa_store.specs.keeping.Migration.{IsAfter, IsBefore, IsSoundSchema1, moved_rows, stage_statement}
+use Rattle.xa_store.specs.keeping.Migration.{IsAfter, IsBefore, IsSoundSchema1, moved_rows, migration_statement}
 use Rattle.xa_store.specs.keeping.Texts as text
 use Rattle.xa_store.proofs.ActionLemmas.{works_of_coming}
 use Rattle.xa_store.proofs.AreRowsLemmas.{sources_of_schema_1_are}
@@ -111,7 +111,7 @@ all_put (a ∷ rest) done k rise free =
     ∙ all_put rest (done ++ moved k a ∷ []) (k + 1) (up_next done k rise free a) (next_next done k rise free a)
     ∙ ap (map placed_row) (append_assoc done (moved k a ∷ []) (all_moved (k + 1) rest))
 
--- ---- the stages
+-- ---- the steps
 
 module _ (first : Trees) (sound : IsSoundSchema1 first) (old new : State) (count : ℕ) where
   abbrev db : Trees
@@ -130,7 +130,7 @@ module _ (first : Trees) (sound : IsSoundSchema1 first) (old new : State) (count
       it.3 ∙ ap (map (λ (o : Output). o.1)) (sorted_unique (output_cmp filled_query) (output_cmp_total filled_query) (map out (first 8)) it.0 strict same it.2)
       ∙ map-map (λ (o : Output). o.1) out (first 8) ∙ ap (map given) (its_rows first sound).written
 
-  filled : IsBefore stages.Rows first old.now → Executes text.copy_attributes [] old new (Ok count) → IsAfter stages.Rows first new.now
+  filled : IsBefore steps.Rows first old.now → Executes text.copy_attributes [] old new (Ok count) → IsAfter steps.Rows first new.now
   filled before h =
       let adds = inserts_from text.copy_attributes [] old new before.schema 6 sources refl count _ refl refl copy_attributes_is h in
       let rows = rows_given before.attributes adds.0 adds.1.answer in
@@ -151,7 +151,7 @@ module _ (first : Trees) (sound : IsSoundSchema1 first) (old new : State) (count
         others = (stays 1 refl ∙ before.others.0, (stays 3 refl ∙ before.others.1.0, (stays 5 refl ∙ before.others.1.1.0, (stays 7 refl ∙ before.others.1.1.1.0, tt))));
       }
 
-  emptied : IsBefore stages.Attributes first old.now → Executes text.empty_attributes [] old new (Ok count) → IsAfter stages.Attributes first new.now
+  emptied : IsBefore steps.Attributes first old.now → Executes text.empty_attributes [] old new (Ok count) → IsAfter steps.Attributes first new.now
   emptied before h =
       let edits = deletes text.empty_attributes [] old new before.schema 5 attributes refl count attributes_emptied_query empty_attributes_is h in
       let answer = answered 8 [] (col 1 0 ∷ []) [] db refl [] edits.rows edits.answer.answer in
@@ -168,7 +168,7 @@ module _ (first : Trees) (sound : IsSoundSchema1 first) (old new : State) (count
         others = (stays 1 refl ∙ before.others.0, (stays 3 refl ∙ before.others.1.0, (stays 5 refl ∙ before.others.1.1.0, (stays 7 refl ∙ before.others.1.1.1.0, tt))));
       }
 
-  raised : IsBefore stages.Number first old.now → Executes text.set_schema [] old new (Ok count) → IsAfter stages.Number first new.now
+  raised : IsBefore steps.Number first old.now → Executes text.set_schema [] old new (Ok count) → IsAfter steps.Number first new.now
   raised before h =
       let n = next first sound in
       let write : ℤ → Row = λ schema. meta_row_of schema n in
@@ -187,7 +187,7 @@ module _ (first : Trees) (sound : IsSoundSchema1 first) (old new : State) (count
         others = (stays 1 refl ∙ before.others.0, (stays 3 refl ∙ before.others.1.0, (stays 5 refl ∙ before.others.1.1.0, (stays 7 refl ∙ before.others.1.1.1.0, tt))));
       }
 
-  added : IsBefore stages.Sources first old.now → Executes text.create_sources [] old new (Ok count) → IsAfter stages.Sources first new.now
+  added : IsBefore steps.Sources first old.now → Executes text.create_sources [] old new (Ok count) → IsAfter steps.Sources first new.now
   added before h =
       let it = came schema_1 text.create_sources sources sources_is refl old new before.schema count h in
       record {
@@ -199,8 +199,8 @@ module _ (first : Trees) (sound : IsSoundSchema1 first) (old new : State) (count
         others = (it.others.1.0 ∙ before.others.0, (it.others.1.1.0 ∙ before.others.1.0, (it.others.1.1.1.0 ∙ before.others.1.1.0, (it.others.1.1.1.1.0 ∙ before.others.1.1.1.0, tt))));
       }
 
-pub taken : (stage : Stage) (first : Trees) → IsSoundSchema1 first → (old new : State) (count : ℕ) → IsBefore stage first old.now → Executes (stage_statement stage) [] old new (Ok count) → IsAfter stage first new.now
-taken stages.Sources first sound old new count before h = added first sound old new count before h
-taken stages.Rows first sound old new count before h = filled first sound old new count before h
-taken stages.Attributes first sound old new count before h = emptied first sound old new count before h
-taken stages.Number first sound old new count before h = raised first sound old new count before h
+pub taken : (step : MigrationStep) (first : Trees) → IsSoundSchema1 first → (old new : State) (count : ℕ) → IsBefore step first old.now → Executes (migration_statement step) [] old new (Ok count) → IsAfter step first new.now
+taken steps.Sources first sound old new count before h = added first sound old new count before h
+taken steps.Rows first sound old new count before h = filled first sound old new count before h
+taken steps.Attributes first sound old new count before h = emptied first sound old new count before h
+taken steps.Number first sound old new count before h = raised first sound old new count before h

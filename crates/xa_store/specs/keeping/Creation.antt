@@ -1,4 +1,4 @@
--- How the tables are made: part by part, in one transaction.
+-- How the tables are made: step by step, in one transaction.
 use Rattle.std.specs.Prelude.{◌≡◌, ℕ, List, [], ◌∷◌}
 use Rattle.std.specs.List.{AllByRecursion}
 use Rattle.sqlite.specs.Change.{created}
@@ -6,22 +6,22 @@ use Rattle.sqlite.specs.Effect.{Database}
 use Rattle.sqlite.specs.Schema.{Schema}
 use Rattle.xa_store.specs.declared.schema.checked_table.CheckedTable.TheVariants.{Domains, Tokens, Documents, Roots}
 use Rattle.xa_store.specs.declared.schema.checked_table.CheckedTable.TheVariants.{Attributes, Sources}
-use Rattle.xa_store.specs.declared.schema.creation.Part.{Part}
-use Rattle.xa_store.specs.declared.schema.creation.Part.TheVariants as part
+use Rattle.xa_store.specs.declared.schema.creation.CreationStep.{CreationStep}
+use Rattle.xa_store.specs.declared.schema.creation.CreationStep.TheVariants as step
 use Rattle.xa_store.specs.Opening.{no_tables, AreNewTables}
 use Rattle.xa_store.specs.Tables.{meta, domains, tokens, policies, roots, schema_1, schema_2, meta_tree, tree_of}
 use Rattle.xa_store.specs.keeping.Texts as text
 
--- the statement that makes the part
-abbrev pub part_statement : Part → List ℕ
-part_statement part.Meta = text.create_meta
-part_statement part.Domains = text.create_domains
-part_statement part.Tokens = text.create_tokens
-part_statement part.Policies = text.create_policies
-part_statement part.Roots = text.create_roots
-part_statement part.Attributes = text.create_attributes
-part_statement part.Sources = text.create_sources
-part_statement part.FirstRow = text.add_meta_row
+-- the statement of the step
+abbrev pub creation_statement : CreationStep → List ℕ
+creation_statement step.Meta = text.create_meta
+creation_statement step.Domains = text.create_domains
+creation_statement step.Tokens = text.create_tokens
+creation_statement step.Policies = text.create_policies
+creation_statement step.Roots = text.create_roots
+creation_statement step.Attributes = text.create_attributes
+creation_statement step.Sources = text.create_sources
+creation_statement step.FirstRow = text.add_meta_row
 
 -- ---- the schemas in the making: each has one table more than the one before
 
@@ -40,31 +40,31 @@ with_policies = created with_tokens policies
 abbrev pub with_roots : Schema
 with_roots = created with_policies roots
 
--- ---- what stands before a part is made, and after it
+-- ---- what stands before a step is taken, and after it
 
--- the schema under which the part is made
-abbrev pub before : Part → Schema
-before part.Meta = no_tables
-before part.Domains = with_meta
-before part.Tokens = with_domains
-before part.Policies = with_tokens
-before part.Roots = with_policies
-before part.Attributes = with_roots
-before part.Sources = schema_1
-before part.FirstRow = schema_2
+-- the schema under which the step is taken
+abbrev pub before : CreationStep → Schema
+before step.Meta = no_tables
+before step.Domains = with_meta
+before step.Tokens = with_domains
+before step.Policies = with_tokens
+before step.Roots = with_policies
+before step.Attributes = with_roots
+before step.Sources = schema_1
+before step.FirstRow = schema_2
 
--- the trees of the tables that were made before the part
-abbrev pub trees_before : Part → List ℕ
-trees_before part.Meta = []
-trees_before part.Domains = meta_tree ∷ []
-trees_before part.Tokens = meta_tree ∷ tree_of Domains ∷ []
-trees_before part.Policies = meta_tree ∷ tree_of Domains ∷ tree_of Tokens ∷ []
-trees_before part.Roots = meta_tree ∷ tree_of Domains ∷ tree_of Tokens ∷ tree_of Documents ∷ []
-trees_before part.Attributes =
+-- the trees of the tables that were made before the step
+abbrev pub trees_before : CreationStep → List ℕ
+trees_before step.Meta = []
+trees_before step.Domains = meta_tree ∷ []
+trees_before step.Tokens = meta_tree ∷ tree_of Domains ∷ []
+trees_before step.Policies = meta_tree ∷ tree_of Domains ∷ tree_of Tokens ∷ []
+trees_before step.Roots = meta_tree ∷ tree_of Domains ∷ tree_of Tokens ∷ tree_of Documents ∷ []
+trees_before step.Attributes =
     meta_tree ∷ tree_of Domains ∷ tree_of Tokens ∷ tree_of Documents ∷ tree_of Roots ∷ []
-trees_before part.Sources =
+trees_before step.Sources =
     meta_tree ∷ tree_of Domains ∷ tree_of Tokens ∷ tree_of Documents ∷ tree_of Roots ∷ tree_of Attributes ∷ []
-trees_before part.FirstRow =
+trees_before step.FirstRow =
     meta_tree ∷ tree_of Domains ∷ tree_of Tokens ∷ tree_of Documents ∷ tree_of Roots ∷ tree_of Attributes
     ∷ tree_of Sources ∷ []
 
@@ -73,22 +73,22 @@ pub record AreEmpty (under : Schema) (trees : List ℕ) (db : Database) : Type 0
   pub schema : db.schema ≡ under
   pub empty : AllByRecursion (λ t. db.trees t ≡ []) trees
 
--- what stands before the part is made
-abbrev pub IsBefore : Part → Database → Type 0
-IsBefore part = AreEmpty (before part) (trees_before part)
+-- what stands before the step is taken
+abbrev pub IsBefore : CreationStep → Database → Type 0
+IsBefore step = AreEmpty (before step) (trees_before step)
 
--- a database in which all parts are made
+-- a database in which all steps are taken
 pub record AreMade (db : Database) : Type 0 where
   pub schema : db.schema ≡ schema_2
   pub made : AreNewTables db.trees
 
--- what stands when the part is made
-abbrev pub IsAfter : Part → Database → Type 0
-IsAfter part.Meta = IsBefore part.Domains
-IsAfter part.Domains = IsBefore part.Tokens
-IsAfter part.Tokens = IsBefore part.Policies
-IsAfter part.Policies = IsBefore part.Roots
-IsAfter part.Roots = IsBefore part.Attributes
-IsAfter part.Attributes = IsBefore part.Sources
-IsAfter part.Sources = IsBefore part.FirstRow
-IsAfter part.FirstRow = AreMade
+-- what stands when the step is taken
+abbrev pub IsAfter : CreationStep → Database → Type 0
+IsAfter step.Meta = IsBefore step.Domains
+IsAfter step.Domains = IsBefore step.Tokens
+IsAfter step.Tokens = IsBefore step.Policies
+IsAfter step.Policies = IsBefore step.Roots
+IsAfter step.Roots = IsBefore step.Attributes
+IsAfter step.Attributes = IsBefore step.Sources
+IsAfter step.Sources = IsBefore step.FirstRow
+IsAfter step.FirstRow = AreMade

@@ -9,20 +9,20 @@ use Rattle.sqlite.specs.declared.types.Value.TheVariants.{Int, Null}
 use Rattle.sqlite_catalog.specs.Listing.{IsSound as ObeysRules}
 use Rattle.xa_store.specs.declared.schema.checked_table.CheckedTable.TheVariants.{Domains, Tokens, Documents, Roots}
 use Rattle.xa_store.specs.declared.schema.checked_table.CheckedTable.TheVariants.{Attributes, Sources}
-use Rattle.xa_store.specs.declared.schema.migration.Stage.{Stage}
-use Rattle.xa_store.specs.declared.schema.migration.Stage.TheVariants as stage
+use Rattle.xa_store.specs.declared.schema.migration.MigrationStep.{MigrationStep}
+use Rattle.xa_store.specs.declared.schema.migration.MigrationStep.TheVariants as step
 use Rattle.xa_store.specs.declared.schema.version.SchemaVersion.TheVariants.{Schema1}
 use Rattle.xa_store.specs.Opened.{opened}
 use Rattle.xa_store.specs.Rows.{meta_row, next_in}
 use Rattle.xa_store.specs.Tables.{meta_tree, schema_1, schema_2, tree_of}
 use Rattle.xa_store.specs.keeping.Texts as text
 
--- the statement of the stage
-abbrev pub stage_statement : Stage → List ℕ
-stage_statement stage.Sources = text.create_sources
-stage_statement stage.Rows = text.copy_attributes
-stage_statement stage.Attributes = text.empty_attributes
-stage_statement stage.Number = text.set_schema
+-- the statement of the step
+abbrev pub migration_statement : MigrationStep → List ℕ
+migration_statement step.Sources = text.create_sources
+migration_statement step.Rows = text.copy_attributes
+migration_statement step.Attributes = text.empty_attributes
+migration_statement step.Number = text.set_schema
 
 -- a row of a source as it stands in the table of sources: under another rowid, without an issuer
 abbrev pub moved_row : ℤ → Row → Row
@@ -40,13 +40,13 @@ pub record IsSoundSchema1 (first : Trees) : Type 0 where
   pub database : ObeysRules schema_1 first
   pub opens : opened Schema1 first ≡ Ok tt
 
--- the tables that no stage touches are as they were
+-- the tables that no step touches are as they were
 abbrev pub KeepsOthers : Trees → Trees → Type 0
 KeepsOthers first db =
     AllByRecursion (λ t. db t ≡ first t)
     (tree_of Domains ∷ tree_of Tokens ∷ tree_of Documents ∷ tree_of Roots ∷ [])
 
--- a database of schema 2, whose rules it obeys, with these rows in the three tables that the stages touch
+-- a database of schema 2, whose rules it obeys, with these rows in the three tables that the steps touch
 pub record Stands (first : Trees) (first_rows left moved : List Row) (db : Database) : Type 0 where
   pub schema : db.schema ≡ schema_2
   pub database : IsDatabase db
@@ -62,21 +62,21 @@ pub record HasSchema1 (first : Trees) (db : Database) : Type 0 where
   pub attributes : db.trees (tree_of Attributes) ≡ first (tree_of Attributes)
   pub others : KeepsOthers first db.trees
 
--- what stands before the stage
-abbrev pub IsBefore : Stage → Trees → Database → Type 0
-IsBefore stage.Sources first = HasSchema1 first
-IsBefore stage.Rows first = Stands first (first meta_tree) (first (tree_of Attributes)) []
-IsBefore stage.Attributes first =
+-- what stands before the step
+abbrev pub IsBefore : MigrationStep → Trees → Database → Type 0
+IsBefore step.Sources first = HasSchema1 first
+IsBefore step.Rows first = Stands first (first meta_tree) (first (tree_of Attributes)) []
+IsBefore step.Attributes first =
     Stands first (first meta_tree) (first (tree_of Attributes)) (moved_rows 1 (first (tree_of Attributes)))
-IsBefore stage.Number first = Stands first (first meta_tree) [] (moved_rows 1 (first (tree_of Attributes)))
+IsBefore step.Number first = Stands first (first meta_tree) [] (moved_rows 1 (first (tree_of Attributes)))
 
--- what stands when all stages are done
+-- what stands when all steps are done
 abbrev pub IsDone : Trees → Database → Type 0
 IsDone first = Stands first (meta_row (next_in (first meta_tree)) ∷ []) [] (moved_rows 1 (first (tree_of Attributes)))
 
--- what stands after the stage
-abbrev pub IsAfter : Stage → Trees → Database → Type 0
-IsAfter stage.Sources = IsBefore stage.Rows
-IsAfter stage.Rows = IsBefore stage.Attributes
-IsAfter stage.Attributes = IsBefore stage.Number
-IsAfter stage.Number = IsDone
+-- what stands after the step
+abbrev pub IsAfter : MigrationStep → Trees → Database → Type 0
+IsAfter step.Sources = IsBefore step.Rows
+IsAfter step.Rows = IsBefore step.Attributes
+IsAfter step.Attributes = IsBefore step.Number
+IsAfter step.Number = IsDone

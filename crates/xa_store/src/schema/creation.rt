@@ -3,9 +3,9 @@ ghost use Rattle.std.specs.Prelude.{◌≡◌, [], ◌∷◌, IsTrue, OnOk};
 ghost use Rattle.sqlite.specs.Held.{state};
 ghost use Rattle.sqlite.specs.State.{HasCleanDisk};
 ghost use Rattle.xa_store.specs.keeping.Check.{MakesTables};
-ghost use Rattle.xa_store.specs.keeping.Creation.{part_statement, AreMade, IsAfter, IsBefore};
+ghost use Rattle.xa_store.specs.keeping.Creation.{creation_statement, AreMade, IsAfter, IsBefore};
 ghost use Rattle.xa_store.specs.keeping.Execution.{StaysInside};
-ghost use Rattle.xa_store.specs.declared.schema.creation.Part.TheVariants as parts;
+ghost use Rattle.xa_store.specs.declared.schema.creation.CreationStep.TheVariants as steps;
 
 use crate::error::OpenError;
 use crate::failure::error_of_statement;
@@ -14,9 +14,9 @@ use crate::step::execution::execute_in;
 use sqlite::{Alter, Connection, Transaction};
 use xa_records::Failure;
 
-/// A part of what is made.
+/// A step of the creation: one statement.
 #[derive(Clone, Copy, Debug)]
-pub(super) enum Part {
+pub(super) enum CreationStep {
     /// The table of the schema's number and the next domain's.
     Meta,
     /// The table of domains.
@@ -35,64 +35,67 @@ pub(super) enum Part {
     FirstRow,
 }
 
-impl Part {
-    /// All parts, in the order in which they are made.
-    fn all() -> [Part; 8]
-        ensures { result ≡ parts.Meta ∷ parts.Domains ∷ parts.Tokens ∷ parts.Policies ∷ parts.Roots
-            ∷ parts.Attributes ∷ parts.Sources ∷ parts.FirstRow ∷ [] }
+impl CreationStep {
+    /// All steps, in the order in which they are taken.
+    fn all() -> [CreationStep; 8]
+        ensures { result ≡ steps.Meta ∷ steps.Domains ∷ steps.Tokens ∷ steps.Policies ∷ steps.Roots
+            ∷ steps.Attributes ∷ steps.Sources ∷ steps.FirstRow ∷ [] }
     {
         [
-            Part::Meta,
-            Part::Domains,
-            Part::Tokens,
-            Part::Policies,
-            Part::Roots,
-            Part::Attributes,
-            Part::Sources,
-            Part::FirstRow,
+            CreationStep::Meta,
+            CreationStep::Domains,
+            CreationStep::Tokens,
+            CreationStep::Policies,
+            CreationStep::Roots,
+            CreationStep::Attributes,
+            CreationStep::Sources,
+            CreationStep::FirstRow,
         ]
     }
 
-    /// The SQL that makes it.
+    /// Its SQL.
     pub(super) fn statement(self) -> &'static str
-        ensures { result.now ≡ part_statement self }
+        ensures { result.now ≡ creation_statement self }
     {
         match self {
-            Part::Meta => sql::CREATE_META,
-            Part::Domains => sql::CREATE_DOMAINS,
-            Part::Tokens => sql::CREATE_TOKENS,
-            Part::Policies => sql::CREATE_POLICIES,
-            Part::Roots => sql::CREATE_ROOTS,
-            Part::Attributes => sql::CREATE_ATTRIBUTES,
-            Part::Sources => sql::CREATE_SOURCES,
-            Part::FirstRow => sql::ADD_META_ROW,
+            CreationStep::Meta => sql::CREATE_META,
+            CreationStep::Domains => sql::CREATE_DOMAINS,
+            CreationStep::Tokens => sql::CREATE_TOKENS,
+            CreationStep::Policies => sql::CREATE_POLICIES,
+            CreationStep::Roots => sql::CREATE_ROOTS,
+            CreationStep::Attributes => sql::CREATE_ATTRIBUTES,
+            CreationStep::Sources => sql::CREATE_SOURCES,
+            CreationStep::FirstRow => sql::ADD_META_ROW,
         }
     }
 }
 
-/// Makes that part.
-fn make_part<S: Alter>(tx: &mut Transaction<'_, S>, part: Part) -> Result<(), Failure>
+/// Takes the step.
+fn take_creation_step<S: Alter>(
+    tx: &mut Transaction<'_, S>,
+    step: CreationStep,
+) -> Result<(), Failure>
     ensures same_reference { tx.new.conn.ghost_name ≡ tx.old.conn.ghost_name }
     ensures stays { StaysInside (state S.Store tx.old.conn.now) (state S.Store tx.new.conn.now) result }
     ensures makes { HasCleanDisk (state S.Store tx.new.conn.now)
         → IsTrue (state S.Store tx.old.conn.now).in_transaction
-        → IsBefore part (state S.Store tx.old.conn.now).now
-        → OnOk result (IsAfter part (state S.Store tx.new.conn.now).now) }
+        → IsBefore step (state S.Store tx.old.conn.now).now
+        → OnOk result (IsAfter step (state S.Store tx.new.conn.now).now) }
 {
-    execute_in(tx, part.statement(), &[])
+    execute_in(tx, step.statement(), &[])
 }
 
-/// Makes all parts, one after another.
-fn make_parts<S: Alter>(tx: &mut Transaction<'_, S>) -> Result<(), Failure>
+/// Takes all steps, one after another.
+fn take_creation_steps<S: Alter>(tx: &mut Transaction<'_, S>) -> Result<(), Failure>
     ensures same_reference { tx.new.conn.ghost_name ≡ tx.old.conn.ghost_name }
     ensures stays { StaysInside (state S.Store tx.old.conn.now) (state S.Store tx.new.conn.now) result }
     ensures makes { HasCleanDisk (state S.Store tx.new.conn.now)
         → IsTrue (state S.Store tx.old.conn.now).in_transaction
-        → IsBefore parts.Meta (state S.Store tx.old.conn.now).now
+        → IsBefore steps.Meta (state S.Store tx.old.conn.now).now
         → OnOk result (AreMade (state S.Store tx.new.conn.now).now) }
 {
-    for part in Part::all() {
-        make_part(tx, part)?;
+    for step in CreationStep::all() {
+        take_creation_step(tx, step)?;
     }
     Ok(())
 }
@@ -106,6 +109,6 @@ pub(crate) fn make<S: Alter>(conn: &mut Connection<S>) -> Result<(), OpenError>
         return Err(OpenError::Store);
     }
     let mut tx = conn.transaction();
-    make_parts(&mut tx)?;
+    take_creation_steps(&mut tx)?;
     tx.commit().map_err(error_of_statement)
 }

@@ -4,22 +4,22 @@ ghost use Rattle.sqlite.specs.Held.{state};
 ghost use Rattle.sqlite.specs.State.{HasCleanDisk};
 ghost use Rattle.sqlite.specs.Tree.{Trees};
 ghost use Rattle.xa_store.specs.keeping.Check.{MigratesTables};
-ghost use Rattle.xa_store.specs.keeping.Migration.{stage_statement, IsAfter, IsBefore};
+ghost use Rattle.xa_store.specs.keeping.Migration.{migration_statement, IsAfter, IsBefore};
 ghost use Rattle.xa_store.specs.keeping.Migration.{IsDone, IsSoundSchema1};
 ghost use Rattle.xa_store.specs.keeping.Execution.{StaysInside};
-ghost use Rattle.xa_store.specs.declared.schema.migration.Stage.TheVariants as stages;
+ghost use Rattle.xa_store.specs.declared.schema.migration.MigrationStep.TheVariants as steps;
 
 use crate::error::OpenError;
 use crate::failure::error_of_statement;
-use crate::schema::creation::Part;
+use crate::schema::creation::CreationStep;
 use crate::sql;
 use crate::step::execution::execute_in;
 use sqlite::{Alter, Connection, Transaction};
 use xa_records::Failure;
 
-/// A statement of the migration.
+/// A step of the migration: one statement.
 #[derive(Clone, Copy, Debug)]
-enum Stage {
+enum MigrationStep {
     /// The table of the rows of sources, with their issuers.
     Sources,
     /// All rows of sources in it, in the order in which they stood, without issuers.
@@ -30,46 +30,49 @@ enum Stage {
     Number,
 }
 
-impl Stage {
+impl MigrationStep {
     /// Its SQL. The database takes time and memory in proportion to all source rows; none passes through
     /// this program.
     fn statement(self) -> &'static str
-        ensures { result.now ≡ stage_statement self }
+        ensures { result.now ≡ migration_statement self }
     {
         match self {
-            Stage::Sources => Part::Sources.statement(),
-            Stage::Rows => sql::COPY_ATTRIBUTES,
-            Stage::Attributes => sql::EMPTY_ATTRIBUTES,
-            Stage::Number => sql::SET_SCHEMA,
+            MigrationStep::Sources => CreationStep::Sources.statement(),
+            MigrationStep::Rows => sql::COPY_ATTRIBUTES,
+            MigrationStep::Attributes => sql::EMPTY_ATTRIBUTES,
+            MigrationStep::Number => sql::SET_SCHEMA,
         }
     }
 }
 
-/// Runs that statement.
-fn take<S: Alter>(tx: &mut Transaction<'_, S>, stage: Stage) -> Result<(), Failure>
+/// Takes the step.
+fn take_migration_step<S: Alter>(
+    tx: &mut Transaction<'_, S>,
+    step: MigrationStep,
+) -> Result<(), Failure>
     ensures same_reference { tx.new.conn.ghost_name ≡ tx.old.conn.ghost_name }
     ensures stays { StaysInside (state S.Store tx.old.conn.now) (state S.Store tx.new.conn.now) result }
     ensures moves { HasCleanDisk (state S.Store tx.new.conn.now)
         → IsTrue (state S.Store tx.old.conn.now).in_transaction → (first : Trees) → IsSoundSchema1 first
-        → IsBefore stage first (state S.Store tx.old.conn.now).now
-        → OnOk result (IsAfter stage first (state S.Store tx.new.conn.now).now) }
+        → IsBefore step first (state S.Store tx.old.conn.now).now
+        → OnOk result (IsAfter step first (state S.Store tx.new.conn.now).now) }
 {
-    execute_in(tx, stage.statement(), &[])
+    execute_in(tx, step.statement(), &[])
 }
 
-/// All of them, one after another.
-fn take_all<S: Alter>(tx: &mut Transaction<'_, S>) -> Result<(), Failure>
+/// Takes all steps, one after another.
+fn take_migration_steps<S: Alter>(tx: &mut Transaction<'_, S>) -> Result<(), Failure>
     ensures same_reference { tx.new.conn.ghost_name ≡ tx.old.conn.ghost_name }
     ensures stays { StaysInside (state S.Store tx.old.conn.now) (state S.Store tx.new.conn.now) result }
     ensures moves { HasCleanDisk (state S.Store tx.new.conn.now)
         → IsTrue (state S.Store tx.old.conn.now).in_transaction → (first : Trees) → IsSoundSchema1 first
-        → IsBefore stages.Sources first (state S.Store tx.old.conn.now).now
+        → IsBefore steps.Sources first (state S.Store tx.old.conn.now).now
         → OnOk result (IsDone first (state S.Store tx.new.conn.now).now) }
 {
-    take(tx, Stage::Sources)?;
-    take(tx, Stage::Rows)?;
-    take(tx, Stage::Attributes)?;
-    take(tx, Stage::Number)
+    take_migration_step(tx, MigrationStep::Sources)?;
+    take_migration_step(tx, MigrationStep::Rows)?;
+    take_migration_step(tx, MigrationStep::Attributes)?;
+    take_migration_step(tx, MigrationStep::Number)
 }
 
 /// Brings the tables into schema 2, all of them or none.
@@ -81,6 +84,6 @@ pub(crate) fn migrate<S: Alter>(conn: &mut Connection<S>) -> Result<(), OpenErro
         return Err(OpenError::Store);
     }
     let mut tx = conn.transaction();
-    take_all(&mut tx)?;
+    take_migration_steps(&mut tx)?;
     tx.commit().map_err(error_of_statement)
 }

@@ -10,5 +10,5 @@ returns g c =
     let last = c.commit.new.self.0 in
     let same : last ≡ c.conn-2-1.given.0 = search rules in
     subst (λ h. MakesTables {X = Unit {0}} (state g.S.Store c.args.conn.now) (state g.S.Store h) c.map_err.result) same
-    (made_or_not g.S.Store c.args.conn.now c.make_parts.new.tx.conn.now last (rw begun at c.in_ok-make_parts.ensures.stays.survives) (rw begun at c.in_ok-make_parts.ensures.stays.kept) c.commit.ensures.survives (rw begun at c.in_ok-make_parts.ensures.makes)
-    _ (λ e f h. search rules) c.commit.result c.map_err.result c.map_err.ensures.cases (λ clean. (rw begun at c.in_ok-make_parts.ensures.stays.inside) clean refl) c.commit.ensures.ended c.commit.ensures.ok c.commit.ensures.err)
+    (made_or_not g.S.Store c.args.conn.now c.take_creation_steps.new.tx.conn.now last (rw begun at c.in_ok-take_creation_steps.ensures.stays.survives) (rw begun at c.in_ok-take_creation_steps.ensures.stays.kept) c.commit.ensures.survives (rw begun at c.in_ok-take_creation_steps.ensures.makes)
+    _ (λ e f h. search rules) c.commit.result c.map_err.result c.map_err.ensures.cases (λ clean. (rw begun at c.in_ok-take_creation_steps.ensures.stays.inside) clean refl) c.commit.ensures.ended c.commit.ensures.ok c.commit.ensures.err)
