@@ -8,6 +8,7 @@ pub mod Lookup
 pub mod Migration
 pub mod Plan
 pub mod Quiet
+pub mod ShownColumns
 pub mod Steps
 pub mod Texts
 pub mod Turns

@@ -12,6 +12,7 @@ use Rattle.xa_records.specs.declared.refusal.Refusal.TheVariants.{Absent}
 use Rattle.xa_store.specs.declared.query.document_row.DocumentFound.{DocumentFound}
 use Rattle.xa_store.specs.declared.query.domain.DomainFound.{DomainFound}
 use Rattle.xa_store.specs.Rows.{DomainRow, DocumentRow, nat_of}
+use Rattle.xa_store.specs.keeping.ShownColumns as shown
 use Rattle.xa_store.specs.keeping.Steps.{is_named, is_token, is_document}
 use Rattle.xa_store.specs.World.{Rows}
 
@@ -37,8 +38,8 @@ FindsDomain name rows None = filter (is_named name) rows.domains ≡ []
 abbrev pub TellDomain : List Row → Option DomainFound → Type 0
 TellDomain [] None = Unit {0}
 TellDomain (row ∷ []) (Some found) =
-    (column row 0 ≡ Int found.number) × (column row 1 ≡ Int found.epoch) × (pos 0 ≤ℤ found.number)
-    × (pos 0 ≤ℤ found.epoch)
+    (column row shown.domain_number ≡ Int found.number) × (column row shown.domain_epoch ≡ Int found.epoch)
+    × (pos 0 ≤ℤ found.number) × (pos 0 ≤ℤ found.epoch)
 TellDomain _ _ = ⊥
 
 -- the look for the one record that passes the test has found what is told of it, or none passes
@@ -75,5 +76,5 @@ pub record IsNext (rows : Rows) (number : ℤ) : Type 0 where
 
 -- the rows of the look for the next number tell it
 abbrev pub TellNext : List Row → ℤ → Type 0
-TellNext (row ∷ []) number = (column row 0 ≡ Int number) × (pos 0 ≤ℤ number)
+TellNext (row ∷ []) number = (column row shown.next_number ≡ Int number) × (pos 0 ≤ℤ number)
 TellNext _ number = ⊥

@@ -1,4 +1,4 @@
-//! The columns of queries that show several, by the places at which they are shown. Definitions have the
+//! The columns of queries, by the places at which they are shown. For definitions `ShownColumns` has the
 //! numbers.
 
 /// The columns of a domain, as `sql::SHOW_DOMAIN` shows them.
@@ -6,6 +6,21 @@ pub(crate) mod domain_found {
     pub(crate) const NUMBER: usize = 0;
 
     pub(crate) const EPOCH: usize = 1;
+}
+
+/// The column of a domain's name, as `sql::SHOW_DOMAIN_NAMES` shows it.
+pub(crate) mod name_row {
+    pub(crate) const NAME: usize = 0;
+}
+
+/// The column of the number of the next domain, as `sql::SHOW_NEXT_NUMBER` shows it.
+pub(crate) mod next_row {
+    pub(crate) const NEXT_NUMBER: usize = 0;
+}
+
+/// The column of a token's role, as `sql::SHOW_ROLE` shows it.
+pub(crate) mod role_row {
+    pub(crate) const ROLE: usize = 0;
 }
 
 /// The columns of a token, as `sql::SHOW_TOKENS` shows them.

@@ -6,6 +6,7 @@ ghost use Rattle.xa_store.specs.keeping.Columns.{name_told};
 ghost use Rattle.xa_store.specs.World.{kept_of};
 
 use crate::query::cell::text_in;
+use crate::query::columns::name_row;
 use crate::query::query_rows;
 use crate::query::row::{FromRow, read_all};
 use crate::sql;
@@ -14,12 +15,12 @@ use std::alloc::Global;
 use xa_records::Failure;
 use xa_value::{Items, Text};
 
-/// Read from the column of `sql::SHOW_DOMAIN_NAMES`: name.
+/// Read from the column of `sql::SHOW_DOMAIN_NAMES`.
 impl FromRow for Text {
     ghost told = { name_told };
 
     fn from_row(_: Global, row: &Row) -> Result<Text, Failure> {
-        text_in(row, 0)
+        text_in(row, name_row::NAME)
     }
 }
 

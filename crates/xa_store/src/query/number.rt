@@ -4,19 +4,20 @@ ghost use Rattle.xa_store.specs.keeping.Lookup.{IsNext, TellNext};
 ghost use Rattle.xa_store.specs.keeping.Quiet.{OnlyReadsOver, ReadsRows};
 
 use crate::query::cell::number_in;
+use crate::query::columns::next_row;
 use crate::query::query_rows;
 use crate::sql;
 use sqlite::{Alter, Connection, Row};
 use xa_records::Failure;
 
-/// The number that the one row of `sql::SHOW_NEXT_NUMBER` tells, whose column is next_number. No row, and
-/// several, are a failure of the store.
+/// The number that the one row of `sql::SHOW_NEXT_NUMBER` tells. No row, and several, are a failure of the
+/// store.
 fn read_next(rows: &[Row]) -> Result<i64, Failure>
     ensures { IfOk result (TellNext rows.now) }
 {
     match rows {
         [row] => {
-            let number = number_in(row, 0)?;
+            let number = number_in(row, next_row::NEXT_NUMBER)?;
             if number < 0 {
                 return Err(Failure::Store);
             }

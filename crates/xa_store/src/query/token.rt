@@ -10,7 +10,7 @@ ghost use Rattle.xa_store.specs.keeping.Columns.{role_told, token_told};
 ghost use Rattle.xa_store.specs.World.{state_at};
 
 use crate::query::cell::{bytes_in, role_in};
-use crate::query::columns::token_row;
+use crate::query::columns::{role_row, token_row};
 use crate::query::query_rows;
 use crate::query::row::{FromRow, read_all, read_one};
 use crate::sql;
@@ -21,12 +21,12 @@ use xa_notation::Role;
 use xa_records::{Digest, Failure, Token};
 use xa_value::Items;
 
-/// Read from the column of `sql::SHOW_ROLE`: role.
+/// Read from the column of `sql::SHOW_ROLE`.
 impl FromRow for Role {
     ghost told = { role_told };
 
     fn from_row(_: Global, row: &Row) -> Result<Role, Failure> {
-        role_in(row, 0)
+        role_in(row, role_row::ROLE)
     }
 }
 
