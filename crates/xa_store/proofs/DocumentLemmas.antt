@@ -3,7 +3,7 @@ use Rattle.std.proofs.Common.{◌≡◌, ℕ, ℤ, pos, List, [], ◌∷◌, map
 use Rattle.xa_store.proofs.Common.{IsTotalOrder, get, entries, len, len-entries, length-map, AllByRecursion, on, on_total, IsPermutation-map, IsPermutation-trans, length_permutation, Row, State, Shown, Trees, Int, Text, Blob, IsPlain, understood, Term, col, reads_as, sort_by, all_of, all_weaker, map-map, filter-map, IsPermutation-filter, ascending-map, ascending-filter, sorted_unique, IsPermutation-sort_by, Eq, IsAscending, at_ints, then_term, last_term, DocumentKey, compare_keys, read_version, version_text, StoredDocument, active_text, active_texts, listed_of, listing_of_state, text_in, keys_total, keys_exact, DocumentRow, document_row, document_in, activity_number, kind_number, AreTables, Ours, same_document, schema_2, Rows, rows_of, state_at, documents_at, document_entry}
 use Rattle.xa_records.specs.declared.listed.Listed.{Listed}
 use Rattle.xa_records.specs.declared.active_text.ActiveText.{ActiveText}
-use Rattle.xa_store.specs.declared.query.document_row.DocumentFound.{DocumentFound}
+use Rattle.xa_store.specs.declared.query.document_row.FoundDocument.{FoundDocument}
 use Rattle.xa_store.specs.keeping.Lookup.{FindsDocument, found_of}
 use Rattle.xa_store.specs.Rows.{given as given_by, version_in}
 use Rattle.xa_store.specs.keeping.Columns.{TellsOne, document_told, listed_told, text_told}
@@ -63,7 +63,7 @@ module _ (old new : State) (number : ℤ) (key : DocumentKey) (reads : version_i
       all_weaker IsBack _ (λ d back. document_hit number key db d reads (ap (λ (x : DocumentRow). x.key.version) back)) (map document_in (db 5))
       (read_back document_row document_in (db 5) ours.tables.documents.written)
 
-  pub document_found : (o : Option DocumentFound) → TellsOne document_told rows o → FindsDocument number key (rows_of db) o
+  pub document_found : (o : Option FoundDocument) → TellsOne document_told rows o → FindsDocument number key (rows_of db) o
   document_found =
       finds_one 5 tests (col 1 5 ∷ col 1 6 ∷ []) [] db refl given document_row document_in ours.tables.documents.written (is_document number key) all_hit document_told found_of
       (all_weaker IsBack _ (λ d back. ap found_of back) _ (backs db (is_document number key) ours.tables.documents.written)) rows answer
@@ -71,11 +71,11 @@ module _ (old new : State) (number : ℤ) (key : DocumentKey) (reads : version_i
 abbrev stored_of : DocumentRow → StoredDocument
 stored_of d = record { text = d.text; active = d.active }
 
-abbrev stored : DocumentFound → StoredDocument
+abbrev stored : FoundDocument → StoredDocument
 stored found = record { text = found.text; active = found.active }
 
 -- the document that was found is that of the domain's state
-pub document_is : (rows : Rows) (number : ℤ) (key : DocumentKey) (o : Option DocumentFound) → FindsDocument number key rows o → get (state_at rows number).documents key ≡ option_map stored o
+pub document_is : (rows : Rows) (number : ℤ) (key : DocumentKey) (o : Option FoundDocument) → FindsDocument number key rows o → get (state_at rows number).documents key ≡ option_map stored o
 document_is rows number key o finds =
     got keys_total keys_exact (λ (d : DocumentRow). d.key) stored_of key (documents_at rows.documents number)
     ∙ ap (option_map stored_of) (find_both (λ (d : DocumentRow). int_eq d.number number) (has keys_total keys_exact (λ (d : DocumentRow). d.key) stored_of key) rows.documents)
@@ -86,10 +86,10 @@ document_is rows number key o finds =
     again None = refl
     again (Some d) = refl
 
-pub text_is : (rows : Rows) (number : ℤ) (key : DocumentKey) (o : Option DocumentFound) → FindsDocument number key rows o → text_in key (state_at rows number) ≡ option_map (λ found. found.text) o
+pub text_is : (rows : Rows) (number : ℤ) (key : DocumentKey) (o : Option FoundDocument) → FindsDocument number key rows o → text_in key (state_at rows number) ≡ option_map (λ found. found.text) o
 text_is rows number key o finds = ap (option_map (λ (d : StoredDocument). d.text)) (document_is rows number key o finds) ∙ again o
   where
-    again : (f : Option DocumentFound) → option_map (λ (d : StoredDocument). d.text) (option_map stored f) ≡ option_map (λ found. found.text) f
+    again : (f : Option FoundDocument) → option_map (λ (d : StoredDocument). d.text) (option_map stored f) ≡ option_map (λ found. found.text) f
     again None = refl
     again (Some d) = refl
 

@@ -3,8 +3,8 @@ use Rattle.std.proofs.Common.{◌≡◌, ◌≢◌, inr, ℕ, ◌+◌, ◌<◌, 
 use Rattle.xa_store.proofs.Common.{AllByRecursion, eq_by_cmp, FinMap, get, insert, remove, len, IsKeyedBy, next_key, update_where, delete_where, int_eq_apart, same_int, ◌>>=◌, DocumentKey, compare_keys, Absent, Quota, SameVersionOtherText, StillActive, activity_set, deleted, or_absent, upload_of, uploaded, uploaded_over, with_document, with_documents, within, DomainState, IsDocumentOf, StoredDocument, IsNextEpoch, state_of, keys_exact, keys_total, DomainRow, DocumentRow, nat_of, AreNumbered, AreWhole, Rows, library_of, state_at, documents_at, kept_of}
 use Rattle.xa_records.specs.declared.upload.Upload.TheVariants.{New, Same}
 use Rattle.xa_records.proofs.FinMapLemmas.{get_put, get_taken, put_again}
-use Rattle.xa_store.specs.declared.query.document_row.DocumentFound.{DocumentFound}
-use Rattle.xa_store.specs.declared.query.domain.DomainFound.{DomainFound}
+use Rattle.xa_store.specs.declared.query.document_row.FoundDocument.{FoundDocument}
+use Rattle.xa_store.specs.declared.query.domain.FoundDomain.{FoundDomain}
 use Rattle.xa_store.specs.keeping.Lookup.{FindsDocument, IsDomain}
 use Rattle.xa_store.specs.keeping.Plan.{IsUploadPlanned, RaisesTo, epoch_step}
 use Rattle.xa_store.specs.declared.step.Step.TheVariants.{AddDocument, SetActive, DropDocument}
@@ -163,8 +163,8 @@ module _ (rows : Rows) (name : List ℕ) (d : DomainRow) (one : IsOnly name d ro
 
 -- ---- of a domain that was found
 
-module _ (rows : Rows) (name : List ℕ) (found : DomainFound) (are : AreNumbered rows) (up : IsKeyedBy number_of rows.domains) (is : IsDomain name rows found) (key : DocumentKey) (reads : KeyReads key) where
-  finds_own : (o : Option DocumentFound) → FindsDocument found.number key rows o → FindsDocument is.row.number key rows o
+module _ (rows : Rows) (name : List ℕ) (found : FoundDomain) (are : AreNumbered rows) (up : IsKeyedBy number_of rows.domains) (is : IsDomain name rows found) (key : DocumentKey) (reads : KeyReads key) where
+  finds_own : (o : Option FoundDocument) → FindsDocument found.number key rows o → FindsDocument is.row.number key rows o
   finds_own o = subst (λ n. FindsDocument n key rows o) is.number
 
   module _ (next : ℤ) (raises : RaisesTo found.epoch (Ok next)) where
@@ -177,18 +177,18 @@ module _ (rows : Rows) (name : List ℕ) (found : DomainFound) (are : AreNumbere
     still_fits : nat_of next < 2 ^ 63
     still_fits = subst (λ k. k < 2 ^ 63) (sym one_more) raise.1
 
-    pub plan_activity : (there : DocumentFound) → FindsDocument found.number key rows (Some there) → (active : Bool) → (there.active ≡ active → ⊥)
+    pub plan_activity : (there : FoundDocument) → FindsDocument found.number key rows (Some there) → (active : Bool) → (there.active ≡ active → ⊥)
         → Plans (SetActive found.number key active ∷ epoch_step found.number next ∷ []) (within (activity_set key active)) name rows
     plan_activity there finds active other =
         let own = finds_own (Some there) finds in
-        let same : own.0.active ≡ there.active = ap (λ (f : DocumentFound). f.active) own.2 in
+        let same : own.0.active ≡ there.active = ap (λ (f : FoundDocument). f.active) own.2 in
         subst (λ n. Plans (SetActive n key active ∷ epoch_step n next ∷ []) (within (activity_set key active)) name rows) (sym is.number)
         (activity_planned rows name is.row is.only up are key reads next one_more still_fits own.0 own.1 active (λ e. other (sym same ∙ e)))
 
-    pub plan_drop : (there : DocumentFound) → FindsDocument found.number key rows (Some there) → there.active ≡ false → Plans (DropDocument found.number key ∷ epoch_step found.number next ∷ []) (within (deleted key)) name rows
+    pub plan_drop : (there : FoundDocument) → FindsDocument found.number key rows (Some there) → there.active ≡ false → Plans (DropDocument found.number key ∷ epoch_step found.number next ∷ []) (within (deleted key)) name rows
     plan_drop there finds idle =
         let own = finds_own (Some there) finds in
-        let same : own.0.active ≡ there.active = ap (λ (f : DocumentFound). f.active) own.2 in
+        let same : own.0.active ≡ there.active = ap (λ (f : FoundDocument). f.active) own.2 in
         subst (λ n. Plans (DropDocument n key ∷ epoch_step n next ∷ []) (within (deleted key)) name rows) (sym is.number)
         (drop_planned rows name is.row is.only up are key reads next one_more still_fits own.0 own.1 (same ∙ idle))
 
@@ -202,27 +202,27 @@ module _ (rows : Rows) (name : List ℕ) (found : DomainFound) (are : AreNumbere
           sym (ap (upload_of key) (its_state rows name is.row is.only) ∙ ap (λ o. cond (is_some o) Same New) (nowhere rows name is.row is.only up are key reads own)),
         )
 
-  pub plan_still : (there : DocumentFound) → FindsDocument found.number key rows (Some there) → (active : Bool) → there.active ≡ active → Plans [] (within (activity_set key active)) name rows
+  pub plan_still : (there : FoundDocument) → FindsDocument found.number key rows (Some there) → (active : Bool) → there.active ≡ active → Plans [] (within (activity_set key active)) name rows
   plan_still there finds active e =
       let own = finds_own (Some there) finds in
-      let same : own.0.active ≡ there.active = ap (λ (f : DocumentFound). f.active) own.2 in
+      let same : own.0.active ≡ there.active = ap (λ (f : FoundDocument). f.active) own.2 in
       activity_kept rows name is.row is.only up are key reads own.0 own.1 active (same ∙ e)
 
   pub plan_no_activity : (active : Bool) → FindsDocument found.number key rows None → within (activity_set key active) (state_of name (kept_of rows)) ≡ Err Absent
   plan_no_activity active finds = activity_absent rows name is.row is.only up are key reads (finds_own None finds) active
 
-  pub plan_busy : (there : DocumentFound) → FindsDocument found.number key rows (Some there) → there.active ≡ true → within (deleted key) (state_of name (kept_of rows)) ≡ Err StillActive
+  pub plan_busy : (there : FoundDocument) → FindsDocument found.number key rows (Some there) → there.active ≡ true → within (deleted key) (state_of name (kept_of rows)) ≡ Err StillActive
   plan_busy there finds busy =
       let own = finds_own (Some there) finds in
-      let same : own.0.active ≡ there.active = ap (λ (f : DocumentFound). f.active) own.2 in
+      let same : own.0.active ≡ there.active = ap (λ (f : FoundDocument). f.active) own.2 in
       drop_active rows name is.row is.only up are key reads own.0 own.1 (same ∙ busy)
 
   pub plan_no_drop : FindsDocument found.number key rows None → within (deleted key) (state_of name (kept_of rows)) ≡ Err Absent
   plan_no_drop finds = drop_absent rows name is.row is.only up are key reads (finds_own None finds)
 
-  module _ (there : DocumentFound) (finds : FindsDocument found.number key rows (Some there)) (body : List ℕ) where
+  module _ (there : FoundDocument) (finds : FindsDocument found.number key rows (Some there)) (body : List ℕ) where
     own_text : (finds_own (Some there) finds).0.text ≡ there.text
-    own_text = ap (λ (f : DocumentFound). f.text) (finds_own (Some there) finds).2
+    own_text = ap (λ (f : FoundDocument). f.text) (finds_own (Some there) finds).2
 
     pub plan_again : bytes_eq there.text body ≡ true → IsUploadPlanned key body name rows (Ok [])
     plan_again e =

@@ -5,7 +5,7 @@ use Rattle.xa_records.specs.declared.gate.Gate.{Gate}
 use Rattle.xa_records.specs.declared.gate.Token.{Token}
 use Rattle.xa_records.specs.declared.kept_view.KeptView.{KeptView}
 use Rattle.xa_records.specs.declared.listed.Listed.{Listed}
-use Rattle.xa_store.specs.declared.query.domain.DomainFound.{DomainFound}
+use Rattle.xa_store.specs.declared.query.domain.FoundDomain.{FoundDomain}
 use Rattle.xa_store.specs.keeping.Lookup.{IsDomain, TellsGate}
 use Rattle.xa_store.specs.keeping.Steps.{is_named}
 use Rattle.xa_store.proofs.ChangeLemmas.{kept_at, kept_one}
@@ -30,7 +30,7 @@ module _ (rows : Rows) (name : List ℕ) where
   pub view_absent : filter (is_named name) rows.domains ≡ [] → None ≡ kept_view_of name (kept_of rows)
   view_absent none = sym (ap (option_map view_of_state) (state_none none))
 
-  module _ (found : DomainFound) (is : IsDomain name rows found) where
+  module _ (found : FoundDomain) (is : IsDomain name rows found) where
     pub state_is : state_of name (kept_of rows) ≡ Some (state_at rows found.number)
     state_is = ap (option_map (λ (domain : Domain). domain.state)) (kept_one rows name is.row is.only) ∙ ap (λ n. Some (state_at rows n)) (sym is.number)
 

@@ -1,7 +1,7 @@
 -- The plan of a domain that is removed.
 use Rattle.std.proofs.Common.{◌≡◌, ◌≢◌, ℕ, ◌<◌, ℤ, pos, List, [], ◌∷◌, map, filter, find, not, Bool, true, false, cond, Option, Some, None, option_map, int_cmp, int_eq, slice_get, refl, sym, ap, subst, ◌∙◌, arith}
 use Rattle.xa_store.proofs.Common.{AllByRecursion, eq_by_cmp, get, ints, both_ways, IsKeyedBy, get_by, delete_where, sort_by, int_eq_apart, same_int, all_weaker, slice_get-filter, same_bytes, removed, compare_bytes, Domain, Becomes, IsChanged, IsNextNumber, numbered_changed, count_from, places_of, PlacedRow, DomainRow, RootRow, nat_of, reference_of, AreNumbered, AreWhole, place_of, Rows, sources_at, roles_of, library_of, root_at, source_of, state_at, domain_of, kept_of}
-use Rattle.xa_store.specs.declared.query.domain.DomainFound.{DomainFound}
+use Rattle.xa_store.specs.declared.query.domain.FoundDomain.{FoundDomain}
 use Rattle.xa_store.specs.declared.step.Step.TheVariants.{DropDomain}
 use Rattle.xa_store.specs.keeping.Lookup.{IsDomain}
 use Rattle.xa_store.specs.keeping.Steps.{is_named, without_domain}
@@ -130,6 +130,6 @@ module _ (rows : Rows) (name : List ℕ) (d : DomainRow) (up : IsKeyedBy number_
   }
 
 -- of a domain that was found
-pub plan_removed : (rows : Rows) (name : List ℕ) (found : DomainFound) → AreNumbered rows → IsKeyedBy number_of rows.domains → IsDomain name rows found → Plans (DropDomain found.number ∷ []) removed name rows
+pub plan_removed : (rows : Rows) (name : List ℕ) (found : FoundDomain) → AreNumbered rows → IsKeyedBy number_of rows.domains → IsDomain name rows found → Plans (DropDomain found.number ∷ []) removed name rows
 plan_removed rows name found are up is =
     subst (λ n. Plans (DropDomain n ∷ []) removed name rows) (sym is.number) (remove_planned rows name is.row up is.only are is.has_number)

@@ -1,7 +1,7 @@
 -- The plan of a root that is set.
 use Rattle.std.proofs.Common.{◌≡◌, ◌≢◌, inr, ◌+◌, ◌<◌, ◌^◌, ℕ, ℤ, List, [], Bool, true, false, not, cond, Option, Some, None, option_map, option_and_then, Ok, refl, sym, ap, subst, ◌∙◌, int_eq}
 use Rattle.xa_store.proofs.Common.{is_utf8, IsKeyedBy, get_by, insert_by, without_key, all-insert_by, int_eq_apart, Reference, pattern_text, read_pattern, read_version, version_text, within, root_set, DomainState, is_assigned, is_count, is_pattern, is_version, DomainRow, RootRow, given, nat_of, AreNumbered, AreRootTexts, AreWhole, is_if_any, Rows, root_at, state_at}
-use Rattle.xa_store.specs.declared.query.domain.DomainFound.{DomainFound}
+use Rattle.xa_store.specs.declared.query.domain.FoundDomain.{FoundDomain}
 use Rattle.xa_store.specs.keeping.Lookup.{IsDomain}
 use Rattle.xa_store.specs.keeping.Plan.{HasRootTexts, RaisesTo, RootReads, root_steps}
 use Rattle.xa_store.specs.Rows.{root_of, reference_of}
@@ -97,7 +97,7 @@ module _ (rows : Rows) (name : List ℕ) (d : DomainRow) (one : IsOnly name d ro
   root_kept same = unchanged rows name d one (root_set root) are target refl (λ i. with_root (same i) (state_at rows d.number))
 
 -- of a domain that was found
-module _ (rows : Rows) (name : List ℕ) (found : DomainFound) (there root : Option Reference) (are : AreNumbered rows) (up : IsKeyedBy number_of rows.domains) (is : IsDomain name rows found)
+module _ (rows : Rows) (name : List ℕ) (found : FoundDomain) (there root : Option Reference) (are : AreNumbered rows) (up : IsKeyedBy number_of rows.domains) (is : IsDomain name rows found)
     (at : there ≡ root_at rows.roots found.number) where
   its_root : there ≡ root_at rows.roots is.row.number
   its_root = at ∙ ap (root_at rows.roots) is.number

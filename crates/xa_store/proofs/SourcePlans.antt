@@ -4,7 +4,7 @@ use Rattle.xa_store.proofs.Common.{AllByRecursion, on, is_utf8, ints, is_eq-slic
 use Rattle.xa_value.specs.declared.read_error.ReadError.{ReadError}
 use Rattle.xa_value.specs.declared.value.Value.{Value}
 use Rattle.xa_value.specs.declared.value.Value.TheVariants as value
-use Rattle.xa_store.specs.declared.query.domain.DomainFound.{DomainFound}
+use Rattle.xa_store.specs.declared.query.domain.FoundDomain.{FoundDomain}
 use Rattle.xa_store.specs.declared.step.Step.TheVariants.{AddSourceRow}
 use Rattle.xa_store.specs.keeping.Lookup.{IsDomain}
 use Rattle.xa_store.specs.keeping.Plan.{HaveTexts, RaisesTo, RowsRead, row_steps, source_steps}
@@ -277,7 +277,7 @@ module _ (rows : Rows) (name : List ℕ) (d : DomainRow) (one : IsOnly name d ro
   source_kept same = unchanged rows name d one (source_set ss) are target (set_fits ss (state_at rows d.number) fits) (λ i. with_source (same i) (state_at rows d.number))
 
 -- of a domain that was found
-module _ (rows : Rows) (name : List ℕ) (found : DomainFound) (there ss : List SourceRow) (are : AreNumbered rows) (up : IsKeyedBy number_of rows.domains) (is : IsDomain name rows found)
+module _ (rows : Rows) (name : List ℕ) (found : FoundDomain) (there ss : List SourceRow) (are : AreNumbered rows) (up : IsKeyedBy number_of rows.domains) (is : IsDomain name rows found)
     (at : there ≡ (state_at rows found.number).source) (fits : nat_le (length ss) 4_096 ≡ true) where
   its_source : there ≡ (state_at rows is.row.number).source
   its_source = at ∙ ap (λ n. (state_at rows n).source) is.number
@@ -293,5 +293,5 @@ module _ (rows : Rows) (name : List ℕ) (found : DomainFound) (there ss : List 
       (source_planned rows name is.row is.only up are next ss fits reads texts (λ same. differs (its_source ∙ same)) rises (subst (λ k. k < 2 ^ 63) (sym rises) r.1))
 
 -- too many rows
-pub too_many : (rows : Rows) (name : List ℕ) (found : DomainFound) (ss : List SourceRow) → IsDomain name rows found → nat_le (length ss) 4_096 ≡ false → within (source_set ss) (state_of name (kept_of rows)) ≡ Err Quota
+pub too_many : (rows : Rows) (name : List ℕ) (found : FoundDomain) (ss : List SourceRow) → IsDomain name rows found → nat_le (length ss) 4_096 ≡ false → within (source_set ss) (state_of name (kept_of rows)) ≡ Err Quota
 too_many rows name found ss is over = refused rows name is.row is.only (source_set ss) Quota (set_refused ss (state_at rows is.row.number) over)

@@ -1,7 +1,7 @@
 -- The plans of changes of tokens.
 use Rattle.std.proofs.Common.{◌≡◌, ◌≢◌, inl, ℕ, ℤ, List, [], ◌∷◌, ◌++◌, filter, find, Bool, true, false, ◌||◌, not, cond, nat_lt, Option, Some, None, option_map, is_some, Ok, Err, refl, sym, ap, subst, ◌∙◌, int_eq}
 use Rattle.xa_store.proofs.Common.{AllByRecursion, eq_by_cmp, FinMap, contains_key, insert, remove, len, IsKeyedBy, next_key, update_where, delete_where, int_eq_apart, same_int, Role, Absent, Quota, token_dropped, token_put, with_tokens, within, DomainState, compare_bytes, IsNextEpoch, state_of, bytes_exact, bytes_total, is_digest, DomainRow, TokenRow, nat_of, AreNumbered, Rows, roles_of, state_at, tokens_at, kept_of}
-use Rattle.xa_store.specs.declared.query.domain.DomainFound.{DomainFound}
+use Rattle.xa_store.specs.declared.query.domain.FoundDomain.{FoundDomain}
 use Rattle.xa_store.specs.keeping.Lookup.{FindsRole, IsDomain}
 use Rattle.xa_store.specs.declared.step.Step.TheVariants.{AddToken, SetRole, DropToken}
 use Rattle.xa_store.specs.keeping.Steps.{is_named, is_token, with_epoch}
@@ -143,7 +143,7 @@ module _ (rows : Rows) (name : List ℕ) (d : DomainRow) (one : IsOnly name d ro
 
 -- ---- of a domain that was found
 
-module _ (rows : Rows) (name : List ℕ) (found : DomainFound) (up : IsKeyedBy number_of rows.domains) (are : AreNumbered rows) (is : IsDomain name rows found) (digest : List ℕ) where
+module _ (rows : Rows) (name : List ℕ) (found : FoundDomain) (up : IsKeyedBy number_of rows.domains) (are : AreNumbered rows) (is : IsDomain name rows found) (digest : List ℕ) where
   finds_own : (o : Option Role) → FindsRole found.number digest rows o → FindsRole is.row.number digest rows o
   finds_own o = subst (λ n. FindsRole n digest rows o) is.number
 

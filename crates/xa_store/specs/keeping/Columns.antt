@@ -11,7 +11,7 @@ use Rattle.xa_decide.specs.declared.source_row.SourceRow.{SourceRow}
 use Rattle.xa_records.specs.declared.gate.Token.{Token}
 use Rattle.xa_records.specs.declared.listed.Listed.{Listed}
 use Rattle.xa_records.specs.declared.active_text.ActiveText.{ActiveText}
-use Rattle.xa_store.specs.declared.query.document_row.DocumentFound.{DocumentFound}
+use Rattle.xa_store.specs.declared.query.document_row.FoundDocument.{FoundDocument}
 use Rattle.xa_store.specs.Rows.{flag_in, given, kind_in, role_in, value_in, version_in}
 use Rattle.xa_store.specs.keeping.ShownColumns as shown
 
@@ -47,7 +47,7 @@ listed_told row = record { key = key_told row; active = flag_in (int_of (column 
 abbrev pub text_told : Row → ActiveText
 text_told row = record { key = key_told row; text = bytes_of (column row shown.active_body) }
 
-abbrev pub document_told : Row → DocumentFound
+abbrev pub document_told : Row → FoundDocument
 document_told row = record {
   text = bytes_of (column row shown.document_body);
   active = flag_in (int_of (column row shown.document_active));

@@ -9,8 +9,8 @@ use Rattle.xa_records.specs.declared.gate.Token.{Token}
 use Rattle.xa_records.specs.declared.refusal.ChangeError.{ChangeError}
 use Rattle.xa_records.specs.declared.refusal.ChangeError.TheVariants.{Failed, Refused}
 use Rattle.xa_records.specs.declared.refusal.Refusal.TheVariants.{Absent}
-use Rattle.xa_store.specs.declared.query.document_row.DocumentFound.{DocumentFound}
-use Rattle.xa_store.specs.declared.query.domain.DomainFound.{DomainFound}
+use Rattle.xa_store.specs.declared.query.document_row.FoundDocument.{FoundDocument}
+use Rattle.xa_store.specs.declared.query.domain.FoundDomain.{FoundDomain}
 use Rattle.xa_store.specs.Rows.{DomainRow, DocumentRow, nat_of}
 use Rattle.xa_store.specs.keeping.ShownColumns as shown
 use Rattle.xa_store.specs.keeping.Steps.{is_named, is_token, is_document}
@@ -21,7 +21,7 @@ abbrev pub IsOnly : List ℕ → DomainRow → Rows → Type 0
 IsOnly name d rows = filter (is_named name) rows.domains ≡ d ∷ []
 
 -- the domain of that name: its row, and the row's number and epoch, which aren't negative
-pub record IsDomain (name : List ℕ) (rows : Rows) (found : DomainFound) : Type 0 where
+pub record IsDomain (name : List ℕ) (rows : Rows) (found : FoundDomain) : Type 0 where
   pub row : DomainRow
   pub only : IsOnly name row rows
   pub number : found.number ≡ row.number
@@ -30,12 +30,12 @@ pub record IsDomain (name : List ℕ) (rows : Rows) (found : DomainFound) : Type
   pub has_epoch : row.epoch ≡ pos (nat_of row.epoch)
 
 -- the look for the domain of that name has found it, or no row has the name
-abbrev pub FindsDomain : List ℕ → Rows → Option DomainFound → Type 0
+abbrev pub FindsDomain : List ℕ → Rows → Option FoundDomain → Type 0
 FindsDomain name rows (Some found) = IsDomain name rows found
 FindsDomain name rows None = filter (is_named name) rows.domains ≡ []
 
 -- the rows of the look for a domain tell its number and its epoch
-abbrev pub TellDomain : List Row → Option DomainFound → Type 0
+abbrev pub TellDomain : List Row → Option FoundDomain → Type 0
 TellDomain [] None = Unit {0}
 TellDomain (row ∷ []) (Some found) =
     (column row shown.domain_number ≡ Int found.number) × (column row shown.domain_epoch ≡ Int found.epoch)
@@ -51,11 +51,11 @@ FindsOne p tells xs None = filter p xs ≡ []
 abbrev pub FindsRole : ℤ → List ℕ → Rows → Option Role → Type 0
 FindsRole number digest rows = FindsOne (is_token number digest) (λ t. t.role) rows.tokens
 
-abbrev pub found_of : DocumentRow → DocumentFound
+abbrev pub found_of : DocumentRow → FoundDocument
 found_of d = record { text = d.text; active = d.active }
 
 -- the document of that key of the domain of that number
-abbrev pub FindsDocument : ℤ → DocumentKey → Rows → Option DocumentFound → Type 0
+abbrev pub FindsDocument : ℤ → DocumentKey → Rows → Option FoundDocument → Type 0
 FindsDocument number key rows = FindsOne (is_document number key) found_of rows.documents
 
 -- the change is refused since what it is of is absent, or the look for it failed
@@ -64,7 +64,7 @@ TellsAbsent is_absent (Refused e) = (e ≡ Absent) × is_absent
 TellsAbsent is_absent (Failed failure) = Unit {0}
 
 -- the gate of a domain that was found: its number and its epoch, and these tokens
-abbrev pub TellsGate : DomainFound → List Token → Gate → Type 0
+abbrev pub TellsGate : FoundDomain → List Token → Gate → Type 0
 TellsGate domain tokens gate =
     (n : ℕ) × (e : ℕ) × (domain.number ≡ pos n) × (domain.epoch ≡ pos e)
     × (gate ≡ record { number = n; epoch = e; tokens = tokens })

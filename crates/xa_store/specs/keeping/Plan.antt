@@ -20,7 +20,7 @@ use Rattle.xa_store.specs.keeping.Lookup.{IsDomain}
 use Rattle.xa_store.specs.Rows.{DomainRow, root_of, reference_of}
 use Rattle.xa_store.specs.keeping.Turns.{IsPlanned}
 use Rattle.xa_store.specs.World.{Rows, kept_of, rows_now}
-use Rattle.xa_store.specs.declared.query.domain.DomainFound.{DomainFound}
+use Rattle.xa_store.specs.declared.query.domain.FoundDomain.{FoundDomain}
 use Rattle.xa_store.specs.declared.step.Step.{Step}
 use Rattle.xa_store.specs.declared.step.Step.TheVariants.{AddDomain, SetNext, SetEpoch, AddRoot}
 use Rattle.xa_store.specs.declared.step.Step.TheVariants.{DropRoot, AddSourceRow, DropSource}
@@ -82,14 +82,14 @@ abbrev pub number_key : DomainRow → ℤ
 number_key d = d.number
 
 -- the change is planned by rows in which the domain was found, and what else was found
-abbrev pub PlansOver : Change → DomainFound → (Rows → Type 0) → Result (List Step) ChangeError → Type 0
+abbrev pub PlansOver : Change → FoundDomain → (Rows → Type 0) → Result (List Step) ChangeError → Type 0
 PlansOver change found Finds result =
     (name : List ℕ) → (rows : Rows) → AreNumbered rows → IsKeyedBy number_key rows.domains
     → IsDomain name rows found → Finds rows → IsPlanned change name rows result
 
 module _ {S : Type 0} (g : Ghosts S) where
   -- the change is planned by what our tables held, in which the domain was found
-  abbrev pub PlansFound : Change → DomainFound → Held S → Held S → Result (List Step) ChangeError → Type 0
+  abbrev pub PlansFound : Change → FoundDomain → Held S → Held S → Result (List Step) ChangeError → Type 0
   PlansFound change found old new result =
       HasCleanDisk (state g new) → Ours (state g old)
       → (name : List ℕ) → IsDomain name (rows_now (state g old)) found

@@ -19,8 +19,8 @@ use crate::change::number::raised_epoch;
 use crate::change::{carry_out, step_and_epoch};
 use crate::query::count::document_count;
 use crate::query::document::document_of;
-use crate::query::document_row::DocumentFound;
-use crate::query::domain::DomainFound;
+use crate::query::document_row::FoundDocument;
+use crate::query::domain::FoundDomain;
 use crate::step::Step;
 use crate::step::transaction::run;
 use sqlite::{Alter, Connection};
@@ -55,7 +55,7 @@ fn is_same_body(one: &[u8], other: &[u8]) -> bool
 fn plan_upload_new<S: Alter>(
     alloc: Global,
     conn: &mut Connection<S>,
-    found: DomainFound,
+    found: FoundDomain,
     key: DocumentKey,
     text: &[u8],
 ) -> Result<Items<Step>, ChangeError>
@@ -84,8 +84,8 @@ fn plan_upload_new<S: Alter>(
 /// contract speaks of `found`.
 fn plan_upload_again(
     alloc: Global,
-    found: DomainFound,
-    there: &DocumentFound,
+    found: FoundDomain,
+    there: &FoundDocument,
     key: &DocumentKey,
     text: &[u8],
 ) -> Result<Items<Step>, ChangeError>
@@ -105,7 +105,7 @@ fn plan_upload_again(
 fn plan_upload_in_domain<S: Alter>(
     alloc: Global,
     conn: &mut Connection<S>,
-    found: DomainFound,
+    found: FoundDomain,
     key: DocumentKey,
     text: &[u8],
 ) -> Result<Items<Step>, ChangeError>
@@ -173,8 +173,8 @@ pub(crate) fn upload<S: Alter>(
 /// The plan of an activation or deactivation, of the document that was found.
 fn plan_active_over(
     alloc: Global,
-    found: DomainFound,
-    there: &DocumentFound,
+    found: FoundDomain,
+    there: &FoundDocument,
     key: &DocumentKey,
     active: bool,
 ) -> Result<Items<Step>, ChangeError>
@@ -200,7 +200,7 @@ fn plan_active_over(
 fn plan_active_in_domain<S: Alter>(
     alloc: Global,
     conn: &mut Connection<S>,
-    found: DomainFound,
+    found: FoundDomain,
     key: &DocumentKey,
     active: bool,
 ) -> Result<Items<Step>, ChangeError>
@@ -248,8 +248,8 @@ pub(crate) fn set_active<S: Alter>(
 /// The plan of a deletion, of the document that was found.
 fn plan_delete_over(
     alloc: Global,
-    found: DomainFound,
-    there: &DocumentFound,
+    found: FoundDomain,
+    there: &FoundDocument,
     key: &DocumentKey,
 ) -> Result<Items<Step>, ChangeError>
     ensures plans { PlansOver (within (deleted key.now)) found
@@ -273,7 +273,7 @@ fn plan_delete_over(
 fn plan_delete_in_domain<S: Alter>(
     alloc: Global,
     conn: &mut Connection<S>,
-    found: DomainFound,
+    found: FoundDomain,
     key: &DocumentKey,
 ) -> Result<Items<Step>, ChangeError>
     ensures only_reads { OnlyReadsForChangeOver S.Store conn.old conn.new result }

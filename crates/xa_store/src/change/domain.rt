@@ -16,7 +16,7 @@ ghost use Rattle.xa_store.specs.World.{Rows};
 use crate::change::found::domain_to_change;
 use crate::change::number::next_after;
 use crate::change::{carry_out, one_step};
-use crate::query::domain::{DomainFound, domain_named};
+use crate::query::domain::{FoundDomain, domain_named};
 use crate::query::number::next_number;
 use crate::step::Step;
 use sqlite::{Alter, Connection};
@@ -83,7 +83,7 @@ pub(crate) fn create<S: Alter>(
 }
 
 /// The plan of a removal, of the domain that was found.
-fn plan_remove_in_domain(alloc: Global, found: DomainFound) -> Result<Items<Step>, ChangeError>
+fn plan_remove_in_domain(alloc: Global, found: FoundDomain) -> Result<Items<Step>, ChangeError>
     ensures plans { (name : List ℕ) → (rows : Rows) → AreNumbered rows → IsKeyedBy number_key rows.domains
         → IsDomain name rows found → IsPlanned removed name rows result }
 {

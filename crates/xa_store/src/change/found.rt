@@ -4,8 +4,8 @@ ghost use Rattle.xa_store.specs.keeping.Lookup.{FindsDocument, FindsDomain, Find
 ghost use Rattle.xa_store.specs.keeping.Quiet.{OnlyReadsForChangeOver, OverRows, ReadsRows};
 
 use crate::query::document::document_of;
-use crate::query::document_row::DocumentFound;
-use crate::query::domain::{DomainFound, domain_named};
+use crate::query::document_row::FoundDocument;
+use crate::query::domain::{FoundDomain, domain_named};
 use crate::query::token::role_of;
 use sqlite::{Alter, Connection};
 use std::alloc::Global;
@@ -18,7 +18,7 @@ use xa_value::Text;
 pub(crate) fn domain_to_change<S: Alter>(
     conn: &mut Connection<S>,
     name: &Text,
-) -> Result<DomainFound, ChangeError>
+) -> Result<FoundDomain, ChangeError>
     ensures only_reads { OnlyReadsForChangeOver S.Store conn.old conn.new result }
     ensures finds { ReadsRows S.Store conn.old conn.new result (IsDomain name.now) }
     ensures absent { OverRows S.Store conn.old conn.new
@@ -34,7 +34,7 @@ pub(crate) fn document_to_change<S: Alter>(
     conn: &mut Connection<S>,
     number: i64,
     key: &DocumentKey,
-) -> Result<DocumentFound, ChangeError>
+) -> Result<FoundDocument, ChangeError>
     ensures only_reads { OnlyReadsForChangeOver S.Store conn.old conn.new result }
     ensures finds { ReadsRows S.Store conn.old conn.new result
         (λ rows there. FindsDocument number key.now rows (Some there)) }

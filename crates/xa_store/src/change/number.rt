@@ -2,7 +2,7 @@
 ghost use Rattle.std.specs.Prelude.{◌≡◌, Ok, Err, IfErr, IfOk};
 ghost use Rattle.xa_store.specs.keeping.Plan.{RaisesTo};
 
-use crate::query::domain::DomainFound;
+use crate::query::domain::FoundDomain;
 use crate::step::RaisedEpoch;
 use xa_records::Failure;
 
@@ -17,7 +17,7 @@ pub(crate) fn next_after(number: i64) -> Result<i64, Failure>
 }
 
 /// The epoch to which a change raises that of the domain: the next one, with the domain's number.
-pub(crate) fn raised_epoch(found: DomainFound) -> Result<RaisedEpoch, Failure>
+pub(crate) fn raised_epoch(found: FoundDomain) -> Result<RaisedEpoch, Failure>
     ensures number { IfOk result (λ raised. raised.number ≡ found.number) }
     ensures epoch { IfOk result (λ raised. RaisesTo found.epoch (Ok raised.epoch)) }
     ensures fails { IfErr result (λ failure. RaisesTo found.epoch (Err failure)) }

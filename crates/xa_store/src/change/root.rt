@@ -11,7 +11,7 @@ use crate::change::found::domain_to_change;
 use crate::change::laws::root_reads_back;
 use crate::change::number::raised_epoch;
 use crate::change::{carry_out, with_epoch};
-use crate::query::domain::DomainFound;
+use crate::query::domain::FoundDomain;
 use crate::query::root::root_of;
 use crate::step::{RaisedEpoch, Step};
 use sqlite::{Alter, Connection};
@@ -45,7 +45,7 @@ fn root_steps(
 /// The plan of a new root, by the root that the domain has.
 fn plan_root_over(
     alloc: Global,
-    found: DomainFound,
+    found: FoundDomain,
     there: &Option<Reference>,
     root: Option<Reference>,
 ) -> Result<Items<Step>, ChangeError>

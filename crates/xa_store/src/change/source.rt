@@ -16,7 +16,7 @@ use crate::change::found::domain_to_change;
 use crate::change::laws::{bytes_are_utf8, bytes_are_utf8_if_any};
 use crate::change::number::raised_epoch;
 use crate::change::{carry_out, with_epoch};
-use crate::query::domain::DomainFound;
+use crate::query::domain::FoundDomain;
 use crate::query::source::source_of;
 use crate::step::{RaisedEpoch, Step};
 use sqlite::{Alter, Connection};
@@ -103,7 +103,7 @@ fn source_steps(
 /// The plan of other source rows, by those that the domain has.
 fn plan_source_over(
     alloc: Global,
-    found: DomainFound,
+    found: FoundDomain,
     there: &Items<SourceRow>,
     rows: Items<SourceRow>,
 ) -> Result<Items<Step>, ChangeError>

@@ -11,7 +11,7 @@ use crate::change::found::{domain_to_change, role_to_change};
 use crate::change::laws::has_all_bytes;
 use crate::change::{carry_out, one_step};
 use crate::query::count::token_count;
-use crate::query::domain::DomainFound;
+use crate::query::domain::FoundDomain;
 use crate::query::token::role_of;
 use crate::step::Step;
 use sqlite::{Alter, Connection};
@@ -32,7 +32,7 @@ fn may_have_one_more_token(count: usize) -> bool
 fn plan_put_new<S: Alter>(
     alloc: Global,
     conn: &mut Connection<S>,
-    found: DomainFound,
+    found: FoundDomain,
     digest: Digest,
     role: Role,
 ) -> Result<Items<Step>, ChangeError>
@@ -59,7 +59,7 @@ fn plan_put_new<S: Alter>(
 fn plan_put_in_domain<S: Alter>(
     alloc: Global,
     conn: &mut Connection<S>,
-    found: DomainFound,
+    found: FoundDomain,
     digest: Digest,
     role: Role,
 ) -> Result<Items<Step>, ChangeError>
@@ -114,7 +114,7 @@ pub(crate) fn put<S: Alter>(
 fn plan_drop_token_in_domain<S: Alter>(
     alloc: Global,
     conn: &mut Connection<S>,
-    found: DomainFound,
+    found: FoundDomain,
     digest: Digest,
 ) -> Result<Items<Step>, ChangeError>
     ensures only_reads { OnlyReadsForChangeOver S.Store conn.old conn.new result }

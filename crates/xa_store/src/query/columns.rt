@@ -2,7 +2,7 @@
 //! numbers.
 
 /// The columns of a domain, as `sql::SHOW_DOMAIN` shows them.
-pub(crate) mod domain_found {
+pub(crate) mod found_domain {
     pub(crate) const NUMBER: usize = 0;
 
     pub(crate) const EPOCH: usize = 1;
@@ -31,7 +31,7 @@ pub(crate) mod token_row {
 }
 
 /// The columns of a document that was found by its key, as `sql::SHOW_DOCUMENT` shows them.
-pub(crate) mod document_found {
+pub(crate) mod found_document {
     pub(crate) const BODY: usize = 0;
 
     pub(crate) const ACTIVE: usize = 1;

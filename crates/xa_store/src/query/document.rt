@@ -16,7 +16,7 @@ ghost use Rattle.xa_store.specs.keeping.Texts.{show_document};
 ghost use Rattle.xa_store.specs.World.{state_at};
 
 use crate::parameter::kind_number;
-use crate::query::document_row::DocumentFound;
+use crate::query::document_row::FoundDocument;
 use crate::query::query_rows;
 use crate::query::row::{read_all, read_one};
 use crate::sql;
@@ -99,7 +99,7 @@ pub(crate) fn document_of<S: Alter>(
     conn: &mut Connection<S>,
     number: i64,
     key: &DocumentKey,
-) -> Result<Option<DocumentFound>, Failure>
+) -> Result<Option<FoundDocument>, Failure>
     ensures only_reads { OnlyReadsOver S.Store conn.old conn.new result }
     ensures finds { ReadsRows S.Store conn.old conn.new result (FindsDocument number key.now) }
 {

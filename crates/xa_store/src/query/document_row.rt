@@ -3,7 +3,7 @@ ghost use Rattle.std.specs.Prelude.{◌≡◌, IfOk};
 ghost use Rattle.xa_store.specs.keeping.Columns.{document_told, key_told, listed_told, text_told};
 
 use crate::query::cell::{bytes_in, flag_in, kind_in, text_in, version_in};
-use crate::query::columns::{active_text, document_found, document_key, listed};
+use crate::query::columns::{active_text, found_document, document_key, listed};
 use crate::query::row::FromRow;
 use sqlite::Row;
 use std::alloc::Global;
@@ -13,7 +13,7 @@ use xa_value::Items;
 
 /// A document that was found by its key.
 #[derive(Debug, Drop)]
-pub(crate) struct DocumentFound {
+pub(crate) struct FoundDocument {
     /// Its text.
     pub text: Items<u8>,
     /// Whether references may resolve to it.
@@ -21,13 +21,13 @@ pub(crate) struct DocumentFound {
 }
 
 /// Read from the columns of `sql::SHOW_DOCUMENT`.
-impl FromRow for DocumentFound {
+impl FromRow for FoundDocument {
     ghost told = { document_told };
 
-    fn from_row(_: Global, row: &Row) -> Result<DocumentFound, Failure> {
-        let text = bytes_in(row, document_found::BODY)?;
-        let active = flag_in(row, document_found::ACTIVE)?;
-        Ok(DocumentFound { text, active })
+    fn from_row(_: Global, row: &Row) -> Result<FoundDocument, Failure> {
+        let text = bytes_in(row, found_document::BODY)?;
+        let active = flag_in(row, found_document::ACTIVE)?;
+        Ok(FoundDocument { text, active })
     }
 }
 

@@ -4,7 +4,7 @@ ghost use Rattle.xa_store.specs.keeping.Lookup.{FindsDomain, TellDomain};
 ghost use Rattle.xa_store.specs.keeping.Quiet.{OnlyReadsOver, ReadsRows};
 
 use crate::query::cell::number_in;
-use crate::query::columns::domain_found;
+use crate::query::columns::found_domain;
 use crate::query::query_rows;
 use crate::sql;
 use sqlite::types::ValueRef;
@@ -14,7 +14,7 @@ use xa_value::Text;
 
 /// A domain that was found.
 #[derive(Clone, Copy, Debug)]
-pub(crate) struct DomainFound {
+pub(crate) struct FoundDomain {
     /// Its number.
     pub number: i64,
     /// Its epoch.
@@ -23,18 +23,18 @@ pub(crate) struct DomainFound {
 
 /// The domain that rows of `sql::SHOW_DOMAIN` tell: none if there is no row, and a failure if there are
 /// several.
-fn read_domain(rows: &[Row]) -> Result<Option<DomainFound>, Failure>
+fn read_domain(rows: &[Row]) -> Result<Option<FoundDomain>, Failure>
     ensures { IfOk result (TellDomain rows.now) }
 {
     match rows {
         [] => Ok(None),
         [row] => {
-            let number = number_in(row, domain_found::NUMBER)?;
-            let epoch = number_in(row, domain_found::EPOCH)?;
+            let number = number_in(row, found_domain::NUMBER)?;
+            let epoch = number_in(row, found_domain::EPOCH)?;
             if number < 0 || epoch < 0 {
                 return Err(Failure::Store);
             }
-            Ok(Some(DomainFound { number, epoch }))
+            Ok(Some(FoundDomain { number, epoch }))
         }
         _ => Err(Failure::Store),
     }
@@ -46,7 +46,7 @@ fn read_domain(rows: &[Row]) -> Result<Option<DomainFound>, Failure>
 pub(crate) fn domain_named<S: Alter>(
     conn: &mut Connection<S>,
     name: &Text,
-) -> Result<Option<DomainFound>, Failure>
+) -> Result<Option<FoundDomain>, Failure>
     ensures only_reads { OnlyReadsOver S.Store conn.old conn.new result }
     ensures finds { ReadsRows S.Store conn.old conn.new result (FindsDomain name.now) }
 {

@@ -8,7 +8,7 @@ ghost use Rattle.xa_store.specs.keeping.Quiet.{OnlyReadsOver, ReadsRows};
 ghost use Rattle.xa_store.specs.World.{kept_of, state_at};
 
 use crate::query::document::{active_texts_of, document_of, documents_of};
-use crate::query::domain::{DomainFound, domain_named};
+use crate::query::domain::{FoundDomain, domain_named};
 use crate::query::root::root_of;
 use crate::query::source::source_of;
 use crate::query::token::tokens_of;
@@ -26,7 +26,7 @@ fn natural_of(number: i64) -> Result<u64, Failure>
 }
 
 /// The gate of the domain that was found, by its tokens.
-fn gate_by(domain: DomainFound, tokens: Items<Token>) -> Result<Gate, Failure>
+fn gate_by(domain: FoundDomain, tokens: Items<Token>) -> Result<Gate, Failure>
     ensures { IfOk result (TellsGate domain tokens) }
 {
     let number = natural_of(domain.number)?;
