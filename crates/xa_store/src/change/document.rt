@@ -55,25 +55,25 @@ fn is_same_body(one: &[u8], other: &[u8]) -> bool
 fn plan_upload_new<S: Alter>(
     alloc: Global,
     conn: &mut Connection<S>,
-    found: FoundDomain,
+    domain: FoundDomain,
     key: DocumentKey,
     text: &[u8],
 ) -> Result<Items<Step>, ChangeError>
     requires { IsDocumentOf key text.now }
     ensures only_reads { OnlyReadsForChangeOver S.Store conn.old conn.new result }
-    ensures plans { OverRows S.Store conn.old conn.new (λ rows. (name : List ℕ) → IsDomain name rows found
-        → FindsDocument found.number key rows None → IsUploadPlanned key text.now name rows result) }
+    ensures plans { OverRows S.Store conn.old conn.new (λ rows. (name : List ℕ) → IsDomain name rows domain
+        → FindsDocument domain.number key rows None → IsUploadPlanned key text.now name rows result) }
 {
     // For the proof: the key reads back from its row.
     key_reads_back(&key);
-    let count = document_count(conn, found.number)?;
+    let count = document_count(conn, domain.number)?;
     if !may_have_one_more_document(count) {
         return Err(ChangeError::Refused(Refusal::Quota));
     }
-    let raised = raised_epoch(found)?;
+    let raised = raised_epoch(domain)?;
     let copy = copy_of_text(alloc, text)?;
     let step = Step::AddDocument {
-        number: found.number,
+        number: domain.number,
         key,
         text: copy,
     };
@@ -81,21 +81,21 @@ fn plan_upload_new<S: Alter>(
 }
 
 /// The plan of an upload, if a document has the key: the same text again changes nothing. For the proof: the
-/// contract speaks of `found`.
+/// contract speaks of `domain`.
 fn plan_upload_again(
     alloc: Global,
-    found: FoundDomain,
-    there: &FoundDocument,
+    domain: FoundDomain,
+    document: &FoundDocument,
     key: &DocumentKey,
     text: &[u8],
 ) -> Result<Items<Step>, ChangeError>
     ensures plans { (name : List ℕ) → (rows : Rows) → AreNumbered rows → IsKeyedBy number_key rows.domains
-        → IsDomain name rows found → FindsDocument found.number key.now rows (Some there.now)
+        → IsDomain name rows domain → FindsDocument domain.number key.now rows (Some document.now)
         → IsUploadPlanned key.now text.now name rows result }
 {
     // For the proof: the key reads back from its row.
     key_reads_back(key);
-    if is_same_body(there.text.as_slice(), text) {
+    if is_same_body(document.text.as_slice(), text) {
         return Ok(Items::new(alloc));
     }
     Err(ChangeError::Refused(Refusal::SameVersionOtherText))
@@ -105,19 +105,19 @@ fn plan_upload_again(
 fn plan_upload_in_domain<S: Alter>(
     alloc: Global,
     conn: &mut Connection<S>,
-    found: FoundDomain,
+    domain: FoundDomain,
     key: DocumentKey,
     text: &[u8],
 ) -> Result<Items<Step>, ChangeError>
     requires { IsDocumentOf key text.now }
     ensures only_reads { OnlyReadsForChangeOver S.Store conn.old conn.new result }
-    ensures plans { OverRows S.Store conn.old conn.new (λ rows. (name : List ℕ) → IsDomain name rows found
+    ensures plans { OverRows S.Store conn.old conn.new (λ rows. (name : List ℕ) → IsDomain name rows domain
         → IsUploadPlanned key text.now name rows result) }
 {
-    let there = document_of(alloc, conn, found.number, &key)?;
-    match there {
-        Some(there) => plan_upload_again(alloc, found, &there, &key, text),
-        None => plan_upload_new(alloc, conn, found, key, text),
+    let document = document_of(alloc, conn, domain.number, &key)?;
+    match document {
+        Some(document) => plan_upload_again(alloc, domain, &document, &key, text),
+        None => plan_upload_new(alloc, conn, domain, key, text),
     }
 }
 
@@ -134,8 +134,8 @@ fn plan_upload<S: Alter>(
     ensures plans { OverRows S.Store conn.old conn.new
         (λ rows. IsUploadPlanned key text.now name.now rows result) }
 {
-    let found = domain_to_change(conn, name)?;
-    plan_upload_in_domain(alloc, conn, found, key, text)
+    let domain = domain_to_change(conn, name)?;
+    plan_upload_in_domain(alloc, conn, domain, key, text)
 }
 
 /// Whether the steps of an upload add a document.
@@ -173,23 +173,23 @@ pub(crate) fn upload<S: Alter>(
 /// The plan of an activation or deactivation, of the document that was found.
 fn plan_active_over(
     alloc: Global,
-    found: FoundDomain,
-    there: &FoundDocument,
+    domain: FoundDomain,
+    document: &FoundDocument,
     key: &DocumentKey,
     active: bool,
 ) -> Result<Items<Step>, ChangeError>
-    ensures plans { PlansOver (within (activity_set key.now active)) found
-        (λ rows. FindsDocument found.number key.now rows (Some there.now)) result }
+    ensures plans { PlansOver (within (activity_set key.now active)) domain
+        (λ rows. FindsDocument domain.number key.now rows (Some document.now)) result }
 {
     // For the proof: the key reads back from its row.
     key_reads_back(key);
-    if is_same_activity(there.active, active) {
+    if is_same_activity(document.active, active) {
         return Ok(Items::new(alloc));
     }
-    let raised = raised_epoch(found)?;
+    let raised = raised_epoch(domain)?;
     let copy = key.clone()?;
     let step = Step::SetActive {
-        number: found.number,
+        number: domain.number,
         key: copy,
         active,
     };
@@ -200,18 +200,18 @@ fn plan_active_over(
 fn plan_active_in_domain<S: Alter>(
     alloc: Global,
     conn: &mut Connection<S>,
-    found: FoundDomain,
+    domain: FoundDomain,
     key: &DocumentKey,
     active: bool,
 ) -> Result<Items<Step>, ChangeError>
     ensures only_reads { OnlyReadsForChangeOver S.Store conn.old conn.new result }
-    ensures plans { PlansFound S.Store (within (activity_set key.now active)) found
+    ensures plans { PlansFound S.Store (within (activity_set key.now active)) domain
         conn.old conn.new result }
 {
     // For the proof: the key reads back from its row.
     key_reads_back(key);
-    let there = document_to_change(alloc, conn, found.number, key)?;
-    plan_active_over(alloc, found, &there, key, active)
+    let document = document_to_change(alloc, conn, domain.number, key)?;
+    plan_active_over(alloc, domain, &document, key, active)
 }
 
 /// The plan of an activation or deactivation, or why there is no plan.
@@ -226,8 +226,8 @@ fn plan_active<S: Alter>(
     ensures plans { PlansIn S.Store (within (activity_set key.now active)) name.now
         conn.old conn.new result }
 {
-    let found = domain_to_change(conn, name)?;
-    plan_active_in_domain(alloc, conn, found, key, active)
+    let domain = domain_to_change(conn, name)?;
+    plan_active_in_domain(alloc, conn, domain, key, active)
 }
 
 /// Sets whether references may resolve to the document of that key in the domain of that name.
@@ -248,22 +248,22 @@ pub(crate) fn set_active<S: Alter>(
 /// The plan of a deletion, of the document that was found.
 fn plan_delete_over(
     alloc: Global,
-    found: FoundDomain,
-    there: &FoundDocument,
+    domain: FoundDomain,
+    document: &FoundDocument,
     key: &DocumentKey,
 ) -> Result<Items<Step>, ChangeError>
-    ensures plans { PlansOver (within (deleted key.now)) found
-        (λ rows. FindsDocument found.number key.now rows (Some there.now)) result }
+    ensures plans { PlansOver (within (deleted key.now)) domain
+        (λ rows. FindsDocument domain.number key.now rows (Some document.now)) result }
 {
     // For the proof: the key reads back from its row.
     key_reads_back(key);
-    if there.active {
+    if document.active {
         return Err(ChangeError::Refused(Refusal::StillActive));
     }
-    let raised = raised_epoch(found)?;
+    let raised = raised_epoch(domain)?;
     let copy = key.clone()?;
     let step = Step::DropDocument {
-        number: found.number,
+        number: domain.number,
         key: copy,
     };
     Ok(step_and_epoch(alloc, step, raised)?)
@@ -273,16 +273,16 @@ fn plan_delete_over(
 fn plan_delete_in_domain<S: Alter>(
     alloc: Global,
     conn: &mut Connection<S>,
-    found: FoundDomain,
+    domain: FoundDomain,
     key: &DocumentKey,
 ) -> Result<Items<Step>, ChangeError>
     ensures only_reads { OnlyReadsForChangeOver S.Store conn.old conn.new result }
-    ensures plans { PlansFound S.Store (within (deleted key.now)) found conn.old conn.new result }
+    ensures plans { PlansFound S.Store (within (deleted key.now)) domain conn.old conn.new result }
 {
     // For the proof: the key reads back from its row.
     key_reads_back(key);
-    let there = document_to_change(alloc, conn, found.number, key)?;
-    plan_delete_over(alloc, found, &there, key)
+    let document = document_to_change(alloc, conn, domain.number, key)?;
+    plan_delete_over(alloc, domain, &document, key)
 }
 
 /// The plan of a deletion, or why there is no plan.
@@ -295,8 +295,8 @@ fn plan_delete<S: Alter>(
     ensures only_reads { OnlyReadsForChangeOver S.Store conn.old conn.new result }
     ensures plans { PlansIn S.Store (within (deleted key.now)) name.now conn.old conn.new result }
 {
-    let found = domain_to_change(conn, name)?;
-    plan_delete_in_domain(alloc, conn, found, key)
+    let domain = domain_to_change(conn, name)?;
+    plan_delete_in_domain(alloc, conn, domain, key)
 }
 
 /// Deletes a document of the domain of that name, which must not be active.

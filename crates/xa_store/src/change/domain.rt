@@ -83,11 +83,11 @@ pub(crate) fn create<S: Alter>(
 }
 
 /// The plan of a removal, of the domain that was found.
-fn plan_remove_in_domain(alloc: Global, found: FoundDomain) -> Result<Items<Step>, ChangeError>
+fn plan_remove_in_domain(alloc: Global, domain: FoundDomain) -> Result<Items<Step>, ChangeError>
     ensures plans { (name : List ℕ) → (rows : Rows) → AreNumbered rows → IsKeyedBy number_key rows.domains
-        → IsDomain name rows found → IsPlanned removed name rows result }
+        → IsDomain name rows domain → IsPlanned removed name rows result }
 {
-    Ok(one_step(alloc, Step::DropDomain(found.number))?)
+    Ok(one_step(alloc, Step::DropDomain(domain.number))?)
 }
 
 /// The plan of a removal, or why there is no plan.
@@ -99,8 +99,8 @@ fn plan_remove<S: Alter>(
     ensures only_reads { OnlyReadsForChangeOver S.Store conn.old conn.new result }
     ensures plans { PlansIn S.Store removed name.now conn.old conn.new result }
 {
-    let found = domain_to_change(conn, name)?;
-    plan_remove_in_domain(alloc, found)
+    let domain = domain_to_change(conn, name)?;
+    plan_remove_in_domain(alloc, domain)
 }
 
 /// Removes the domain of that name, with all that is in it.

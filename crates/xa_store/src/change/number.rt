@@ -17,14 +17,14 @@ pub(crate) fn next_after(number: i64) -> Result<i64, Failure>
 }
 
 /// The epoch to which a change raises that of the domain: the next one, with the domain's number.
-pub(crate) fn raised_epoch(found: FoundDomain) -> Result<RaisedEpoch, Failure>
-    ensures number { IfOk result (λ raised. raised.number ≡ found.number) }
-    ensures epoch { IfOk result (λ raised. RaisesTo found.epoch (Ok raised.epoch)) }
-    ensures fails { IfErr result (λ failure. RaisesTo found.epoch (Err failure)) }
+pub(crate) fn raised_epoch(domain: FoundDomain) -> Result<RaisedEpoch, Failure>
+    ensures number { IfOk result (λ raised. raised.number ≡ domain.number) }
+    ensures epoch { IfOk result (λ raised. RaisesTo domain.epoch (Ok raised.epoch)) }
+    ensures fails { IfErr result (λ failure. RaisesTo domain.epoch (Err failure)) }
 {
-    let epoch = next_after(found.epoch)?;
+    let epoch = next_after(domain.epoch)?;
     Ok(RaisedEpoch {
-        number: found.number,
+        number: domain.number,
         epoch,
     })
 }

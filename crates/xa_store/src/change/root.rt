@@ -45,19 +45,19 @@ fn root_steps(
 /// The plan of a new root, by the root that the domain has.
 fn plan_root_over(
     alloc: Global,
-    found: FoundDomain,
-    there: &Option<Reference>,
+    domain: FoundDomain,
+    root_before: &Option<Reference>,
     root: Option<Reference>,
 ) -> Result<Items<Step>, ChangeError>
-    ensures plans { PlansOver (within (root_set root)) found
-        (λ rows. there.now ≡ root_at rows.roots found.number) result }
+    ensures plans { PlansOver (within (root_set root)) domain
+        (λ rows. root_before.now ≡ root_at rows.roots domain.number) result }
 {
-    if is_same_root(there, &root) {
+    if is_same_root(root_before, &root) {
         return Ok(Items::new(alloc));
     }
     // For the proof: the root reads back from its row.
     root_reads_back(&root);
-    let raised = raised_epoch(found)?;
+    let raised = raised_epoch(domain)?;
     Ok(root_steps(alloc, raised, root)?)
 }
 
@@ -71,9 +71,9 @@ fn plan_root<S: Alter>(
     ensures only_reads { OnlyReadsForChangeOver S.Store conn.old conn.new result }
     ensures plans { PlansIn S.Store (within (root_set root)) name.now conn.old conn.new result }
 {
-    let found = domain_to_change(conn, name)?;
-    let there = root_of(alloc, conn, found.number)?;
-    plan_root_over(alloc, found, &there, root)
+    let domain = domain_to_change(conn, name)?;
+    let root_before = root_of(alloc, conn, domain.number)?;
+    plan_root_over(alloc, domain, &root_before, root)
 }
 
 /// Sets the root of the domain of that name, or drops it.

@@ -103,22 +103,22 @@ fn source_steps(
 /// The plan of other source rows, by those that the domain has.
 fn plan_source_over(
     alloc: Global,
-    found: FoundDomain,
-    there: &Items<SourceRow>,
+    domain: FoundDomain,
+    source_before: &Items<SourceRow>,
     rows: Items<SourceRow>,
 ) -> Result<Items<Step>, ChangeError>
-    ensures plans { PlansOver (within (source_set rows)) found
-        (λ kept. there.now ≡ (state_at kept found.number).source) result }
-    ensures steps { IfOk result (SetsSource found.number rows) }
+    ensures plans { PlansOver (within (source_set rows)) domain
+        (λ kept. source_before.now ≡ (state_at kept domain.number).source) result }
+    ensures steps { IfOk result (SetsSource domain.number rows) }
 {
     if !may_be_kept(&rows) {
         return Err(ChangeError::Refused(Refusal::Quota));
     }
-    if is_same_source(there, &rows) {
+    if is_same_source(source_before, &rows) {
         return Ok(Items::new(alloc));
     }
     check_rows(alloc, rows.as_slice())?;
-    let raised = raised_epoch(found)?;
+    let raised = raised_epoch(domain)?;
     Ok(source_steps(alloc, raised, rows)?)
 }
 
@@ -132,9 +132,9 @@ fn plan_source<S: Alter>(
     ensures only_reads { OnlyReadsForChangeOver S.Store conn.old conn.new result }
     ensures plans { PlansIn S.Store (within (source_set rows)) name.now conn.old conn.new result }
 {
-    let found = domain_to_change(conn, name)?;
-    let there = source_of(alloc, conn, found.number)?;
-    plan_source_over(alloc, found, &there, rows)
+    let domain = domain_to_change(conn, name)?;
+    let source_before = source_of(alloc, conn, domain.number)?;
+    plan_source_over(alloc, domain, &source_before, rows)
 }
 
 /// Puts these rows into the source of the domain of that name, in place of all that were there.

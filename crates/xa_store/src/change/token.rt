@@ -32,23 +32,23 @@ fn may_have_one_more_token(count: usize) -> bool
 fn plan_put_new<S: Alter>(
     alloc: Global,
     conn: &mut Connection<S>,
-    found: FoundDomain,
+    domain: FoundDomain,
     digest: Digest,
     role: Role,
 ) -> Result<Items<Step>, ChangeError>
     ensures only_reads { OnlyReadsForChangeOver S.Store conn.old conn.new result }
-    ensures plans { OverRows S.Store conn.old conn.new (λ rows. (name : List ℕ) → IsDomain name rows found
-        → FindsRole found.number digest rows None
+    ensures plans { OverRows S.Store conn.old conn.new (λ rows. (name : List ℕ) → IsDomain name rows domain
+        → FindsRole domain.number digest rows None
         → IsPlanned (within (token_put digest role)) name rows result) }
 {
     // For the proof: the digest has 32 bytes.
     has_all_bytes(&digest);
-    let count = token_count(conn, found.number)?;
+    let count = token_count(conn, domain.number)?;
     if !may_have_one_more_token(count) {
         return Err(ChangeError::Refused(Refusal::Quota));
     }
     let step = Step::AddToken {
-        number: found.number,
+        number: domain.number,
         digest,
         role,
     };
@@ -59,24 +59,24 @@ fn plan_put_new<S: Alter>(
 fn plan_put_in_domain<S: Alter>(
     alloc: Global,
     conn: &mut Connection<S>,
-    found: FoundDomain,
+    domain: FoundDomain,
     digest: Digest,
     role: Role,
 ) -> Result<Items<Step>, ChangeError>
     ensures only_reads { OnlyReadsForChangeOver S.Store conn.old conn.new result }
-    ensures plans { PlansFound S.Store (within (token_put digest role)) found conn.old conn.new result }
+    ensures plans { PlansFound S.Store (within (token_put digest role)) domain conn.old conn.new result }
 {
-    let there = role_of(alloc, conn, found.number, &digest)?;
-    match there {
+    let role_before = role_of(alloc, conn, domain.number, &digest)?;
+    match role_before {
         Some(_) => {
             let step = Step::SetRole {
-                number: found.number,
+                number: domain.number,
                 digest,
                 role,
             };
             Ok(one_step(alloc, step)?)
         }
-        None => plan_put_new(alloc, conn, found, digest, role),
+        None => plan_put_new(alloc, conn, domain, digest, role),
     }
 }
 
@@ -91,8 +91,8 @@ fn plan_put<S: Alter>(
     ensures only_reads { OnlyReadsForChangeOver S.Store conn.old conn.new result }
     ensures plans { PlansIn S.Store (within (token_put digest role)) name.now conn.old conn.new result }
 {
-    let found = domain_to_change(conn, name)?;
-    plan_put_in_domain(alloc, conn, found, digest, role)
+    let domain = domain_to_change(conn, name)?;
+    plan_put_in_domain(alloc, conn, domain, digest, role)
 }
 
 /// Puts a token into the domain of that name, or replaces the role of one that is there.
@@ -114,15 +114,15 @@ pub(crate) fn put<S: Alter>(
 fn plan_drop_token_in_domain<S: Alter>(
     alloc: Global,
     conn: &mut Connection<S>,
-    found: FoundDomain,
+    domain: FoundDomain,
     digest: Digest,
 ) -> Result<Items<Step>, ChangeError>
     ensures only_reads { OnlyReadsForChangeOver S.Store conn.old conn.new result }
-    ensures plans { PlansFound S.Store (within (token_dropped digest)) found conn.old conn.new result }
+    ensures plans { PlansFound S.Store (within (token_dropped digest)) domain conn.old conn.new result }
 {
-    role_to_change(alloc, conn, found.number, &digest)?;
+    role_to_change(alloc, conn, domain.number, &digest)?;
     let step = Step::DropToken {
-        number: found.number,
+        number: domain.number,
         digest,
     };
     Ok(one_step(alloc, step)?)
@@ -138,8 +138,8 @@ fn plan_drop_token<S: Alter>(
     ensures only_reads { OnlyReadsForChangeOver S.Store conn.old conn.new result }
     ensures plans { PlansIn S.Store (within (token_dropped digest)) name.now conn.old conn.new result }
 {
-    let found = domain_to_change(conn, name)?;
-    plan_drop_token_in_domain(alloc, conn, found, digest)
+    let domain = domain_to_change(conn, name)?;
+    plan_drop_token_in_domain(alloc, conn, domain, digest)
 }
 
 /// Drops a token of the domain of that name.

@@ -6,6 +6,6 @@ use Rattle.xa_store.proofs.change.domain.plan_remove_in_domain.Goals as goal
 
 pub returns : goal.returns
 returns c =
-    let low : SFits w64 c.args.found.number = search rules in
-    let steps = rw (to_z-of_z w64 c.args.found.number low) at c.in_ok-one_step.ensures in
-    record { plans = λ name rows are up is. subst (λ steps. Plans steps removed name rows) (sym steps) (plan_removed rows name c.args.found are up is) }
+    let low : SFits w64 c.args.domain.number = search rules in
+    let steps = rw (to_z-of_z w64 c.args.domain.number low) at c.in_ok-one_step.ensures in
+    record { plans = λ name rows are up is. subst (λ steps. Plans steps removed name rows) (sym steps) (plan_removed rows name c.args.domain are up is) }

@@ -3,9 +3,9 @@ use Rattle.xa_store.proofs.Common.{state, token_dropped, within, rows_of}
 use Rattle.xa_store.proofs.AbsentLemmas.{absent_plan}
 use Rattle.xa_store.proofs.change.token.plan_drop_token.Goals as goal
 
-pub returns-in_err-found-clause-plans : goal.returns-in_err-found-clause-plans
-returns-in_err-found-clause-plans g c = λ clean ours.
+pub returns-in_err-domain-clause-plans : goal.returns-in_err-domain-clause-plans
+returns-in_err-domain-clause-plans g c = λ clean ours.
     let rows = rows_of (state g.S.Store c.args.conn.now).now.trees in
-    let error = c.in_err-found.field-0.0 in
+    let error = c.in_err-domain.field-0.0 in
     let stopped : c.from_residual.result ≡ Err error = search rules in
-    rw stopped (absent_plan (within (token_dropped c.args.digest)) rows c.args.name.now refl error (c.in_err-found.ensures.absent clean ours))
+    rw stopped (absent_plan (within (token_dropped c.args.digest)) rows c.args.name.now refl error (c.in_err-domain.ensures.absent clean ours))
