@@ -5,6 +5,7 @@ ghost use Rattle.sqlite_typed.specs.Columns.{bytes_of, int_of};
 ghost use Rattle.xa_store.specs.keeping.Quiet.{OnlyReadsOver, ReadsRows};
 ghost use Rattle.xa_store.specs.Rows.{value_in};
 ghost use Rattle.xa_store.specs.keeping.Columns.{source_told};
+ghost use Rattle.xa_store.specs.keeping.ShownColumns.{source_value, source_value_type};
 ghost use Rattle.xa_store.specs.World.{state_at};
 
 use crate::query::cell::{text_if_any, text_in, type_in};
@@ -27,7 +28,7 @@ impl FromRow for SourceRow {
         let category = text_in(row, source_row::CATEGORY)?;
         let entity = text_in(row, source_row::ENTITY)?;
         let attribute_id = text_in(row, source_row::ATTRIBUTE)?;
-        let value = value_in(alloc, row, source_row::VALUE_TYPE, source_row::VALUE)?;
+        let value = value_in(alloc, row)?;
         let issuer = text_if_any(row, source_row::ISSUER)?;
         Ok(SourceRow {
             category,
@@ -39,14 +40,14 @@ impl FromRow for SourceRow {
     }
 }
 
-/// The value that two columns hold: its data type, and its text.
+/// The value that two columns of the row hold: its data type, and its text.
 #[tactic(auto, unfolding(crate::specs::Rows::value_in))]
-fn value_in(alloc: Global, row: &Row, at: usize, text_at: usize) -> Result<Value, Failure>
-    ensures { IfOk result (λ value.
-        value ≡ value_in (int_of (column row.now at)) (bytes_of (column row.now text_at))) }
+fn value_in(alloc: Global, row: &Row) -> Result<Value, Failure>
+    ensures { IfOk result (λ value. value
+        ≡ value_in (int_of (column row.now source_value_type)) (bytes_of (column row.now source_value))) }
 {
-    let data_type = type_in(row, at)?;
-    let text = text_in(row, text_at)?;
+    let data_type = type_in(row, source_row::VALUE_TYPE)?;
+    let text = text_in(row, source_row::VALUE)?;
     Ok(Value::read(alloc, data_type, text.as_str())?)
 }
 
