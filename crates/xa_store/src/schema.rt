@@ -4,6 +4,8 @@
 pub(crate) mod checked_table;
 pub(crate) mod columns;
 pub(crate) mod creation;
+pub(crate) mod indexes;
 pub(crate) mod migration;
 pub(crate) mod shape;
+pub(crate) mod trees;
 pub(crate) mod version;

@@ -1,21 +1,21 @@
-//! The tables and indexes that a keeper's store has, with no others beside them. The trees of tables and of
-//! their automatic indexes are numbered from 0 as they are made: a table's index comes after it. For the
-//! proof: a group that is used once, as `are_meta_domains_and_tokens`, is a function, since the prover takes
-//! a conjunction of so many parts only in groups.
-ghost use Rattle.std.specs.Prelude.{◌≡◌, ◌↔◌, false, [], ◌∷◌, None, Some, IsTrue, codes};
+//! The tables that a keeper's store has, and the indexes, with no others beside them. For the proof: a group
+//! that is used once, as `are_meta_domains_and_tokens`, is a function, since the prover takes a conjunction
+//! of so many parts only in groups.
+ghost use Rattle.std.specs.Prelude.{◌≡◌, ◌↔◌, false, [], ◌∷◌, None, Some, IsTrue};
 ghost use Rattle.xa_store.specs.Opened.{schema_of};
 ghost use Rattle.xa_store.specs.Opening.{has_room, is_free, schema_version_in};
-ghost use Rattle.xa_store.specs.Tables.{attributes, domains, index_of, indexes_of_schema_1};
-ghost use Rattle.xa_store.specs.Tables.{indexes_of_schema_2, meta, of_domain, policies, rising};
+ghost use Rattle.xa_store.specs.Tables.{attributes, domains, meta, of_domain, policies, rising};
 ghost use Rattle.xa_store.specs.Tables.{roots, schema_1, schema_2, sources, tokens};
 
 use crate::schema::columns::{
     are_attribute_columns, are_domain_columns, are_meta_columns, are_policy_columns,
     are_root_columns, are_source_columns, are_token_columns, is_named,
 };
+use crate::schema::indexes::{are_indexes_of_schema_1, are_indexes_of_schema_2};
+use crate::schema::trees;
 use crate::schema::version::SchemaVersion;
 use sqlite_items::Items;
-use sqlite_schema::schema::{Action, Index, Reference, Schema, Stamps, Table};
+use sqlite_schema::schema::{Action, Reference, Schema, Stamps, Table};
 use sqlite_value::keys::Order;
 use sqlite_value::value::Bytes;
 
@@ -163,7 +163,7 @@ fn has_domain_key(table: &Table, places: &[usize]) -> bool
 fn is_meta(table: &Table) -> bool
     ensures { IsTrue result ↔ (table.now ≡ meta) }
 {
-    is_plain(table, "meta", 0)
+    is_plain(table, "meta", trees::META)
         && are_meta_columns(table.columns.as_slice())
         && has_own_key(table)
         && has_no_unique(table)
@@ -174,7 +174,7 @@ fn is_meta(table: &Table) -> bool
 fn is_domains(table: &Table) -> bool
     ensures { IsTrue result ↔ (table.now ≡ domains) }
 {
-    is_plain(table, "domains", 1)
+    is_plain(table, "domains", trees::DOMAINS)
         && are_domain_columns(table.columns.as_slice())
         && has_own_key(table)
         && has_unique(table, &[2])
@@ -185,7 +185,7 @@ fn is_domains(table: &Table) -> bool
 fn is_tokens(table: &Table) -> bool
     ensures { IsTrue result ↔ (table.now ≡ tokens) }
 {
-    is_plain(table, "tokens", 3)
+    is_plain(table, "tokens", trees::TOKENS)
         && are_token_columns(table.columns.as_slice())
         && has_domain_key(table, &[1, 2])
 }
@@ -194,7 +194,7 @@ fn is_tokens(table: &Table) -> bool
 fn is_policies(table: &Table) -> bool
     ensures { IsTrue result ↔ (table.now ≡ policies) }
 {
-    is_plain(table, "policies", 5)
+    is_plain(table, "policies", trees::POLICIES)
         && are_policy_columns(table.columns.as_slice())
         && has_domain_key(table, &[1, 2, 3, 4])
 }
@@ -203,7 +203,7 @@ fn is_policies(table: &Table) -> bool
 fn is_roots(table: &Table) -> bool
     ensures { IsTrue result ↔ (table.now ≡ roots) }
 {
-    is_plain(table, "roots", 7)
+    is_plain(table, "roots", trees::ROOTS)
         && are_root_columns(table.columns.as_slice())
         && has_own_key(table)
         && has_no_unique(table)
@@ -214,7 +214,7 @@ fn is_roots(table: &Table) -> bool
 fn is_attributes(table: &Table) -> bool
     ensures { IsTrue result ↔ (table.now ≡ attributes) }
 {
-    is_plain(table, "attributes", 8)
+    is_plain(table, "attributes", trees::ATTRIBUTES)
         && are_attribute_columns(table.columns.as_slice())
         && has_domain_key(table, &[1, 2])
 }
@@ -223,7 +223,7 @@ fn is_attributes(table: &Table) -> bool
 fn is_sources(table: &Table) -> bool
     ensures { IsTrue result ↔ (table.now ≡ sources) }
 {
-    is_plain(table, "sources", 10)
+    is_plain(table, "sources", trees::SOURCES)
         && are_source_columns(table.columns.as_slice())
         && has_domain_key(table, &[1, 2])
 }
@@ -264,64 +264,6 @@ fn are_tables_of_schema_2(all: &[Table]) -> bool
             are_meta_domains_and_tokens(meta, domains, tokens)
                 && are_policies_roots_and_attributes(policies, roots, attributes)
                 && is_sources(sources)
-        }
-        _ => false,
-    }
-}
-
-/// Whether the index is the automatic one of that name, over these columns of the table.
-fn is_index(index: &Index, name: &str, tree: u32, table: u32, columns: &[usize]) -> bool
-    ensures { IsTrue result ↔ (index.now ≡ index_of name.now tree table columns.now) }
-{
-    is_named(&index.name, name)
-        && index.tree == tree
-        && index.table == table
-        && index.columns.as_slice() == columns
-        && index.order == Order::PLAIN
-        && index.is_unique
-}
-
-/// Whether they are the indexes of the domains' names and of the tokens' digests.
-fn are_name_and_digest_indexes(names: &Index, digests: &Index) -> bool
-    ensures { IsTrue result
-        ↔ ((names.now ≡ index_of (codes "sqlite_autoindex_domains_1") 2 1 (2 ∷ []))
-        × (digests.now ≡ index_of (codes "sqlite_autoindex_tokens_1") 4 3 (1 ∷ 2 ∷ []))) }
-{
-    is_index(names, "sqlite_autoindex_domains_1", 2, 1, &[2])
-        && is_index(digests, "sqlite_autoindex_tokens_1", 4, 3, &[1, 2])
-}
-
-/// Whether they are the indexes of the documents' keys and of the places in sources of schema 1.
-fn are_key_and_place_indexes(keys: &Index, places: &Index) -> bool
-    ensures { IsTrue result
-        ↔ ((keys.now ≡ index_of (codes "sqlite_autoindex_policies_1") 6 5 (1 ∷ 2 ∷ 3 ∷ 4 ∷ []))
-        × (places.now ≡ index_of (codes "sqlite_autoindex_attributes_1") 9 8 (1 ∷ 2 ∷ []))) }
-{
-    is_index(keys, "sqlite_autoindex_policies_1", 6, 5, &[1, 2, 3, 4])
-        && is_index(places, "sqlite_autoindex_attributes_1", 9, 8, &[1, 2])
-}
-
-/// Whether they are the indexes of schema 1, and no others.
-fn are_indexes_of_schema_1(all: &[Index]) -> bool
-    ensures { IsTrue result ↔ (all.now ≡ indexes_of_schema_1) }
-{
-    match all {
-        [names, digests, keys, places] => {
-            are_name_and_digest_indexes(names, digests) && are_key_and_place_indexes(keys, places)
-        }
-        _ => false,
-    }
-}
-
-/// Whether they are the indexes of schema 2, and no others.
-fn are_indexes_of_schema_2(all: &[Index]) -> bool
-    ensures { IsTrue result ↔ (all.now ≡ indexes_of_schema_2) }
-{
-    match all {
-        [names, digests, keys, places, sources] => {
-            are_name_and_digest_indexes(names, digests)
-                && are_key_and_place_indexes(keys, places)
-                && is_index(sources, "sqlite_autoindex_sources_1", 11, 10, &[1, 2])
         }
         _ => false,
     }
