@@ -3,7 +3,7 @@ ghost use Rattle.std.specs.Prelude.{◌≡◌, IfOk};
 ghost use Rattle.xa_store.specs.keeping.Columns.{document_told, key_told, listed_told, text_told};
 
 use crate::query::cell::{bytes_in, flag_in, kind_in, text_in, version_in};
-use crate::query::columns::{active_text, found_document, document_key, listed};
+use crate::query::columns::{active_text, document_key, found_document, listed};
 use crate::query::row::FromRow;
 use sqlite::Row;
 use std::alloc::Global;
