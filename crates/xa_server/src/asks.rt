@@ -34,7 +34,7 @@ use crate::error_code::{ABSENT, ErrorCode};
 use crate::limits::Limits;
 use crate::ready::{Ready, bytes_of_tree, bytes_of_view};
 use crate::replies::decision_reply;
-use crate::resources::{Resources, Texts};
+use crate::resources::{PolicyTexts, Resources};
 use crate::revision::Revision;
 use crate::unsuccessful::Unsuccessful;
 use crate::view::view_of_kept;
@@ -125,7 +125,7 @@ fn new_view<R: Records>(
 /// more is remembered.
 fn new_view_within_limit<R: Records>(
     alloc: Global,
-    texts: &mut Texts,
+    texts: &mut PolicyTexts,
     limits: Limits,
     records: &mut R,
     ask: &Ask<'_>,

@@ -49,7 +49,7 @@ fn by_operator_command<R: Records>(
     }
 }
 
-/// Does what is asked for in a domain.
+/// Does what a message that administers a domain asks for, of its documents, its root or its source rows.
 fn by_domain_command<R: Records>(
     alloc: Global,
     records: &mut R,
@@ -69,7 +69,7 @@ fn by_domain_command<R: Records>(
     }
 }
 
-/// Does what is asked for of a document.
+/// Does what a message to the path of a document asks for of it.
 fn by_document_command<R: Records>(
     alloc: Global,
     records: &mut R,
@@ -89,7 +89,7 @@ fn by_document_command<R: Records>(
 }
 
 /// The reply to a message to one of the operator's paths of a domain. Once it is let in and names a domain,
-/// that domain's gate is forgotten, since it may change.
+/// that domain's gate is forgotten: the change may make it wrong.
 #[tactic(auto, using(crate::proofs::GateLemmas::changed_stands))]
 fn reply_on_operator_route<R: Records>(
     alloc: Global,
@@ -134,8 +134,9 @@ fn reply_on_decision_route<R: Records>(
     reply_to_ask(alloc, resources, records, &ask, received.body())
 }
 
-/// The reply to a message that asks for something else in a domain. Once it is let in the domain's gate is
-/// forgotten, since it may change.
+/// The reply to a message that administers a domain: its documents, its root or its source rows. Once it is
+/// let in the domain's gate is forgotten: a change may make it wrong, and a reading isn't told apart from
+/// one.
 #[tactic(auto, using(crate::proofs::GateLemmas::changed_stands))]
 fn reply_on_domain_route<R: Records>(
     alloc: Global,
@@ -156,7 +157,7 @@ fn reply_on_domain_route<R: Records>(
 }
 
 /// The reply to a message to the path of a document. Once it is let in and names a key, the domain's gate
-/// is forgotten, since it may change.
+/// is forgotten: a change may make it wrong, and a reading isn't told apart from one.
 #[tactic(auto, using(crate::proofs::GateLemmas::changed_stands))]
 fn reply_on_document_route<R: Records>(
     alloc: Global,

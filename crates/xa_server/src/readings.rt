@@ -1,4 +1,4 @@
-//! What messages read of a domain. Nothing changes.
+//! What messages read of a domain. Nothing that is kept changes.
 ghost use Rattle.std.specs.Prelude.{◌≡◌, Ok};
 ghost use Rattle.xa_http.specs.declared.command.DocumentCommand.TheVariants as document;
 ghost use Rattle.xa_decide.specs.Rows.{rows_body};

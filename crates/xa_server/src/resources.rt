@@ -17,9 +17,9 @@ use xa_records::{Digest, Gate};
 use xa_shelf::Shelf;
 use xa_value::Text;
 
-/// The texts of policies, as far as a server remembers them.
+/// The policies that were read, and the domains that have too many to read.
 #[derive(Drop)]
-pub(crate) struct Texts {
+pub(crate) struct PolicyTexts {
     /// The policies that were read.
     pub(crate) shelf: Shelf,
     /// The domains whose policies have more bytes than may be read for a message.
@@ -30,7 +30,7 @@ pub(crate) struct Texts {
 #[derive(Drop)]
 pub(crate) struct Resources {
     /// The texts of policies.
-    pub(crate) texts: Texts,
+    pub(crate) texts: PolicyTexts,
     /// The cached views.
     pub(crate) views: Views,
     /// The cached decisions.
@@ -62,7 +62,7 @@ impl Resources {
         ensures { IfOk result (λ r. r ≡ empty_resources) }
     {
         Ok(Resources {
-            texts: Texts {
+            texts: PolicyTexts {
                 shelf: Shelf::new(alloc)?,
                 oversized: Oversized::new(alloc)?,
             },

@@ -160,7 +160,8 @@ fn message_turn<F: Multiplexer, W: Writer, C: Clock>(
     turn_at(front, conn, moment, writer)
 }
 
-/// Answers the fault by which the stream of a connection ends, and sends the reply. No moment is in it.
+/// Answers the fault by which the stream of a connection ends, and sends the reply. The reply to a fault is
+/// the same at every moment; 0 is as good as any.
 fn fault_turn<F: Multiplexer, W: Writer>(front: &mut F, conn: Conn, writer: &mut W) -> Turn
     ensures answered { let seen = seen_by_front_and_writer F.Multiplexer W.Writer in
         F.is_sound front.new

@@ -13,7 +13,7 @@ use std::cmp;
 use std::marker::Model;
 use xa_decide::View;
 
-/// The most cached views: when one more is cached, each of them is looked at.
+/// The most cached views. It bounds what caching one costs, since each is looked at.
 const MAX_VIEWS: usize = 128;
 
 /// The most bytes that they take together, by their estimates, unless another limit is set: 256 MiB.

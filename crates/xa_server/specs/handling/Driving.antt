@@ -64,7 +64,7 @@ PlaysOne event old new memory_old memory_new (Ok outcome) =
     DoesEvent event old outcome new × Grows memory_old memory_new (outcome_found_memory outcome ∷ [])
 PlaysOne event old new memory_old memory_new (Err _) = (new ≡ old) × Grows memory_old memory_new (false ∷ [])
 
--- the next of an open connection was answered, or there was no memory
+-- the next of an open connection was answered, or there was no memory; of a connection that isn't open nothing is said
 abbrev pub AnswersOne : Conn → ℤ → FrontState → FrontState → Option (List Bool) → Option (List Bool)
     → Result (Option Answer) FrontError → Type 0
 AnswersOne conn moment old new memory_old memory_new (Ok answer) =
@@ -72,7 +72,8 @@ AnswersOne conn moment old new memory_old memory_new (Ok answer) =
 AnswersOne conn moment old new memory_old memory_new (Err _) =
     ((new ≡ old) × Grows memory_old memory_new (false ∷ [])) ⊎ (line_at conn old.lines ≡ None)
 
--- a piece came to an open connection, or there was no memory
+-- a piece came to an open connection, or there was no memory; of a connection that isn't open, or would hold too many
+-- bytes, nothing is said
 abbrev pub FeedsOne : Conn → List ℕ → FrontState → FrontState → Option (List Bool) → Option (List Bool)
     → Result (Unit {0}) FrontError → Type 0
 FeedsOne conn piece old new memory_old memory_new (Ok _) =
@@ -111,8 +112,8 @@ IsSentAs turn (Some answer) contents_old contents_new writes_old writes_new said
 IsSentAs turn None contents_old contents_new writes_old writes_new said_old said_new =
     (turn ≡ Waits) × (contents_new ≡ contents_old) × (writes_new ≡ writes_old) × (said_new ≡ said_old)
 
--- the next of a connection was answered at that moment, and the reply was written; or there was no memory. Of the reads
--- and the clock it says nothing
+-- the next of a connection was answered at that moment, and the reply was written; or there was no memory. Nothing is
+-- said of the reads and the clock, nor of a connection that isn't open
 abbrev pub IsAnsweredAt : Turn → Conn → ℤ → FrontState → FrontState → Known → Known → Type 0
 IsAnsweredAt turn conn moment old new known_old known_new =
     ((answer : Option Answer) × (given : Next) × IsAnswered conn moment old (Some given) (Ok answer) new
