@@ -17,7 +17,7 @@ use Rattle.xa_server.specs.handling.Asking.{view_told}
 use Rattle.xa_server.specs.Resources.{AreReady, IsReady}
 use Rattle.xa_server.specs.Standing.{StandsUnder}
 use Rattle.xa_server.specs.View.{view_of}
-use Rattle.xa_server.specs.Views.{ViewsModel, added, bytes_of_tree, bytes_of_view, fitting_count, in_front, touched, view_ready, with_view, without}
+use Rattle.xa_server.specs.Views.{ViewsModel, added, bytes_of_tree, bytes_of_view, fitting_count, in_front, promoted, view_ready, with_view, without}
 use Rattle.xa_server.proofs.GrowthLemmas.{HasGrown}
 use Rattle.xa_server.proofs.StandingLemmas.{all_implied, made_stands, stands_on}
 use Rattle.xa_server.proofs.WorkLemmas.{domain_of_revision}
@@ -84,8 +84,8 @@ made_ready kept name revision ready numbered opens told is = by_gate (domain_of_
 
 -- ---- what is kept after a use, and after a view was kept
 
-pub ready_touched : (kept : Kept) (number : ℕ) (cached : ViewsModel) → AreReady kept cached.views → AreReady kept (touched number cached).views
-ready_touched kept number cached ready = all_promoted (IsReady kept) (nat_eq number) cached.views ready
+pub ready_promoted : (kept : Kept) (number : ℕ) (cached : ViewsModel) → AreReady kept cached.views → AreReady kept (promoted number cached).views
+ready_promoted kept number cached ready = all_promoted (IsReady kept) (nat_eq number) cached.views ready
 
 pub ready_without : (kept : Kept) (number : ℕ) (cached : ViewsModel) → AreReady kept cached.views → AreReady kept (without number cached).views
 ready_without kept number cached ready = all_removed (IsReady kept) (nat_eq number) cached.views ready

@@ -9,9 +9,9 @@ use Rattle.xa_server.specs.declared.unsuccessful.Unsuccessful.{Unsuccessful}
 use Rattle.xa_server.specs.Gates.{revision_of}
 use Rattle.xa_server.specs.handling.Asking.{IsFresh, IsLookedUp, evaluated_in, view_told}
 use Rattle.xa_server.specs.Resources.{AllStand, AreGates, AreReady, ResourcesModel}
-use Rattle.xa_server.specs.Views.{touched, with_view, without}
+use Rattle.xa_server.specs.Views.{promoted, with_view, without}
 use Rattle.xa_server.specs.Work.{key_of_revision}
-use Rattle.xa_server.proofs.ReadyLemmas.{made_ready, ready_touched, ready_with, ready_without}
+use Rattle.xa_server.proofs.ReadyLemmas.{made_ready, ready_promoted, ready_with, ready_without}
 use Rattle.xa_server.proofs.ValidLemmas.{fresh_valid, looked_valid}
 
 -- after a look-up of a decision
@@ -31,11 +31,11 @@ module _ (kept : Kept) (name body : List ℕ) (moment : ℤ) (revision : Revisio
       → new.views ≡ old.views → new.gates ≡ old.gates → AllStand kept old → AllStand kept new
   left_stands result old new work views gates stand = fresh_stands result old new work (subst (λ r. AreReady kept r.views) (sym views) stand.views) gates stand
 
-  -- one of them was used
-  pub touched_stands : (result : Result (List ℕ) Unsuccessful) (old new : ResourcesModel) → IsFresh (key_of_revision revision body) (evaluated_in (state_of name kept) body moment) result old.decisions new.decisions
-      → new.views ≡ touched revision.number old.views → new.gates ≡ old.gates → AllStand kept old → AllStand kept new
-  touched_stands result old new work views gates stand =
-      fresh_stands result old new work (subst (λ r. AreReady kept r.views) (sym views) (ready_touched kept revision.number old.views stand.views)) gates stand
+  -- one of them was made the most recently used
+  pub promoted_stands : (result : Result (List ℕ) Unsuccessful) (old new : ResourcesModel) → IsFresh (key_of_revision revision body) (evaluated_in (state_of name kept) body moment) result old.decisions new.decisions
+      → new.views ≡ promoted revision.number old.views → new.gates ≡ old.gates → AllStand kept old → AllStand kept new
+  promoted_stands result old new work views gates stand =
+      fresh_stands result old new work (subst (λ r. AreReady kept r.views) (sym views) (ready_promoted kept revision.number old.views stand.views)) gates stand
 
   -- one was made, and kept or not
   pub kept_stands : (result : Result (List ℕ) Unsuccessful) (ready : Ready) (is_kept : Bool) (old new : ResourcesModel)

@@ -1,9 +1,9 @@
--- Gates that are remembered, each under its domain's name, the one that was used last first: words that only private
+-- Gates that are remembered, each under its domain's name, the most recently used first: words that only private
 -- functions and the server's invariant cite.
 use Rattle.std.specs.Prelude.{ℕ, List, [], ◌∷◌, Option, Some, None, option_and_then, option_map, bytes_eq}
 use Rattle.std.specs.Prelude.{if◌then◌else◌}
 use Rattle.std.specs.Map.{lookup, remove_entry}
-use Rattle.lru.specs.LruCache.{lru_cache, promoted, put_entries}
+use Rattle.lru.specs.LruCache.{lru_cache, promoted as entries_promoted, put_entries}
 use Rattle.xa_notation.specs.declared.token.Role.{Role}
 use Rattle.xa_records.specs.declared.gate.Gate.{Gate}
 use Rattle.xa_records.specs.declared.gate.Token.{Token}
@@ -32,11 +32,11 @@ revision_with digest gate = option_map (λ _. revision_by gate) (role_in digest 
 abbrev pub revision_in : List ℕ → List ℕ → List (List ℕ × Gate) → Option Revision
 revision_in name digest gates = option_and_then (revision_with digest) (lookup (bytes_eq name) gates)
 
--- the gates after a use of the one under a name
-abbrev pub used : List ℕ → List (List ℕ × Gate) → List (List ℕ × Gate)
-used name gates = promoted (bytes_eq name) gates
+-- the gates after the one under a name was made the most recently used
+abbrev pub promoted : List ℕ → List (List ℕ × Gate) → List (List ℕ × Gate)
+promoted name gates = entries_promoted (bytes_eq name) gates
 
--- the gates with one more under a name; of 512 others the one that was not used for longest goes
+-- the gates with one more under a name; of 512 others the least recently used is evicted
 abbrev pub with_gate : List ℕ → Gate → List (List ℕ × Gate) → List (List ℕ × Gate)
 with_gate name gate gates = put_entries bytes_eq (lru_cache gates 512) name gate
 

@@ -7,7 +7,7 @@ use Rattle.xa_records.specs.Kept.{Kept}
 use Rattle.xa_records.specs.Readings.{gate_of}
 use Rattle.xa_server.specs.declared.ready.Ready.{Ready}
 use Rattle.xa_server.specs.Decisions.{DecisionsModel, nothing_cached}
-use Rattle.xa_server.specs.Gates.{used, with_gate, without_gate}
+use Rattle.xa_server.specs.Gates.{promoted, with_gate, without_gate}
 use Rattle.xa_server.specs.Standing.{StandsUnder}
 use Rattle.xa_server.specs.ValidCache.{AreValid}
 use Rattle.xa_server.specs.View.{view_of}
@@ -50,9 +50,9 @@ pub record AllStand (kept : Kept) (resources : ResourcesModel) : Type 0 where
   pub views : AreReady kept resources.views.views
   pub gates : AreGates kept resources.gates
 
--- what is cached after a use of the gate under a name
+-- what is cached after the gate under a name was made the most recently used
 abbrev pub using_gate : List ℕ → ResourcesModel → ResourcesModel
-using_gate name resources = record resources { gates = used name resources.gates }
+using_gate name resources = record resources { gates = promoted name resources.gates }
 
 -- what is cached with one more gate under a name
 abbrev pub remembering : List ℕ → Gate → ResourcesModel → ResourcesModel

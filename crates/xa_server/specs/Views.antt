@@ -1,9 +1,9 @@
--- Cached views, each under its domain's number, the one that was used last first: words that only private functions and
--- the server's invariant cite.
+-- Cached views, each under its domain's number, the most recently used first: words that only private functions and the
+-- server's invariant cite.
 use Rattle.std.specs.Prelude.{◌+◌, ◌*◌, ◌-◌, ◌&&◌, ℕ, List, [], ◌∷◌, Option, Some, None, min, nat_eq, nat_le, nat_lt}
 use Rattle.std.specs.Prelude.{option_and_then, take, ◌^◌, if◌then◌else◌}
 use Rattle.std.specs.Map.{lookup, remove_entry}
-use Rattle.lru.specs.LruCache.{promoted}
+use Rattle.lru.specs.LruCache.{promoted as entries_promoted}
 use Rattle.xa_decide.specs.Decision.{Viewed}
 use Rattle.xa_decide.specs.Nodes.{nodes_of_tree}
 use Rattle.xa_server.specs.declared.ready.Ready.{Ready}
@@ -22,9 +22,9 @@ view_if epoch ready = if nat_eq ready.revision.epoch epoch then Some ready.view 
 abbrev pub view_ready : ℕ → ℕ → List (ℕ × Ready) → Option Viewed
 view_ready number epoch views = option_and_then (view_if epoch) (lookup (nat_eq number) views)
 
--- the cached views after a use of the one under a number
-abbrev pub touched : ℕ → ViewsModel → ViewsModel
-touched number cached = record cached { views = promoted (nat_eq number) cached.views }
+-- the cached views after the one under a number was made the most recently used
+abbrev pub promoted : ℕ → ViewsModel → ViewsModel
+promoted number cached = record cached { views = entries_promoted (nat_eq number) cached.views }
 
 -- the cached views without the one under a number
 abbrev pub without : ℕ → ViewsModel → ViewsModel

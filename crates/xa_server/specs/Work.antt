@@ -78,7 +78,7 @@ evaluated_response state body moment = response_of (view_of state) body moment
 abbrev pub cached_body : Key → List ℕ → DecisionsModel → Option (List ℕ)
 cached_body key body decisions = if nat_le (length body) 16_384 then found key decisions.cached else None
 
--- the cached decisions after a look-up: it is the newest use of that decision
+-- the cached decisions after a look-up: that decision is now the most recently used
 abbrev pub looked_up : Key → DecisionsModel → DecisionsModel
 looked_up key decisions = record decisions { cached = looked key decisions.cached }
 

@@ -69,8 +69,8 @@ impl Decisions {
         self.unkept
     }
 
-    /// The reply by the decision that is cached under the key, which is its newest use then. A body of
-    /// more bytes than `most` is `AllocError`, as when it is evaluated.
+    /// The reply by the decision that is cached under the key, which is now the most recently used. A body
+    /// of more bytes than `most` is `AllocError`, as when it is evaluated.
     pub(crate) fn cached_reply(
         &mut self,
         alloc: Global,

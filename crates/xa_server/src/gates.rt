@@ -2,7 +2,7 @@
 //! in: the domain's tokens, with its number and epoch.
 ghost use Rattle.std.specs.Prelude.{◌≡◌, ◌⊎◌, [], IfOk, None, bytes_eq};
 ghost use Rattle.std.specs.Map.{lookup};
-ghost use Rattle.xa_server.specs.Gates.{revision_in, role_in, used, with_gate, without_gate};
+ghost use Rattle.xa_server.specs.Gates.{promoted, revision_in, role_in, with_gate, without_gate};
 
 use crate::revision::Revision;
 use lru::LruCache;
@@ -19,7 +19,7 @@ const MAX_GATES: usize = 512;
 /// Gates that are remembered, each under its domain's name.
 #[derive(Drop)]
 pub(crate) struct Gates {
-    /// The gates, the one that was used last first.
+    /// The gates, the most recently used first.
     gates: LruCache<Text, Gate>,
 }
 
@@ -59,15 +59,15 @@ impl Gates {
         Some(Revision::of(gate))
     }
 
-    /// Makes the gate under that name the one that was used last: one look-up.
+    /// Makes the gate under that name the most recently used: one look-up.
     pub(crate) fn touch(&mut self, name: &Text)
-        ensures { self.new ≡ used name.now self.old }
+        ensures { self.new ≡ promoted name.now self.old }
     {
         self.gates.promote(name);
     }
 
-    /// Remembers the gate under a copy of that name, as the one that was used last, if there is memory.
-    /// The 513th goes.
+    /// Remembers the gate under a copy of that name, as the most recently used, if there is memory. Of 513
+    /// the least recently used is evicted.
     pub(crate) fn remember(&mut self, name: &Text, gate: Gate)
         ensures { (self.new ≡ with_gate name.now gate self.old) ⊎ (self.new ≡ self.old) }
     {

@@ -35,8 +35,8 @@ pub(crate) struct Resources {
     pub(crate) views: Views,
     /// The cached decisions.
     pub(crate) decisions: Decisions,
-    /// The gates that are remembered. Only the methods below reach them: a look-up that finds the token is
-    /// the gate's newest use, too.
+    /// The gates that are remembered. Only the methods below reach them: a look-up that finds the token
+    /// also makes the gate the most recently used.
     gates: Gates,
     /// What the decision on a message may cost.
     pub(crate) limits: Limits,
@@ -91,7 +91,7 @@ impl Resources {
     }
 
     /// The revision of the domain of that name, if its gate is remembered and one of its tokens has that
-    /// digest. Then this is the gate's newest use, else it is no use.
+    /// digest. If so, the gate is now the most recently used.
     pub(crate) fn revision_by_gate(&mut self, name: &Text, digest: &Digest) -> Option<Revision>
         ensures revision { result ≡ revision_in name.now digest.now self.old.gates }
         ensures uses { IsSome result → self.new ≡ using_gate name.now self.old }

@@ -2,7 +2,7 @@
 ghost use Rattle.std.specs.Prelude.{◌≡◌, ◌≤◌, ◌-◌, ◌^◌, true, false, [], take};
 ghost use Rattle.std.specs.Prelude.{min, nat_eq, nat_le, option_map, IfOk};
 ghost use Rattle.std.specs.Map.{remove_entry};
-ghost use Rattle.xa_server.specs.Views.{fitting_count, in_front, shortened, touched};
+ghost use Rattle.xa_server.specs.Views.{fitting_count, in_front, promoted, shortened};
 ghost use Rattle.xa_server.specs.Views.{view_ready, with_view, without};
 
 use crate::ready::Ready;
@@ -23,7 +23,7 @@ const DEFAULT_TOTAL_BYTES: usize = 268_435_456;
 /// said here.
 #[derive(Drop)]
 pub(crate) struct Views {
-    /// The views, the one that was used last first.
+    /// The views, the most recently used first.
     views: LruCache<u64, Ready>,
     /// How many of them there may be.
     max_count: usize,
@@ -95,18 +95,17 @@ impl Views {
         }
     }
 
-    /// Makes the view under that number the one that was used last: one look-up.
+    /// Makes the view under that number the most recently used: one look-up.
     pub(crate) fn touch(&mut self, number: u64)
-        ensures { self.new ≡ touched number self.old }
+        ensures { self.new ≡ promoted number self.old }
     {
         self.views.promote(&number);
     }
 
-    /// Caches the view under its domain's number, in the place of any that was there, as the one that was
-    /// used last; not if it is too large, nor if there is no memory for it. The one that was not used for
-    /// longest goes, until there is room for all. What this costs grows with the cached views, each of which
-    /// is looked at once, and with those that go. The answer, whether it was cached, is for the contract
-    /// alone.
+    /// Caches the view under its domain's number, in the place of any that was there, as the most recently
+    /// used; not if it is too large, nor if there is no memory for it. The least recently used is evicted,
+    /// until there is room for all. What this costs grows with the cached views, each of which is looked at
+    /// once, and with those that are evicted. For the proof: whether it was cached is returned.
     pub(crate) fn keep(&mut self, ready: Ready) -> bool
         ensures kept { result ≡ true → self.new ≡ with_view ready.revision.number ready self.old }
         ensures left { result ≡ false → self.new ≡ without ready.revision.number self.old }
@@ -142,7 +141,7 @@ fn put(views: &mut LruCache<u64, Ready>, number: u64, ready: Ready) -> bool
     }
 }
 
-/// How many of the views that were used last find room.
+/// How many of the most recently used views find room.
 fn fitting_count(views: &LruCache<u64, Ready>, most: usize, bytes: usize) -> usize
     ensures { result ≡ fitting_count most bytes views.now.entries }
 {
@@ -158,7 +157,7 @@ fn fitting_count(views: &LruCache<u64, Ready>, most: usize, bytes: usize) -> usi
     count
 }
 
-/// Lets the views go that find no room.
+/// Evicts the least recently used views, which find no room.
 fn shorten(views: &mut LruCache<u64, Ready>, most: usize, bytes: usize)
     ensures cap { views.new.cap ≡ views.old.cap }
     ensures entries { views.new.entries ≡ shortened most bytes views.old.entries }

@@ -8,7 +8,7 @@ use Rattle.xa_server.specs.handling.Viewing.{nothing_viewed}
 use Rattle.xa_server.specs.Work.{key_of_revision}
 use Rattle.xa_server.proofs.AskLemmas.{keeper_left, replied, unasked_reply, unasked_works, views_left, works_by}
 use Rattle.xa_server.proofs.ReadyLemmas.{ready_found}
-use Rattle.xa_server.proofs.ResourcesLemmas.{left_stands, touched_stands}
+use Rattle.xa_server.proofs.ResourcesLemmas.{left_stands, promoted_stands}
 use Rattle.xa_server.proofs.asks.reply_to_read.Goals as goal
 
 pub returns-in_err-reply : goal.returns-in_err-reply
@@ -58,7 +58,7 @@ returns-in-Some g c =
           let old = subst (AllStand kept) (sym c.resources.view_is) stand in
           let told = ready_found kept c.args.read.ask.now.name.now c.args.read.ask.now.revision c.resources.inside.views.views c.in-Some.view.now opens old.views (sym c.in-Some.ensures) in
           let work = works_by state c.in-Some.view.now c.args.read.body c.args.read.ask.now.moment (key_of_revision c.args.read.ask.now.revision c.args.read.body) c.reply_by_view.result _ _ told c.reply_by_view.ensures.works in
-          touched_stands kept c.args.read.ask.now.name.now c.args.read.body c.args.read.ask.now.moment c.args.read.ask.now.revision (g.met.R.Records.numbered c.args.records.now sound) opens c.reply_by_view.result
+          promoted_stands kept c.args.read.ask.now.name.now c.args.read.body c.args.read.ask.now.moment c.args.read.ask.now.revision (g.met.R.Records.numbered c.args.records.now sound) opens c.reply_by_view.result
           (record { decisions = c.resources.inside.decisions; views = c.resources.inside.views; gates = c.resources.inside.gates }) (record { decisions = c.reply_by_view.new.decisions; views = c.touch.new.self; gates = c.resources.inside.gates })
           work
           c.touch.ensures refl old;
