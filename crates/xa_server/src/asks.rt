@@ -84,7 +84,7 @@ fn kept_view<R: Records>(
     ensures keeper { OnlyReads (R.custody records.old) (R.custody records.new) result }
 {
     let kept = records.view(alloc, name)?.ok_or(ABSENT)?;
-    // Nothing is done: by this law the prover knows that each text is a document of its key.
+    // For the proof: each text is a document of its key.
     records.keeps_documents();
     Ok(kept)
 }

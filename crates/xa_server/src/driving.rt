@@ -26,7 +26,7 @@ const PIECE_BYTES: usize = 65_536;
 /// stands before the program.
 const MAX_READS: u32 = 1_000_000;
 
-/// Puts a piece to an open connection.
+/// Puts a piece to an open connection. For the proof: the outcome of a piece is `Held`.
 #[tactic(auto, using(crate::proofs::OpenLemmas::open_kept))]
 fn play_piece<F: Multiplexer>(front: &mut F, conn: Conn, piece: &[u8]) -> Result<(), FrontError>
     ensures fed { F.is_sound front.new

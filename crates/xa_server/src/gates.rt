@@ -82,8 +82,7 @@ impl Gates {
         ensures forgotten { self.new ≡ without_gate name.now self.old }
         ensures gone { lookup (bytes_eq name.now) self.new ≡ None }
     {
-        // Nothing is done with the length: by the clause `valid` of this look the prover knows that no two
-        // gates stand under one name.
+        // For the proof: no two gates stand under one name (the clause `valid`).
         let _length = self.gates.len();
         self.gates.pop(name);
     }

@@ -102,7 +102,7 @@ impl Resources {
         Some(revision)
     }
 
-    /// Remembers the gate under that name, if there is memory.
+    /// Remembers the gate under that name, if there is memory. For the proof: nothing else is changed.
     pub(crate) fn remember(&mut self, name: &Text, gate: Gate)
         ensures { (self.new ≡ remembering name.now gate self.old) ⊎ (self.new ≡ self.old) }
     {

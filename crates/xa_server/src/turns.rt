@@ -57,7 +57,7 @@ pub(crate) fn play_one<F: Multiplexer>(
     }
 }
 
-/// Has the next of an open connection answered.
+/// Has the next of an open connection answered. For the proof: the outcome of an answer is `Answered`.
 #[tactic(auto, using(crate::proofs::OpenLemmas::open_kept))]
 fn play_answer<F: Multiplexer>(
     front: &mut F,

@@ -132,8 +132,7 @@ fn put(views: &mut LruCache<u64, Ready>, number: u64, ready: Ready) -> bool
     ensures put { result ≡ true → views.new.entries ≡ in_front number ready views.old.entries }
     ensures left { result ≡ false → views.new ≡ views.old }
 {
-    // Nothing is done with the length: by the clauses `len` and `fits` of this look the prover knows that
-    // fewer views stand in the map than it has places.
+    // For the proof: fewer views stand in the map than it has places (the clauses `len` and `fits`).
     let _length = views.len();
     match views.put(number, ready) {
         Ok(_) => true,
