@@ -15,8 +15,8 @@ use xa_decide::Responded;
 use xa_records::Digest;
 use xa_value::Items;
 
-/// The most bytes of a request whose decision is looked up and cached: of a longer one none is cached
-/// (`xa_cache::fits`), so no key is made for it.
+/// The most bytes of a request whose decision is looked up and cached: of a longer one none is cached, so no
+/// key is made for it. The cache has this limit, too (`xa_cache::fits`), and `cached_body` in `specs/Work`.
 const MAX_REQUEST_BYTES: usize = 16_384;
 
 /// The cache of decisions, and what was counted of them.
