@@ -211,7 +211,7 @@ answers_fewer count conn moment outcomes told old new (Ok is) all (s, opens, on)
     (sym (same ∙ ap (progress_of progress.Answered) all) ∙ goes_on))
 answers_fewer count conn moment outcomes told old new (Err exit) all on plays same have = tt
 
--- ---- a piece, and answers behind it
+-- ---- a piece, and answers after it
 
 -- a piece of at most 65,536 bytes finds room, or no memory
 piece_steps : (conn : Conn) (moment : ℤ) (piece : Bor (List ℕ)) (outcomes : List Outcome) (old new : Lines) → TakesPieces conn old → length piece.now ≤ 65_536

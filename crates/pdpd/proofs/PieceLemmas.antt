@@ -111,7 +111,7 @@ some_outcomes one other same = cc
 no_outcomes : (outcomes : List Outcome) → None ≡ Some outcomes → ⊥
 no_outcomes outcomes same = cc
 
--- a piece was taken, and these are the outcomes behind it
+-- a piece was taken, and these are the outcomes after it
 pub behind : (outcomes answers : List Outcome) → answers_behind outcomes ≡ Some answers → (u : Unit {0}) × (outcomes ≡ Held (Ok u) ∷ answers)
 behind [] answers same = absurd (no_outcomes answers same)
 behind (Held (Ok u) ∷ outcomes) answers same = (u, ap (λ (os : List Outcome). Held (Ok u) ∷ os) (some_outcomes outcomes answers same))

@@ -75,7 +75,7 @@ adds most left a (byte ∷ bytes) rest old new keeps end moved same =
 
 -- ---- an entry
 
--- another byte stands behind the bytes
+-- another byte stands after the bytes
 pub body_wrong : (left mid rest : Option (List ℕ)) (count byte : ℕ) (bytes : List ℕ) → TakesBytes left mid count bytes → TakesByte mid rest (Some byte) → byte ≢ 10
     → Rejects (IsNoBody count) left rest NoLineFeed
 body_wrong left mid rest count byte bytes taken here other =

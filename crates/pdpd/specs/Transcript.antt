@@ -22,7 +22,7 @@ IsLine line = HasNoFeed line × (length line ≤ 64)
 abbrev pub IsHeading : Heading → List ℕ → Type 0
 IsHeading heading text = (line : List ℕ) × IsLine line × (heading_of line ≡ Ok heading) × (text ≡ line ++ codes "\n")
 
--- the text behind a heading: as many bytes as it counts, and a line feed
+-- the text after a heading: as many bytes as it counts, and a line feed
 abbrev pub IsBody : ℕ → List ℕ → List ℕ → Type 0
 IsBody count bytes text = (length bytes ≡ count) × (text ≡ bytes ++ codes "\n")
 

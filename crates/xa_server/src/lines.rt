@@ -70,7 +70,7 @@ impl Lines {
         Ok(conn)
     }
 
-    /// Puts the piece behind the bytes that the connection holds, whole or not at all. Fails with
+    /// Appends the piece to the bytes that the connection holds, whole or not at all. Fails with
     /// `NoSuchConnection`, if it isn't open, with `Full` or with `Memory`.
     pub(crate) fn piece(&mut self, conn: Conn, piece: &[u8]) -> Result<(), FrontError>
         ensures { IsHeld conn piece.now self.old result self.new }

@@ -2,7 +2,7 @@
 //! `answer:N` and `finish:N` are the calls of a front. `answers:N` asks for all answers that there are, and
 //! `moment:SECONDS` dates those that follow. `waits:N-M:BYTES` has bytes wait for some connections.
 //! `turns:SIZE` hands over what waits, so many bytes of each connection in turn. `cuts:BYTES` hands over
-//! bytes in two pieces, cut behind each byte in turn.
+//! bytes in two pieces, cut after each byte in turn.
 pub(crate) mod lines;
 
 use crate::answer::Answer;
@@ -49,7 +49,7 @@ impl<F: FrontCalls + Drop> FrontTrial<F> {
         Ok(line.conn)
     }
 
-    /// The connection of the number before the first colon, and the bytes of the field behind it.
+    /// The connection of the number before the first colon, and the bytes of the field after it.
     pub fn conn_and_bytes(&self, text: &str) -> Result<(Conn, Vec<u8>), NoAnswer> {
         let (number, field) = text.split_once(':').ok_or(NoAnswer::Malformed)?;
         Ok((self.conn(number)?, bytes_of(self.alloc, field)?))
@@ -192,7 +192,7 @@ impl<F: FrontCalls + Drop> FrontTrial<F> {
         outputs.push(answer, &output.bytes, output.is_last)
     }
 
-    /// Hands over the bytes cut behind each of them, and adds what was answered. Then adds how many
+    /// Hands over the bytes cut after each of them, and adds what was answered. Then adds how many
     /// replies came before each second piece.
     fn cuts(&mut self, answer: &mut Answer, text: &str) -> Result<(), NoAnswer> {
         let bytes = bytes_of(self.alloc, text)?;
@@ -205,7 +205,7 @@ impl<F: FrontCalls + Drop> FrontTrial<F> {
         push_counts(answer, &counts)
     }
 
-    /// Runs the event of the word and the text behind it. A refusal is given back.
+    /// Runs the event of the word and the text after it. A refusal is given back.
     fn call(&mut self, answer: &mut Answer, word: &str, text: &str) -> Result<(), NoAnswer> {
         match word {
             "begin" => self.begin(answer),
@@ -224,7 +224,7 @@ impl<F: FrontCalls + Drop> FrontTrial<F> {
         }
     }
 
-    /// Runs the event of the word and the text behind it. A failed call is answered by the name of its error.
+    /// Runs the event of the word and the text after it. A failed call is answered by the name of its error.
     pub fn run_event(
         &mut self,
         answer: &mut Answer,

@@ -66,7 +66,7 @@ impl Peer {
         Ok(())
     }
 
-    /// Runs the event of the word and the text behind it.
+    /// Runs the event of the word and the text after it.
     fn run_event<F: FrontCalls + Multiplexer + Drop>(
         &mut self,
         answer: &mut Answer,

@@ -88,13 +88,13 @@ fn digit(byte: u8) -> Result<u8, NoAnswer> {
     }
 }
 
-/// The word of a field, which stands before its first colon, and the text behind that; a field without a
+/// The word of a field, which stands before its first colon, and the text after that; a field without a
 /// colon is a word alone.
 pub fn word_and_text(field: &str) -> (&str, &str) {
     field.split_once(':').unwrap_or((field, ""))
 }
 
-/// The text before the first space, and the text behind it.
+/// The text before the first space, and the text after it.
 pub fn first_word_and_rest(text: &str) -> (&str, &str) {
     text.split_once(' ').unwrap_or((text, ""))
 }
@@ -113,7 +113,7 @@ pub fn leading_and_rest<'a>(fields: &'a [&'a str], word: &str) -> (&'a [&'a str]
     (leading, rest)
 }
 
-/// The only field behind the kind.
+/// The only field after the kind.
 pub fn only_field<'a>(fields: &'a [&'a str]) -> Result<&'a str, NoAnswer> {
     match fields {
         [field] => Ok(*field),
@@ -121,7 +121,7 @@ pub fn only_field<'a>(fields: &'a [&'a str]) -> Result<&'a str, NoAnswer> {
     }
 }
 
-/// The two fields behind the kind.
+/// The two fields after the kind.
 pub fn two_fields<'a>(fields: &'a [&'a str]) -> Result<(&'a str, &'a str), NoAnswer> {
     match fields {
         [first, second] => Ok((*first, *second)),
@@ -129,7 +129,7 @@ pub fn two_fields<'a>(fields: &'a [&'a str]) -> Result<(&'a str, &'a str), NoAns
     }
 }
 
-/// The first field behind the kind, and those after it.
+/// The first field after the kind, and those after it.
 pub fn first_field_and_rest<'a>(
     fields: &'a [&'a str],
 ) -> Result<(&'a str, &'a [&'a str]), NoAnswer> {

@@ -1,4 +1,4 @@
-//! Rows of connections that are driven over two files, one of which is frozen behind so many calls.
+//! Rows of connections that are driven over two files, one of which is frozen after so many calls.
 use crate::answer::Answer;
 use crate::field::{first_field_and_rest, number_of};
 use crate::files::{File, StoreOfFiles, file_named, files_of, keeper_of, new_files};
@@ -22,7 +22,7 @@ fn frozen_keeper<S: StoreOfFiles>(alloc: Global, text: &str) -> Result<SqlRecord
     keeper_of(alloc, files).ok().ok_or(NoAnswer::NotOpened)
 }
 
-/// What becomes of driven connections over the keeper of tables in two files, one of which is frozen behind
+/// What becomes of driven connections over the keeper of tables in two files, one of which is frozen after
 /// so many calls.
 pub fn run_frozen_row<S: StoreOfFiles>(
     answer: &mut Answer,

@@ -16,14 +16,14 @@ use crate::no_answer::NoAnswer;
 use xa_records::{PlainRecords, Records, is_domain_name};
 use xa_value::Text;
 
-/// A call of a keeper: a word, the domain's name, and the text behind it.
+/// A call of a keeper: a word, the domain's name, and the text after it.
 #[derive(Drop)]
 pub struct KeeperCall<'a> {
     /// The word of the call.
     word: &'a str,
     /// The domain's name.
     pub name: Text,
-    /// The text behind the name.
+    /// The text after the name.
     pub text: &'a str,
 }
 

@@ -145,7 +145,7 @@ pub fn run_server_row(
 }
 
 /// Answers a row of messages to a server over both, of each of which a call fails. The first field says
-/// behind how many others.
+/// after how many others.
 pub fn run_failing_row(answer: &mut Answer, fields: &[&str]) -> Result<(), NoAnswer> {
     let (calls, fields) = first_field_and_rest(fields)?;
     let left = number_of(calls)?;

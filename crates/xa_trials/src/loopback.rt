@@ -78,7 +78,7 @@ impl<F: FrontCalls + Multiplexer + Drop> Sockets<F> {
         Ok(())
     }
 
-    /// Runs the event of the word and the text behind it.
+    /// Runs the event of the word and the text after it.
     fn run_event(&mut self, answer: &mut Answer, word: &str, text: &str) -> Result<(), NoAnswer> {
         match word {
             "piece" => self.piece(answer.alloc(), text),

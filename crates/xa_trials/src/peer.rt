@@ -133,7 +133,7 @@ impl Receiver {
         }
     }
 
-    /// Adds what it has got at each flush, and what was written behind the last one.
+    /// Adds what it has got at each flush, and what was written after the last one.
     pub fn push_got(&self, answer: &mut Answer) -> Result<(), NoAnswer> {
         let mut runs = Runs::new(self.alloc);
         for bytes in &self.got {

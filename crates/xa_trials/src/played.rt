@@ -9,7 +9,7 @@ use crate::no_answer::NoAnswer;
 use crate::runs::push_answer;
 use xa_server::{Event, FrontError, Outcome};
 
-/// Plays the one call that the word and the text behind it say.
+/// Plays the one call that the word and the text after it say.
 fn outcomes_of<F: FrontCalls + Drop>(
     trial: &mut FrontTrial<F>,
     word: &str,
@@ -55,7 +55,7 @@ fn push_outcome<F: FrontCalls + Drop>(
     }
 }
 
-/// Plays the one call that the word and the text behind it say, and adds what it was answered.
+/// Plays the one call that the word and the text after it say, and adds what it was answered.
 fn play_one<F: FrontCalls + Drop>(
     answer: &mut Answer,
     trial: &mut FrontTrial<F>,

@@ -3,7 +3,7 @@ use crate::answer::Answer;
 use crate::no_answer::NoAnswer;
 use std::alloc::Global;
 
-/// Fields that are added one after another. Equal ones in a row are added once, and behind them how many
+/// Fields that are added one after another. Equal ones in a row are added once, and after them how many
 /// they are, as `*COUNT`.
 #[derive(Drop)]
 pub struct Runs {

@@ -96,7 +96,7 @@ impl<F: FrontCalls + Drop> ServerTrial<F> {
         Ok(())
     }
 
-    /// Runs the event of the word and the text behind it.
+    /// Runs the event of the word and the text after it.
     fn step(&mut self, answer: &mut Answer, word: &str, text: &str) -> Result<(), NoAnswer> {
         match word {
             "piece" => self.piece(answer, text),
@@ -120,7 +120,7 @@ impl<F: FrontCalls + Drop> ServerTrial<F> {
         (front, moment)
     }
 
-    /// The trial behind the event of the word and the text behind it, on the same front.
+    /// The trial after the event of the word and the text after it, on the same front.
     fn trial_after_step(
         mut self,
         answer: &mut Answer,
@@ -139,7 +139,7 @@ impl<F: Renew + Drop> ServerTrial<F> {
         ServerTrial::new(front.front_after_restart(alloc)?, moment)
     }
 
-    /// Adds what the server has counted, behind the word that asks for it, and goes on with another stream.
+    /// Adds what the server has counted, after the word that asks for it, and goes on with another stream.
     fn trial_after_count(
         self,
         answer: &mut Answer,
@@ -153,7 +153,7 @@ impl<F: Renew + Drop> ServerTrial<F> {
         ServerTrial::new(front, moment)
     }
 
-    /// Runs the event of the field, and gives the trial that goes on behind it.
+    /// Runs the event of the field, and gives the trial that goes on after it.
     fn trial_after(self, answer: &mut Answer, field: &str) -> Result<ServerTrial<F>, NoAnswer> {
         let (word, text) = word_and_text(field);
         match word {

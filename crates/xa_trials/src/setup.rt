@@ -67,7 +67,7 @@ impl Setup {
         server
     }
 
-    /// The server with the limit of work that is set of it behind the messages.
+    /// The server with the limit of work that is set of it after the messages.
     fn limited<R: Records>(&self, server: Server<R>) -> Server<R> {
         match self.limit {
             Some(units) => server.with_work_limit(units),

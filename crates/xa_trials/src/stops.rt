@@ -17,10 +17,10 @@ use crate::stops::script::{Script, script_of};
 use crate::stops::sweep::Sweep;
 use sqlite::Files;
 
-/// A stop: behind how many calls it came, and which message it has struck.
+/// A stop: after how many calls it came, and which message it has struck.
 #[derive(Clone, Copy)]
 struct Stop {
-    /// Behind how many calls it came.
+    /// After how many calls it came.
     calls: u64,
     /// The number of the message that it has struck.
     struck: usize,
@@ -38,7 +38,7 @@ struct Stopping {
 }
 
 impl Stopping {
-    /// Takes the files up behind the stop. If the rest of the script isn't answered rightly, that is the
+    /// Takes the files up after the stop. If the rest of the script isn't answered rightly, that is the
     /// row's whole answer.
     fn resume<S: StoreOfFiles>(
         &self,
@@ -53,7 +53,7 @@ impl Stopping {
         Err(NoAnswer::Answered)
     }
 
-    /// Takes up, behind the stop, what a crash has left at both of its ends.
+    /// Takes up, after the stop, what a crash has left at both of its ends.
     fn resume_both<S: StoreOfFiles>(
         &self,
         answer: &mut Answer,
@@ -83,7 +83,7 @@ impl Stopping {
         self.resume_both::<S>(answer, synced, written, stop)
     }
 
-    /// Runs the script with the file frozen behind so many calls, and goes on after the stop. Whether a
+    /// Runs the script with the file frozen after so many calls, and goes on after the stop. Whether a
     /// stop has come.
     fn stop_behind<S: StoreOfFiles>(
         &mut self,
@@ -127,7 +127,7 @@ impl Stopping {
     }
 }
 
-/// Adds the bytes of a file, behind their number.
+/// Adds the bytes of a file, after their number.
 fn push_file(all: &mut Vec<u8>, file: &File) -> Result<(), NoAnswer> {
     let bytes = file.inner().bytes();
     all.extend_from_slice(&bytes.len().to_le_bytes())?;

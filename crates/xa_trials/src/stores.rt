@@ -1,4 +1,4 @@
-//! Rows of stores that are opened as a keeper's. The first field behind the kind says how the store begins:
+//! Rows of stores that are opened as a keeper's. The first field after the kind says how the store begins:
 //! `empty`, or `keeper`, with the tables of a keeper without domains. Statements of SQL follow, which are
 //! run. Then a crash is taken of its files, in memory. What it leaves is opened at both of its ends, which
 //! have to be answered alike. The answer says whether the keeper is opened, and whether the store has a

@@ -52,7 +52,7 @@ impl Words {
         Err(NoAnswer::Malformed)
     }
 
-    /// Defines the word before the first tab by what stands behind it. A word is defined once.
+    /// Defines the word before the first tab by what stands after it. A word is defined once.
     pub fn define(&mut self, definition: &str) -> Result<(), NoAnswer> {
         let (word, text) = definition.split_once('\t').unwrap_or((definition, ""));
         if self.text(word).is_ok() {
@@ -107,7 +107,7 @@ struct Row<'a> {
 }
 
 impl Row<'_> {
-    /// Puts the text of a word, and what stands behind the word.
+    /// Puts the text of a word, and what stands after the word.
     fn put_word(&mut self, part: &str) -> Result<(), NoAnswer> {
         let (word, rest) = part.split_once(')').ok_or(NoAnswer::Malformed)?;
         let text = self.words.text(word.strip_prefix("(").unwrap_or(word))?;
@@ -145,7 +145,7 @@ impl Row<'_> {
         Ok(())
     }
 
-    /// Puts the text that ends here as often as it stands there, and the bytes behind it.
+    /// Puts the text that ends here as often as it stands there, and the bytes after it.
     fn end(&mut self, rest: &[u8]) -> Result<(), NoAnswer> {
         let repeated = self.repeated.pop().ok_or(NoAnswer::Malformed)?;
         let text = self.text.take_off(repeated.start)?;

@@ -22,7 +22,7 @@ abbrev pub TakesByte : Option (List ℕ) → Option (List ℕ) → Option ℕ �
 TakesByte left rest None = Consumes left rest [] × IsAtEnd rest
 TakesByte left rest (Some byte) = Consumes left rest (byte ∷ [])
 
--- at most that many bytes are moved behind others, and some if any are left
+-- at most that many bytes are appended to others, and some if any are left
 abbrev pub Adds : ℕ → Option (List ℕ) → Option (List ℕ) → List ℕ → List ℕ → Bool → Type 0
 Adds most left rest old new true =
     (taken : List ℕ) × Consumes left rest taken × (new ≡ old ++ taken) × (length taken ≤ most)
@@ -43,6 +43,6 @@ TakesHeading left rest None = Consumes left rest [] × IsAtEnd rest
 abbrev pub TakesBytes : Option (List ℕ) → Option (List ℕ) → ℕ → List ℕ → Type 0
 TakesBytes left rest count bytes = Consumes left rest bytes × (length bytes ≡ count)
 
--- what stands behind a heading is taken
+-- what stands after a heading is taken
 abbrev pub TakesBody : Option (List ℕ) → Option (List ℕ) → ℕ → List ℕ → Type 0
 TakesBody left rest count bytes = (text : List ℕ) × Consumes left rest text × IsBody count bytes text

@@ -57,7 +57,7 @@ abbrev pub progress_of : Progress → List Outcome → Progress
 progress_of was [] = was
 progress_of was (outcome ∷ outcomes) = progress_of (progress_after was outcome) outcomes
 
--- the outcomes behind that of a piece that was taken
+-- the outcomes after that of a piece that was taken
 abbrev pub answers_behind : List Outcome → Option (List Outcome)
 answers_behind (Held (Ok _) ∷ outcomes) = Some outcomes
 answers_behind _ = None

@@ -61,7 +61,7 @@ fn exit_of_refusal(error: FrontError) -> Exit
     }
 }
 
-/// The outcomes behind that of a piece, if there was memory for the piece.
+/// The outcomes after that of a piece, if there was memory for the piece.
 pub fn answers_behind(outcomes: &[Outcome]) -> Result<&[Outcome], Exit>
     requires { ArePieceAndAnswers outcomes.now }
     ensures behind { MatchResult result

@@ -18,7 +18,7 @@ pub enum TranscriptFault {
     /// The transcript ends within its bytes.
     #[error("the transcript ends within its bytes")]
     CutBytes,
-    /// No line feed stands behind its bytes.
+    /// No line feed stands after its bytes.
     #[error("no line feed stands behind its bytes")]
     NoLineFeed,
 }

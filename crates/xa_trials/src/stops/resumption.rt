@@ -27,12 +27,12 @@ fn replies_of<V: ServerCalls + Drop>(
     server.replies_to(messages)
 }
 
-/// The messages behind that one.
+/// The messages after that one.
 fn messages_behind(script: &Script, struck: usize) -> &[(Moment, Message)] {
     script.messages.get(struck..).unwrap_or(&[])
 }
 
-/// The replies to the messages behind that one, of a server over a keeper in memory. It has answered the
+/// The replies to the messages after that one, of a server over a keeper in memory. It has answered the
 /// messages that made the store, and so many of the script's.
 fn replies_behind(
     alloc: Global,
@@ -55,7 +55,7 @@ fn are_alike(left: &[Reply], right: &[Reply]) -> bool {
             .all(|(left, right)| left.bytes() == right.bytes())
 }
 
-/// Whether the messages behind that one were answered as if it had never come, or as if it had been answered.
+/// Whether the messages after that one were answered as if it had never come, or as if it had been answered.
 fn are_right(
     alloc: Global,
     script: &Script,
@@ -71,7 +71,7 @@ fn are_right(
     Ok(false)
 }
 
-/// Whether a server over the keeper goes on behind that message.
+/// Whether a server over the keeper goes on after that message.
 fn keeper_goes_on<R: Records + Drop>(
     alloc: Global,
     records: R,
@@ -83,7 +83,7 @@ fn keeper_goes_on<R: Records + Drop>(
     are_right(alloc, script, struck, &replies)
 }
 
-/// Whether the store in the files is opened, and a server over it goes on behind that message.
+/// Whether the store in the files is opened, and a server over it goes on after that message.
 pub fn is_resumed<S: StoreOfFiles>(
     alloc: Global,
     files: Files<File>,

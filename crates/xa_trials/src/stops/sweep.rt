@@ -37,8 +37,8 @@ impl Sweep {
         }
     }
 
-    /// Notes what a crash has left behind that message. Whether the last crash left something else, or
-    /// behind another message.
+    /// Notes what a crash has left after that message. Whether the last crash left something else, or
+    /// after another message.
     pub fn note(&mut self, struck: usize, left: Vec<u8>) -> bool {
         let is_new = self.struck != struck || self.left.as_slice() != left.as_slice();
         self.struck = struck;
