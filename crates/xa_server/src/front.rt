@@ -1,4 +1,15 @@
 //! Many connections over one server.
+//!
+//! The steps of one call, in this order. Each has a function of its own, whose clauses settle one question:
+//! 1. `Front::play`: is there room for all outcomes? Then the calls are made one after another (`IsPlayed`).
+//! 2. `Front::outcome`: which call is it? It opens a connection, takes a piece, answers or closes
+//!    (`DoesEvent`).
+//! 3. `Front::answer`: is that connection one of the 64? No other changes (`AnswersLine`).
+//! 4. `answer_line`: is the connection open? (`AnswersIn`)
+//! 5. `answer_next`: what stands at the front of its stream? By a look, which keeps the head that it has
+//!    read (`AnswersNext`).
+//! 6. `answer_message` and `answer_fault`: the message is cut off and served, or the session ends by the
+//!    fault. What the keeper is told follows from the server's clauses (`HandsOn`).
 ghost use Rattle.std.specs.Prelude.{◌≡◌, IfOk, OnErr, MatchResult, Some};
 ghost use Rattle.xa_http.specs.declared.session.Look.TheVariants as look;
 ghost use Rattle.xa_http.specs.Messages.{IsLook};

@@ -1,4 +1,14 @@
 //! The turns of a connection: in each the next message that it holds is answered, and the reply is sent.
+//!
+//! The steps, from the outermost. Each has a function of its own, whose clauses settle one question:
+//! 1. `answer_held`: which messages does the connection hold? It takes turns until one waits or ends
+//!    (`IsHeldAnswered`).
+//! 2. `next_turn`: what stands at the front of the stream? By a look, without a clock (`IsTurn`).
+//! 3. `message_turn` and `fault_turn`: at which moment? A message is answered at the clock's
+//!    (`IsAnsweredNow`), a fault at any.
+//! 4. `turn_at`: is there an answer? `play_answer` asks the front for one, by `play_one` (`IsAnsweredAt`).
+//! 5. `send_answer`: is the reply sent whole, and does the connection go on? `keeper_is_shut` asks the front
+//!    after a refusal for want of storage (`IsSentAs`).
 ghost use Rattle.std.specs.Prelude.{◌≡◌, ℕ, false, true, IsTrue, List, MatchResult, Option, Some, pos};
 ghost use Rattle.xa_http.specs.Stream.{Stream};
 ghost use Rattle.xa_server.specs.Driven.{KeepsOpen};
