@@ -44,15 +44,15 @@ found_gate kept name gates gate are found =
     subst (λ n. gate_of n kept ≡ Some gate) (sym (one_name name on.0 on.2)) on.1
 
 -- each role may ask for decisions
-may_ask : (role : Role) → permitted role true ≡ Ok tt
+may_ask : (role : Role) → permitted role Ask ≡ Ok tt
 may_ask Admin = refl
 may_ask Ask = refl
 
 -- a token that is found lets in
 lets_in : (kept : Kept) (name digest : List ℕ) (gate : Gate) (role : Role) → gate_of name kept ≡ Some gate → role_in digest gate.tokens ≡ Some role
-    → admitted_by true (state_of name kept) (Some digest) ≡ Ok tt
+    → admitted_by Ask (state_of name kept) (Some digest) ≡ Ok tt
 lets_in kept name digest gate role opens has = by_gate (gate_opens kept name gate opens) where
-  by_gate : ((d : Domain) × (get kept.domains name ≡ Some d) × (gate_of_domain d ≡ gate)) → admitted_by true (state_of name kept) (Some digest) ≡ Ok tt
+  by_gate : ((d : Domain) × (get kept.domains name ≡ Some d) × (gate_of_domain d ≡ gate)) → admitted_by Ask (state_of name kept) (Some digest) ≡ Ok tt
   by_gate (d, there, is) =
       let in_map : get d.state.tokens digest ≡ Some role = sym (role_is digest d.state.tokens) ∙ ap (λ g. role_in digest g.tokens) is ∙ has in
       rw (there, in_map) (may_ask role)
@@ -60,19 +60,19 @@ lets_in kept name digest gate role opens has = by_gate (gate_opens kept name gat
 -- what it opens
 module _ (kept : Kept) (name digest : List ℕ) (gates : List (List ℕ × Gate)) (revision : Revision) (are : AreGates kept gates) where
   by_role : (gate : Gate) (role : Option Role) → gate_of name kept ≡ Some gate → role_in digest gate.tokens ≡ role → option_map (λ _. revision_by gate) role ≡ Some revision
-      → (revision_of name kept ≡ Some revision) × (admitted_by true (state_of name kept) (Some digest) ≡ Ok tt)
+      → (revision_of name kept ≡ Some revision) × (admitted_by Ask (state_of name kept) (Some digest) ≡ Ok tt)
   by_role gate None opens has is = absurd cc
   by_role gate (Some role) opens has is = (ap (option_map revision_by) opens ∙ is, lets_in kept name digest gate role opens has)
 
   by_lookup : (found : Option Gate) → lookup (bytes_eq name) gates ≡ found → option_and_then (revision_with digest) found ≡ Some revision
-      → (revision_of name kept ≡ Some revision) × (admitted_by true (state_of name kept) (Some digest) ≡ Ok tt)
+      → (revision_of name kept ≡ Some revision) × (admitted_by Ask (state_of name kept) (Some digest) ≡ Ok tt)
   by_lookup None there is = absurd cc
   by_lookup (Some gate) there is = by_role gate (role_in digest gate.tokens) (found_gate kept name gates gate are there) refl is
 
 pub known_opens : (kept : Kept) (name digest : List ℕ) (message : Message) (resources : ResourcesModel) (revision : Revision) → digest_shown message ≡ Some digest → AllStand kept resources
-    → revision_in name digest resources.gates ≡ Some revision → (revision_of name kept ≡ Some revision) × (admitted true (state_of name kept) message ≡ Ok tt)
+    → revision_in name digest resources.gates ≡ Some revision → (revision_of name kept ≡ Some revision) × (admitted Ask (state_of name kept) message ≡ Ok tt)
 known_opens kept name digest message resources revision shown stand is =
-    subst (λ d. (revision_of name kept ≡ Some revision) × (admitted_by true (state_of name kept) d ≡ Ok tt)) (sym shown)
+    subst (λ d. (revision_of name kept ≡ Some revision) × (admitted_by Ask (state_of name kept) d ≡ Ok tt)) (sym shown)
     (by_lookup kept name digest resources.gates revision stand.gates (lookup (bytes_eq name) resources.gates) refl is)
 
 -- ---- what stands

@@ -69,22 +69,22 @@ is_operators operator (Some digest) = bytes_eq digest operator
 abbrev pub by_operator : List ℕ → Message → Result (Unit {0}) ErrorCode
 by_operator operator message = if is_operators operator (digest_shown message) then Ok tt else Err Unauthorized
 
--- each role may ask for decisions, and `admin` alone for anything else
-abbrev pub permitted : Role → Bool → Result (Unit {0}) ErrorCode
-permitted Admin for_decisions = Ok tt
-permitted Ask true = Ok tt
-permitted Ask false = Err Forbidden
+-- a message needs a role: `ask` for a decision, `admin` for anything else; `admin` may do both
+abbrev pub permitted : Role → Role → Result (Unit {0}) ErrorCode
+permitted Admin needed = Ok tt
+permitted Ask Ask = Ok tt
+permitted Ask Admin = Err Forbidden
 
--- the domain is there, and the digest that is shown is that of one of its tokens, whose role may ask for that
-abbrev pub admitted_by : Bool → Option DomainState → Option (List ℕ) → Result (Unit {0}) ErrorCode
-admitted_by for_decisions state shown = do
+-- the domain is there, and the digest that is shown is that of one of its tokens, whose role may do what is needed
+abbrev pub admitted_by : Role → Option DomainState → Option (List ℕ) → Result (Unit {0}) ErrorCode
+admitted_by needed state shown = do
   domain ← ok_or state Unauthorized
   role ← ok_or (option_and_then (get domain.tokens) shown) Unauthorized
-  permitted role for_decisions
+  permitted role needed
 
--- the domain is there, and the message shows one of its tokens, whose role may ask for that
-abbrev pub admitted : Bool → Option DomainState → Message → Result (Unit {0}) ErrorCode
-admitted for_decisions state message = admitted_by for_decisions state (digest_shown message)
+-- the domain is there, and the message shows one of its tokens, whose role may do what is needed
+abbrev pub admitted : Role → Option DomainState → Message → Result (Unit {0}) ErrorCode
+admitted needed state message = admitted_by needed state (digest_shown message)
 
 -- ---- 400, then 404 and 409
 
@@ -170,13 +170,13 @@ by_route operator state message moment (to.Operator name command) = do
   _ ← by_operator operator message
   by_operator_command command message.body state
 by_route operator state message moment (to.Decide name) = do
-  _ ← admitted true state message
+  _ ← admitted Ask state message
   told (response_to message.body moment) state
 by_route operator state message moment (to.Domain name command) = do
-  _ ← admitted false state message
+  _ ← admitted Admin state message
   by_domain_command command message.body state
 by_route operator state message moment (to.Document name parts command) = do
-  _ ← admitted false state message
+  _ ← admitted Admin state message
   key ← ok_or (key_of_parts parts) (Keeper Absent)
   by_document_command command key state
 

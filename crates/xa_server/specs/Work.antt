@@ -12,6 +12,7 @@ use Rattle.xa_http.specs.declared.route.Route.{Route}
 use Rattle.xa_http.specs.declared.route.Route.TheVariants as to
 use Rattle.xa_http.specs.declared.route.RouteFault.{RouteFault}
 use Rattle.xa_http.specs.Routes.{route_of}
+use Rattle.xa_notation.specs.declared.token.Role.TheVariants.{Ask}
 use Rattle.xa_records.specs.Keeper.{IsOneMore}
 use Rattle.xa_records.specs.DomainState.{DomainState}
 use Rattle.xa_records.specs.Kept.{Domain, Kept}
@@ -37,7 +38,7 @@ domain_if domain (Err code) = None
 -- the domain of a name, if it lets the message ask for decisions
 abbrev pub domain_asked : Kept → Message → List ℕ → Option Domain
 domain_asked kept message name =
-    option_and_then (λ d. domain_if d (admitted true (Some d.state) message)) (get kept.domains name)
+    option_and_then (λ d. domain_if d (admitted Ask (Some d.state) message)) (get kept.domains name)
 
 -- the domain of which a route asks for a decision
 abbrev pub domain_of_route : Kept → Message → Route → Option Domain

@@ -1,5 +1,6 @@
 //! Whether a message is let in, by the token that it shows. If not, the reply is 401 or 403.
-ghost use Rattle.std.specs.Prelude.{◌≡◌, true, false, Some};
+ghost use Rattle.std.specs.Prelude.{◌≡◌, Some};
+ghost use Rattle.xa_notation.specs.declared.token.Role.TheVariants.{Admin, Ask};
 ghost use Rattle.xa_records.specs.Kept.{state_of};
 ghost use Rattle.xa_records.specs.Readings.{gate_of};
 ghost use Rattle.xa_server.specs.Gates.{revision_of};
@@ -36,35 +37,35 @@ pub(crate) fn admit_operator(operator: Digest, message: &Message) -> Result<(), 
     }
 }
 
-/// Whether the role may ask for that: to a role for decisions alone all else is `Forbidden`.
-fn permission(role: Role, for_decisions: bool) -> Result<(), ErrorCode>
-    ensures { result ≡ permitted role for_decisions }
+/// Whether the role may do what needs that other one: what needs `Admin` is `Forbidden` to `Ask`.
+fn permission(role: Role, needed: Role) -> Result<(), ErrorCode>
+    ensures { result ≡ permitted role needed }
 {
-    match role {
-        Role::Ask if !for_decisions => Err(ErrorCode::Forbidden),
-        Role::Ask | Role::Admin => Ok(()),
+    match (role, needed) {
+        (Role::Ask, Role::Admin) => Err(ErrorCode::Forbidden),
+        (Role::Ask, Role::Ask) | (Role::Admin, _) => Ok(()),
     }
 }
 
-/// The domain's gate, if the digest is that of one of the domain's tokens, whose role may ask for that.
+/// The domain's gate, if the digest is that of one of the domain's tokens, whose role may do what is needed.
 /// An absent domain and a wrong token are both `Unauthorized`, and both take one call of the keeper.
 #[tactic(auto, using(crate::proofs::AdmissionLemmas::role_is))]
 fn gate_for<R: Records>(
     alloc: Global,
     records: &mut R,
     name: &Text,
-    for_decisions: bool,
+    needed: Role,
     digest: &Digest,
 ) -> Result<Gate, Unsuccessful>
     ensures tells { (R.custody records.new).sound
         → Opens (R.custody records.old).kept (R.custody records.new).kept
         (gate_of name.now (R.custody records.old).kept) result
-        (admitted_by for_decisions (state_of name.now (R.custody records.old).kept) (Some digest.now)) }
+        (admitted_by needed (state_of name.now (R.custody records.old).kept) (Some digest.now)) }
     ensures keeper { OnlyReads (R.custody records.old) (R.custody records.new) result }
 {
     let gate = records.gate(alloc, name)?.ok_or(ErrorCode::Unauthorized)?;
     let role = role_in(gate.tokens.as_slice(), digest).ok_or(ErrorCode::Unauthorized)?;
-    permission(role, for_decisions)?;
+    permission(role, needed)?;
     Ok(gate)
 }
 
@@ -76,11 +77,11 @@ pub(crate) fn admit<R: Records>(
     message: &Message,
 ) -> Result<(), Unsuccessful>
     ensures tells { Tells (R.custody records.old) (R.custody records.new) result
-        (admitted false (state_of name.now (R.custody records.old).kept) message.now) }
+        (admitted Admin (state_of name.now (R.custody records.old).kept) message.now) }
     ensures keeper { OnlyReads (R.custody records.old) (R.custody records.new) result }
 {
     let digest = digest_shown(message).ok_or(ErrorCode::Unauthorized)?;
-    gate_for(alloc, records, name, false, &digest)?;
+    gate_for(alloc, records, name, Role::Admin, &digest)?;
     Ok(())
 }
 
@@ -99,7 +100,7 @@ pub(crate) fn admit_ask<R: Records>(
     ensures tells { AllStand (R.custody records.old).kept resources.old → (R.custody records.new).sound
         → Opens (R.custody records.old).kept (R.custody records.new).kept
         (revision_of name.now (R.custody records.old).kept) result
-        (admitted true (state_of name.now (R.custody records.old).kept) message.now) }
+        (admitted Ask (state_of name.now (R.custody records.old).kept) message.now) }
     ensures stands { AllStand (R.custody records.old).kept resources.old → (R.custody records.new).sound
         → AllStand (R.custody records.old).kept resources.new }
     ensures decisions { resources.new.decisions ≡ resources.old.decisions }
@@ -110,7 +111,7 @@ pub(crate) fn admit_ask<R: Records>(
     if let Some(revision) = resources.revision_by_gate(name, &digest) {
         return Ok(revision);
     }
-    let gate = gate_for(alloc, records, name, true, &digest)?;
+    let gate = gate_for(alloc, records, name, Role::Ask, &digest)?;
     let revision = Revision::of(&gate);
     resources.remember(name, gate);
     Ok(revision)
