@@ -6,7 +6,7 @@ use Rattle.xa_http.specs.declared.fault.SessionFault.{SessionFault}
 use Rattle.xa_http.specs.Messages.{Cuts, IsNext}
 use Rattle.xa_http.specs.Stream.{Stream}
 use Rattle.xa_server.specs.declared.replies.Reply.{Reply}
-use Rattle.xa_server.specs.Alone.{Event}
+use Rattle.xa_server.specs.Alone.{Event, message_of, moment_of}
 use Rattle.xa_server.specs.ErrorCode.{code_of_session_fault, error_reply}
 use Rattle.xa_server.specs.Replies.{bytes_of}
 
@@ -22,11 +22,11 @@ HasMessages old messages fault new = (last : Stream) × Cuts old messages last �
 
 -- the messages of events
 abbrev pub messages_of : List Event → List Message
-messages_of events = map (λ (event : Event). event.1) events
+messages_of events = map message_of events
 
 -- the moments of events
 abbrev pub moments_of : List Event → List ℤ
-moments_of events = map (λ (event : Event). event.0) events
+moments_of events = map moment_of events
 
 -- the reply to the fault by which a stream ends, if it ends by one
 abbrev pub fault_replies : Option SessionFault → List (List ℕ)

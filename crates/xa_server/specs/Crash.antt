@@ -4,7 +4,7 @@ use Rattle.xa_http.specs.declared.message.Message.{Message}
 use Rattle.xa_records.specs.Kept.{IsChanged, Kept}
 use Rattle.xa_server.specs.declared.replies.Reply.{Reply}
 use Rattle.xa_server.specs.declared.replies.Reply.TheVariants.{Sent, Refused}
-use Rattle.xa_server.specs.Machine.{step}
+use Rattle.xa_server.specs.Machine.{next_state, step}
 use Rattle.xa_server.specs.Owner.{owner}
 use Rattle.xa_server.specs.Served.{state}
 use Rattle.xa_server.specs.World.{World}
@@ -14,7 +14,7 @@ use Rattle.xa_server.specs.World.{World}
 abbrev pub IsStepMade : World → Kept → ℤ → Message → Option (List ℕ) → Type 0
 IsStepMade old left moment message None = ⊥
 IsStepMade old left moment message (Some domain) =
-    IsChanged old.kept left domain (step old.operator (state domain old) message moment).1
+    IsChanged old.kept left domain (next_state (step old.operator (state domain old) message moment))
 
 -- what a crash may leave after a message, whatever became of it: what it might have left before, or all with that one
 -- step made

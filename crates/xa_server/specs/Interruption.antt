@@ -2,7 +2,7 @@
 use Rattle.std.specs.Prelude.{◌≡◌, ◌≤◌, ℕ, List, [], ◌∷◌, ◌++◌, length, take}
 use Rattle.xa_records.specs.Keeper.{Custody}
 use Rattle.xa_records.specs.Kept.{Kept, state_of}
-use Rattle.xa_server.specs.Alone.{Event, own_events, state_after}
+use Rattle.xa_server.specs.Alone.{Event, message_of, moment_of, own_events, state_after}
 use Rattle.xa_server.specs.Crash.{IfSent, LeavesStep}
 use Rattle.xa_server.specs.declared.replies.Reply.{Reply}
 use Rattle.xa_server.specs.declared.replies.Reply.TheVariants.{Sent, Refused}
@@ -18,11 +18,13 @@ AreStatesAfter old events left =
 module _ {R : Type 0} (custody : R → Custody) where
   -- a message was served: these are clauses of `Server::serve`
   pub record Serves (old new : ServerModel R) (event : Event) (reply : Reply) : Type 0 where
-    pub served : (custody new.records).sound → IsServed (world custody old) (world custody new) event.0 event.1 reply
+    pub served : (custody new.records).sound
+        → IsServed (world custody old) (world custody new) (moment_of event) (message_of event) reply
     pub clean : (custody new.records).clean → (custody old.records).clean
     pub stays : (custody new.records).clean → (custody old.records).sound → IfSent reply (custody new.records).sound
     pub crash : (custody new.records).clean → (custody old.records).sound
-        → LeavesStep (custody old.records).may_leave (custody new.records).may_leave (world custody old) event.0 event.1
+        → LeavesStep (custody old.records).may_leave (custody new.records).may_leave (world custody old)
+        (moment_of event) (message_of event)
 
   -- the keeper stays sound after a message: that is asked after a refusal, and follows after any other reply
   abbrev pub StaysSound : ServerModel R → Reply → Type 0

@@ -193,6 +193,14 @@ reply_and_state state (Err code) = (error_reply code, state)
 unfoldable pub step : List ℕ → Option DomainState → Message → ℤ → List ℕ × Option DomainState
 step operator state message moment = reply_and_state state (answer operator state message moment)
 
+-- the reply of a step
+abbrev pub reply_of : List ℕ × Option DomainState → List ℕ
+reply_of taken = taken.0
+
+-- the domain's state after a step
+abbrev pub next_state : List ℕ × Option DomainState → Option DomainState
+next_state taken = taken.1
+
 -- ---- a message whose path names no domain
 
 -- the answer to a message of no domain: of the domains there are, their names alone are looked at, and only by the

@@ -7,8 +7,8 @@ use Rattle.xa_records.specs.Keeper.{IsOneMore}
 use Rattle.xa_records.specs.Kept.{IsChanged, names_of, state_of}
 use Rattle.xa_server.specs.declared.replies.Reply.{Reply}
 use Rattle.xa_server.specs.declared.replies.Reply.TheVariants.{Sent, Refused}
-use Rattle.xa_server.specs.Alone.{Event}
-use Rattle.xa_server.specs.Machine.{answer, general_reply, step}
+use Rattle.xa_server.specs.Alone.{Event, message_of, moment_of}
+use Rattle.xa_server.specs.Machine.{answer, general_reply, next_state, reply_of, step}
 use Rattle.xa_server.specs.Owner.{owner}
 use Rattle.xa_server.specs.World.{World}
 
@@ -20,8 +20,8 @@ state domain world = state_of domain world.kept
 -- the number and the epoch that belong to it; no other domain has changed in anything, and by an error answer nothing
 -- has
 pub record IsStep (old new : World) (domain : List ℕ) (moment : ℤ) (message : Message) (bytes : List ℕ) : Type 0 where
-  pub reply : bytes ≡ (step old.operator (state domain old) message moment).0
-  pub next : IsChanged old.kept new.kept domain (step old.operator (state domain old) message moment).1
+  pub reply : bytes ≡ reply_of (step old.operator (state domain old) message moment)
+  pub next : IsChanged old.kept new.kept domain (next_state (step old.operator (state domain old) message moment))
   pub error_answer : OnErr (answer old.operator (state domain old) message moment) (new ≡ old)
   pub operator : new.operator ≡ old.operator
 
@@ -51,6 +51,6 @@ CountsReply old new (Refused Store) = IsOneMore old new
 abbrev pub IsRun : World → List Event → List Reply → World → Type 0
 IsRun old [] [] new = new ≡ old
 IsRun old (event ∷ events) (reply ∷ replies) new =
-    (mid : World) × IsServed old mid event.0 event.1 reply × IsRun mid events replies new
+    (mid : World) × IsServed old mid (moment_of event) (message_of event) reply × IsRun mid events replies new
 IsRun old [] (_ ∷ _) new = ⊥
 IsRun old (_ ∷ _) [] new = ⊥

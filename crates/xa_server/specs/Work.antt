@@ -20,7 +20,7 @@ use Rattle.xa_server.specs.declared.error_code.ErrorCode.{ErrorCode}
 use Rattle.xa_server.specs.declared.replies.Reply.{Reply}
 use Rattle.xa_server.specs.declared.replies.Reply.TheVariants.{Sent, Refused}
 use Rattle.xa_server.specs.declared.revision.Revision.{Revision}
-use Rattle.xa_server.specs.Alone.{Event}
+use Rattle.xa_server.specs.Alone.{Event, message_of, moment_of}
 use Rattle.xa_server.specs.Decisions.{DecisionsModel}
 use Rattle.xa_server.specs.Machine.{admitted}
 use Rattle.xa_server.specs.Owner.{name_if}
@@ -120,8 +120,8 @@ IsWork kept moment message reply old new =
 abbrev pub IsWorkOfRun : World → DecisionsModel → List Event → List Reply → World → DecisionsModel → Type 0
 IsWorkOfRun old decisions [] [] new left = (new ≡ old) × (left ≡ decisions)
 IsWorkOfRun old decisions (event ∷ events) (reply ∷ replies) new left =
-    (mid : World) × (between : DecisionsModel) × IsServed old mid event.0 event.1 reply
-    × IsWork old.kept event.0 event.1 reply decisions between
+    (mid : World) × (between : DecisionsModel) × IsServed old mid (moment_of event) (message_of event) reply
+    × IsWork old.kept (moment_of event) (message_of event) reply decisions between
     × IsWorkOfRun mid between events replies new left
 IsWorkOfRun old decisions [] (_ ∷ _) new left = ⊥
 IsWorkOfRun old decisions (_ ∷ _) [] new left = ⊥
