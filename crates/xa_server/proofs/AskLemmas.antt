@@ -22,8 +22,8 @@ use Rattle.xa_records.specs.Readings.{gate_of_domain}
 use Rattle.xa_server.specs.declared.error_code.ErrorCode.{ErrorCode}
 use Rattle.xa_server.specs.declared.error_code.ErrorCode.TheVariants as error
 use Rattle.xa_server.specs.declared.revision.Revision.{Revision}
-use Rattle.xa_server.specs.declared.unsuccessful.Unsuccessful.{Unsuccessful}
-use Rattle.xa_server.specs.declared.unsuccessful.Unsuccessful.TheVariants.{Error, Failed}
+use Rattle.xa_server.specs.declared.handling_error.HandlingError.{HandlingError}
+use Rattle.xa_server.specs.declared.handling_error.HandlingError.TheVariants.{Error, Failed}
 use Rattle.xa_server.specs.Gates.{revision_by, revision_of}
 use Rattle.xa_server.specs.handling.Asking.{IsFresh, IsNoted, IsResponseReply, evaluated_in, key_within, reply_told, response_told, view_told}
 use Rattle.xa_server.specs.handling.Replying.{Answers, OnlyReads, Shows}
@@ -83,12 +83,12 @@ by_view (Some state) view body moment is =
     let same : view_of state ≡ view = let it : Ok (view_of state) ≡ Ok view = is in cc in ap (λ v. ok_or (response_of v body moment) (error.Body NotJson)) same
 
 -- the reply is that of the domain
-pub replied : (old new : Kept) (name body : List ℕ) (moment : ℤ) (view : Viewed) (result : Result (List ℕ) Unsuccessful) → view_told (state_of name old) ≡ Ok view
+pub replied : (old new : Kept) (name body : List ℕ) (moment : ℤ) (view : Viewed) (result : Result (List ℕ) HandlingError) → view_told (state_of name old) ≡ Ok view
     → IsResponseReply (response_of view body moment) result → new ≡ old → Shows old new result (reply_told body moment (state_of name old))
 replied old new name body moment view result is meant same =
     subst (λ told. Shows old new result (told >>= (λ response. Ok (decision_reply response.0)))) (sym (by_view (state_of name old) view body moment is))
     (by_response (response_of view body moment) result meant) where
-      by_response : (response : Option (List ℕ × Bool)) (r : Result (List ℕ) Unsuccessful) → IsResponseReply response r → Shows old new r (ok_or response (error.Body NotJson) >>= (λ pair. Ok (decision_reply pair.0)))
+      by_response : (response : Option (List ℕ × Bool)) (r : Result (List ℕ) HandlingError) → IsResponseReply response r → Shows old new r (ok_or response (error.Body NotJson) >>= (λ pair. Ok (decision_reply pair.0)))
       by_response (Some pair) (Ok bytes) meant = (let e : decision_reply pair.0 ≡ bytes = cc in ap Ok e, same)
       by_response None (Ok bytes) meant = absurd cc
       by_response (Some pair) (Err (Error code)) (none, no_json) = absurd cc
@@ -101,7 +101,7 @@ worked_by None view body moment is = absurd cc
 worked_by (Some state) view body moment is =
     let same : view_of state ≡ view = let it : Ok (view_of state) ≡ Ok view = is in cc in ap (λ v. response_of v body moment) (sym same)
 
-pub works_by : (state : Option DomainState) (view : Viewed) (body : List ℕ) (moment : ℤ) (key : Key) (result : Result (List ℕ) Unsuccessful) (old new : DecisionsModel) → view_told state ≡ Ok view
+pub works_by : (state : Option DomainState) (view : Viewed) (body : List ℕ) (moment : ℤ) (key : Key) (result : Result (List ℕ) HandlingError) (old new : DecisionsModel) → view_told state ≡ Ok view
     → IsFresh key (response_of view body moment) result old new → IsFresh key (evaluated_in state body moment) result old new
 works_by state view body moment key result old new is works = subst (λ worked. IsFresh key worked result old new) (worked_by state view body moment is) works
 
@@ -124,7 +124,7 @@ machine_tells (Some state) body moment = by_answer (decision.answer (view_of sta
   by_answer None e = rw e refl
   by_answer (Some answered) e = rw e refl
 
-pub answers : (old new : Kept) (name body : List ℕ) (moment : ℤ) (result : Result (List ℕ) Unsuccessful) → Shows old new result (reply_told body moment (state_of name old))
+pub answers : (old new : Kept) (name body : List ℕ) (moment : ℤ) (result : Result (List ℕ) HandlingError) → Shows old new result (reply_told body moment (state_of name old))
     → Answers old new name result (told (response_to body moment) (state_of name old))
 answers old new name body moment (Ok bytes) (meant, same) =
     (state_of name old, machine_tells (state_of name old) body moment ∙ ap (λ told. told >>= λ bs. Ok (bs, state_of name old)) meant, stays old new name same)
@@ -133,21 +133,21 @@ answers old new name body moment (Err (Error code)) (meant, same) =
 answers old new name body moment (Err (Failed failure)) same = same
 
 -- nothing has changed
-pub told_same : (old new : Kept) (result : Result (List ℕ) Unsuccessful) (meant : Result (List ℕ) ErrorCode) → Shows old new result meant → new ≡ old
+pub told_same : (old new : Kept) (result : Result (List ℕ) HandlingError) (meant : Result (List ℕ) ErrorCode) → Shows old new result meant → new ≡ old
 told_same old new (Ok bytes) meant told = told.1
 told_same old new (Err (Error code)) meant told = told.1
 told_same old new (Err (Failed failure)) meant same = same
 
 -- the keeper isn't asked, and the views are as they were
-pub keeper_left : (custody : Custody) (view : Viewed) (body : List ℕ) (moment : ℤ) (result : Result (List ℕ) Unsuccessful) → IsResponseReply (response_of view body moment) result → OnlyReads custody custody result
+pub keeper_left : (custody : Custody) (view : Viewed) (body : List ℕ) (moment : ℤ) (result : Result (List ℕ) HandlingError) → IsResponseReply (response_of view body moment) result → OnlyReads custody custody result
 keeper_left custody view body moment (Ok bytes) meant = record { sound = λ sound. sound; clean = λ clean. clean; stays = λ clean sound. sound; leaves = λ clean sound left is. is; counts = refl }
 keeper_left custody view body moment (Err (Error code)) meant = record { sound = λ sound. sound; clean = λ clean. clean; stays = λ clean sound. sound; leaves = λ clean sound left is. is; counts = refl }
 keeper_left custody view body moment (Err (Failed Memory)) meant = record { sound = λ sound. sound; clean = λ clean. clean; stays = λ clean sound. tt; leaves = λ clean sound left is. is; counts = refl }
 keeper_left custody view body moment (Err (Failed Store)) meant = let none : Store ≡ Memory = meant in absurd cc
 
-pub views_left : (result : Result (List ℕ) Unsuccessful) (claim : Type 0) → claim → OnErr result claim
+pub views_left : (result : Result (List ℕ) HandlingError) (claim : Type 0) → claim → OnErr result claim
 views_left (Ok bytes) claim holds = tt
-views_left (Err unsuccessful) claim holds = holds
+views_left (Err handling_error) claim holds = holds
 
 -- ---- the key of a body
 
@@ -235,14 +235,14 @@ unasked view body moment none =
 
 module _ (kept : Kept) (name body : List ℕ) (moment : ℤ) (revision : Revision) (opens : revision_of name kept ≡ Some revision) (none : asks_policies body ≡ false) where
   -- the reply by it is that of the domain
-  pub unasked_reply : (result : Result (List ℕ) Unsuccessful) → IsResponseReply (response_of nothing_viewed body moment) result → Shows kept kept result (reply_told body moment (state_of name kept))
+  pub unasked_reply : (result : Result (List ℕ) HandlingError) → IsResponseReply (response_of nothing_viewed body moment) result → Shows kept kept result (reply_told body moment (state_of name kept))
   unasked_reply result meant = by_domain (domain_of_revision kept name revision opens) where
     by_domain : ((d : Domain) × (get kept.domains name ≡ Some d) × (revision_by (gate_of_domain d) ≡ revision)) → Shows kept kept result (reply_told body moment (state_of name kept))
     by_domain (d, there, is) =
         replied kept kept name body moment (view_of d.state) result (rw there refl) (subst (λ r. IsResponseReply r result) (unasked (view_of d.state) body moment none) meant) refl
 
   -- and so is the work
-  pub unasked_works : (key : Key) (result : Result (List ℕ) Unsuccessful) (old new : DecisionsModel) → IsFresh key (response_of nothing_viewed body moment) result old new
+  pub unasked_works : (key : Key) (result : Result (List ℕ) HandlingError) (old new : DecisionsModel) → IsFresh key (response_of nothing_viewed body moment) result old new
       → IsFresh key (evaluated_in (state_of name kept) body moment) result old new
   unasked_works key result old new works = by_domain (domain_of_revision kept name revision opens) where
     by_domain : ((d : Domain) × (get kept.domains name ≡ Some d) × (revision_by (gate_of_domain d) ≡ revision)) → IsFresh key (evaluated_in (state_of name kept) body moment) result old new

@@ -9,29 +9,29 @@ use Rattle.xa_http.specs.declared.route.RouteFault.{RouteFault}
 use Rattle.xa_http.specs.Routes.{route_of}
 use Rattle.xa_records.specs.Kept.{IsChanged, Kept}
 use Rattle.xa_server.specs.Crash.{IfSent, IsStepMade}
-use Rattle.xa_server.specs.declared.received.Received.{Received}
+use Rattle.xa_server.specs.declared.received_message.ReceivedMessage.{ReceivedMessage}
 use Rattle.xa_server.specs.declared.replies.Reply.{Reply}
-use Rattle.xa_server.specs.declared.unsuccessful.Unsuccessful.{Unsuccessful}
-use Rattle.xa_server.specs.declared.unsuccessful.Unsuccessful.TheVariants.{Error, Failed}
+use Rattle.xa_server.specs.declared.handling_error.HandlingError.{HandlingError}
+use Rattle.xa_server.specs.declared.handling_error.HandlingError.TheVariants.{Error, Failed}
 use Rattle.xa_server.specs.handling.Replying.{Counts, IfTold, IsAnswerMade, IsReplyOf, LeavesMessage, LeavesNoMore, LeavesRoute}
 use Rattle.xa_server.specs.Machine.{Answer, answer, reply_and_state, step}
 use Rattle.xa_server.specs.Served.{state}
-use Rattle.xa_server.specs.handling.Unsuccessful.{unsuccessful_of_route}
+use Rattle.xa_server.specs.handling.HandlingError.{error_of_route}
 use Rattle.xa_server.specs.World.{World}
 use Rattle.xa_server.proofs.ServedLemmas.{world_of}
 
 module _ (before after : Kept → Type 0) where
   -- a message that makes no change, whichever domain it is of
-  pub no_more_route : (received : Received) (old : Kept) (named : Option (List ℕ)) (route : Route) → LeavesNoMore before after → LeavesRoute before after received old named route
+  pub no_more_route : (received : ReceivedMessage) (old : Kept) (named : Option (List ℕ)) (route : Route) → LeavesNoMore before after → LeavesRoute before after received old named route
   no_more_route received old None route less = less
   no_more_route received old (Some name) route less = λ left may. inl (less left may)
 
-  pub no_more : (received : Received) (old : Kept) (named : Option (List ℕ)) → LeavesNoMore before after → LeavesMessage before after received old named
+  pub no_more : (received : ReceivedMessage) (old : Kept) (named : Option (List ℕ)) → LeavesNoMore before after → LeavesMessage before after received old named
   no_more received old None less = less
   no_more received old (Some name) less = λ left may. inl (less left may)
 
   -- what the message asks for
-  pub asked_left : (received : Received) (old : Kept) (named : Option (List ℕ)) (route : Route) → route_of received.message.now ≡ Ok route
+  pub asked_left : (received : ReceivedMessage) (old : Kept) (named : Option (List ℕ)) (route : Route) → route_of received.message.now ≡ Ok route
       → LeavesRoute before after received old named route → LeavesMessage before after received old named
   unfolding answer
   asked_left received old None route asks leaves = leaves
@@ -45,7 +45,7 @@ step_made old left name message moment (Ok (bytes, after)) is made = subst (IsCh
 step_made old left name message moment (Err code) is made = absurd made
 
 -- what a message leaves is what its step leaves
-pub step_left : (before after : Kept → Type 0) (received : Received) (kept : Kept) (named : Option (List ℕ)) → LeavesMessage before after received kept named
+pub step_left : (before after : Kept → Type 0) (received : ReceivedMessage) (kept : Kept) (named : Option (List ℕ)) → LeavesMessage before after received kept named
     → (left : Kept) → after left → before left ⊎ IsStepMade (world_of received kept) left received.moment received.message.now named
 step_left before after received kept None leaves left may = inl (leaves left may)
 step_left before after received kept (Some name) leaves left may = elim (leaves left may) [
@@ -56,17 +56,17 @@ step_left before after received kept (Some name) leaves left may = elim (leaves 
 ]
 
 -- a message that didn't fail is the only one whose reply is sent
-pub if_sent : (claim : Type 0) (result : Result (List ℕ) Unsuccessful) (reply : Reply) → IfTold result claim → IsReplyOf result reply → IfSent reply claim
+pub if_sent : (claim : Type 0) (result : Result (List ℕ) HandlingError) (reply : Reply) → IfTold result claim → IsReplyOf result reply → IfSent reply claim
 if_sent claim (Ok bytes) reply told is = subst (λ r. IfSent r claim) (sym is) told
 if_sent claim (Err (Failed failure)) reply told is = subst (λ r. IfSent r claim) (sym is) tt
 if_sent claim (Err (Error code)) reply told (inl is) = subst (λ r. IfSent r claim) (sym is) told
 if_sent claim (Err (Error code)) reply told (inr is) = subst (λ r. IfSent r claim) (sym is) tt
 
 -- a message that asks for nothing that is served, or of which that wasn't found out, was told so, and nothing is counted
-pub unasked_told : (error : OrMemory RouteFault) (claim : Type 0) → claim → IfTold {X = List ℕ} (Err (unsuccessful_of_route error)) claim
+pub unasked_told : (error : OrMemory RouteFault) (claim : Type 0) → claim → IfTold {X = List ℕ} (Err (error_of_route error)) claim
 unasked_told or_memory.Memory claim is = tt
 unasked_told (or_memory.Error fault) claim is = is
 
-pub unasked_counts : (error : OrMemory RouteFault) (faults : ℕ) → Counts {X = List ℕ} faults faults (Err (unsuccessful_of_route error))
+pub unasked_counts : (error : OrMemory RouteFault) (faults : ℕ) → Counts {X = List ℕ} faults faults (Err (error_of_route error))
 unasked_counts or_memory.Memory faults = refl
 unasked_counts (or_memory.Error fault) faults = refl

@@ -5,10 +5,10 @@ use Rattle.xa_records.specs.declared.refusal.Failure.TheVariants.{Memory, Store}
 use Rattle.xa_records.specs.Kept.{IsChanged, Kept, state_of}
 use Rattle.xa_server.specs.Alone.{Event}
 use Rattle.xa_server.specs.declared.error_code.ErrorCode.{ErrorCode}
-use Rattle.xa_server.specs.declared.received.Received.{Received}
+use Rattle.xa_server.specs.declared.received_message.ReceivedMessage.{ReceivedMessage}
 use Rattle.xa_server.specs.declared.replies.Reply.{Reply}
-use Rattle.xa_server.specs.declared.unsuccessful.Unsuccessful.{Unsuccessful}
-use Rattle.xa_server.specs.declared.unsuccessful.Unsuccessful.TheVariants.{Error, Failed}
+use Rattle.xa_server.specs.declared.handling_error.HandlingError.{HandlingError}
+use Rattle.xa_server.specs.declared.handling_error.HandlingError.TheVariants.{Error, Failed}
 use Rattle.xa_server.specs.ErrorCode.{error_reply}
 use Rattle.xa_server.specs.handling.Replying.{AnswersMessage, Counts, IsReplyOf}
 use Rattle.xa_server.specs.Machine.{Answer, general_reply, reply_and_state, reply_or_error, step}
@@ -25,11 +25,11 @@ unmoved : (old new : World) → new.kept ≡ old.kept → new.operator ≡ old.o
 unmoved old new kept operator = ap (over new.operator) kept ∙ ap (λ (o : List ℕ). over o old.kept) operator
 
 -- the domains at which a message was received, with the operator
-abbrev pub world_of : Received → Kept → World
+abbrev pub world_of : ReceivedMessage → Kept → World
 world_of received kept = over received.operator kept
 
 -- a message that was answered with success, by its owner
-sent : (received : Received) (old : Kept) (new : World) (named : Option (List ℕ)) (bytes : List ℕ)
+sent : (received : ReceivedMessage) (old : Kept) (new : World) (named : Option (List ℕ)) (bytes : List ℕ)
     → AnswersMessage received old new.kept named (Ok bytes) → new.operator ≡ received.operator → IsSent (world_of received old) new received.moment received.message.now bytes named
 unfolding general_reply step
 sent received old new None bytes answered operator =
@@ -42,7 +42,7 @@ sent received old new (Some name) bytes (after, meant, changed) operator = recor
 }
 
 -- by an error answer
-turned_away : (received : Received) (old : Kept) (new : World) (named : Option (List ℕ)) (code : ErrorCode)
+turned_away : (received : ReceivedMessage) (old : Kept) (new : World) (named : Option (List ℕ)) (code : ErrorCode)
     → AnswersMessage received old new.kept named (Err (Error code)) → new.operator ≡ received.operator
     → IsSent (world_of received old) new received.moment received.message.now (error_reply code) named
 unfolding general_reply step
@@ -56,14 +56,14 @@ turned_away received old new (Some name) code answered operator = record {
 }
 
 -- without success nothing has changed
-kept_so : (received : Received) (old new : Kept) (named : Option (List ℕ)) (unsuccessful : Unsuccessful) → AnswersMessage received old new named (Err unsuccessful) → new ≡ old
+kept_so : (received : ReceivedMessage) (old new : Kept) (named : Option (List ℕ)) (handling_error : HandlingError) → AnswersMessage received old new named (Err handling_error) → new ≡ old
 kept_so received old new None (Error code) answered = answered.1
 kept_so received old new None (Failed failure) answered = answered
 kept_so received old new (Some name) (Error code) answered = answered.1
 kept_so received old new (Some name) (Failed failure) answered = answered
 
 -- what goes back for a message is what serving it gives
-pub served : (received : Received) (old : Kept) (new : World) (result : Result (List ℕ) Unsuccessful) (reply : Reply)
+pub served : (received : ReceivedMessage) (old : Kept) (new : World) (result : Result (List ℕ) HandlingError) (reply : Reply)
     → AnswersMessage received old new.kept (owner received.message.now) result → IsReplyOf result reply
     → new.operator ≡ received.operator → IsServed (world_of received old) new received.moment received.message.now reply
 served received old new (Ok bytes) reply answered is operator =
@@ -80,7 +80,7 @@ served received old new (Err (Error code)) reply answered (inr is) operator =
     (unmoved (world_of received old) new (kept_so received old new.kept (owner received.message.now) (Error code) answered) operator)
 
 -- the keeper's count, by what goes back
-pub counted : (old new : ℕ) (result : Result (List ℕ) Unsuccessful) (reply : Reply) → Counts old new result → IsReplyOf result reply → CountsReply old new reply
+pub counted : (old new : ℕ) (result : Result (List ℕ) HandlingError) (reply : Reply) → Counts old new result → IsReplyOf result reply → CountsReply old new reply
 counted old new (Ok bytes) reply counts is = subst (CountsReply old new) (sym is) counts
 counted old new (Err (Failed Memory)) reply counts is = subst (CountsReply old new) (sym is) counts
 counted old new (Err (Failed Store)) reply counts is = subst (CountsReply old new) (sym is) counts

@@ -12,8 +12,8 @@ use Rattle.xa_records.specs.DomainState.{DomainState}
 use Rattle.xa_records.specs.Kept.{DecidesAlike, Domain, IsNumbered, Kept, state_of}
 use Rattle.xa_records.specs.Readings.{gate_of_domain}
 use Rattle.xa_server.specs.declared.revision.Revision.{Revision}
-use Rattle.xa_server.specs.declared.unsuccessful.Unsuccessful.{Unsuccessful}
-use Rattle.xa_server.specs.declared.unsuccessful.Unsuccessful.TheVariants.{Error, Failed}
+use Rattle.xa_server.specs.declared.handling_error.HandlingError.{HandlingError}
+use Rattle.xa_server.specs.declared.handling_error.HandlingError.TheVariants.{Error, Failed}
 use Rattle.xa_server.specs.Gates.{revision_by, revision_of}
 use Rattle.xa_server.specs.handling.Asking.{IsFresh, IsLookedUp, evaluated_in}
 use Rattle.xa_server.specs.Decisions.{DecisionsModel}
@@ -95,7 +95,7 @@ module _ (kept' : Kept) (numbered : IsNumbered kept') (name : List ℕ) (domain'
   valid_worked (Some (decided, timeless)) old new e (counted, held) valid =
       valid_held decided timeless (timeless && fits (cache_key domain' body) decided) (first timeless (fits (cache_key domain' body) decided)) old new e held valid
 
-  valid_fresh : (result : Result (List ℕ) Unsuccessful) (old new : DecisionsModel) → IsFresh (cache_key domain' body) (evaluated_response domain'.state body moment) result old new
+  valid_fresh : (result : Result (List ℕ) HandlingError) (old new : DecisionsModel) → IsFresh (cache_key domain' body) (evaluated_response domain'.state body moment) result old new
       → AreValid kept' old.cached → AreValid kept' new.cached
   valid_fresh (Ok bytes) old new work valid = valid_worked (evaluated_response domain'.state body moment) old new refl work valid
   valid_fresh (Err (Error code)) old new (none, same) valid = subst (λ t. AreValid kept' t.cached) (sym same) valid
@@ -107,7 +107,7 @@ looked_valid kept None key old new same valid = subst (λ t. AreValid kept t.cac
 looked_valid kept (Some body) key old new moved valid = subst (λ t. AreValid kept t.cached) (sym moved) (all_looked (IsValid kept) key old.cached valid)
 
 -- after a decision was evaluated in the domain of that revision
-pub fresh_valid : (kept : Kept) (name body : List ℕ) (moment : ℤ) (revision : Revision) (result : Result (List ℕ) Unsuccessful) (old new : DecisionsModel) → IsNumbered kept → revision_of name kept ≡ Some revision
+pub fresh_valid : (kept : Kept) (name body : List ℕ) (moment : ℤ) (revision : Revision) (result : Result (List ℕ) HandlingError) (old new : DecisionsModel) → IsNumbered kept → revision_of name kept ≡ Some revision
     → IsFresh (key_of_revision revision body) (evaluated_in (state_of name kept) body moment) result old new → AreValid kept old.cached → AreValid kept new.cached
 fresh_valid kept name body moment revision result old new numbered opens work valid = by_gate (domain_of_revision kept name revision opens) where
   by_gate : ((d : Domain) × (get kept.domains name ≡ Some d) × (revision_by (gate_of_domain d) ≡ revision)) → AreValid kept new.cached

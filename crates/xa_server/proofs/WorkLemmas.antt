@@ -17,13 +17,13 @@ use Rattle.xa_records.specs.Readings.{gate_of, gate_of_domain}
 use Rattle.xa_server.specs.Alone.{Event}
 use Rattle.xa_server.specs.declared.replies.Reply.{Reply}
 use Rattle.xa_server.specs.declared.revision.Revision.{Revision}
-use Rattle.xa_server.specs.declared.received.Received.{Received}
-use Rattle.xa_server.specs.declared.unsuccessful.Unsuccessful.{Unsuccessful}
-use Rattle.xa_server.specs.declared.unsuccessful.Unsuccessful.TheVariants.{Error, Failed}
+use Rattle.xa_server.specs.declared.received_message.ReceivedMessage.{ReceivedMessage}
+use Rattle.xa_server.specs.declared.handling_error.HandlingError.{HandlingError}
+use Rattle.xa_server.specs.declared.handling_error.HandlingError.TheVariants.{Error, Failed}
 use Rattle.xa_server.specs.Gates.{revision_by, revision_of}
 use Rattle.xa_server.specs.handling.Asking.{IsAsked, IsFresh, WorksMessage, WorksOf, WorksRoute}
 use Rattle.xa_server.specs.handling.Replying.{IsReplyOf}
-use Rattle.xa_server.specs.handling.Unsuccessful.{unsuccessful_of_route}
+use Rattle.xa_server.specs.handling.HandlingError.{error_of_route}
 use Rattle.xa_server.specs.Decisions.{DecisionsModel}
 use Rattle.xa_server.specs.Served.{IsServed}
 use Rattle.xa_server.specs.Work.{IsAskWork, IsEvaluated, IsWork, IsWorkOf, IsWorkOfRun, cache_key, cached_body, domain_of_message, evaluated_response}
@@ -60,19 +60,19 @@ domain_of_revision kept name revision opens = by_domain (get kept.domains name) 
 
 -- ---- what the message asks for
 
-pub asked_work : (received : Received) (kept : Kept) (route : Route) (result : Result (List ℕ) Unsuccessful) (old new : DecisionsModel) → route_of received.message.now ≡ Ok route
+pub asked_work : (received : ReceivedMessage) (kept : Kept) (route : Route) (result : Result (List ℕ) HandlingError) (old new : DecisionsModel) → route_of received.message.now ≡ Ok route
     → WorksRoute received kept route result old new → WorksMessage received kept result old new
 asked_work received kept route result old new asks work = rw asks work
 
-pub unasked_work : (received : Received) (kept : Kept) (error : OrMemory RouteFault) (decisions : DecisionsModel) → Gives {X = Route} (Err error) (route_of received.message.now)
-    → WorksMessage received kept (Err (unsuccessful_of_route error)) decisions decisions
+pub unasked_work : (received : ReceivedMessage) (kept : Kept) (error : OrMemory RouteFault) (decisions : DecisionsModel) → Gives {X = Route} (Err error) (route_of received.message.now)
+    → WorksMessage received kept (Err (error_of_route error)) decisions decisions
 unasked_work received kept or_memory.Memory decisions gives =
     failed (domain_of_message kept received.message.now (route_of received.message.now)) received.message.now.body received.moment Memory decisions
 unasked_work received kept (or_memory.Error fault) decisions gives = rw gives refl
 
 -- ---- what goes back
 
-fresh_work : (key : Key) (worked : Option (List ℕ × Bool)) (result : Result (List ℕ) Unsuccessful) (reply : Reply) (old new : DecisionsModel)
+fresh_work : (key : Key) (worked : Option (List ℕ × Bool)) (result : Result (List ℕ) HandlingError) (reply : Reply) (old new : DecisionsModel)
     → IsFresh key worked result old new → IsReplyOf result reply → IsAskWork key None worked reply old new
 fresh_work key worked (Ok bytes) reply old new work is = subst (λ r. IsAskWork key None worked r old new) (sym is) work
 fresh_work key worked (Err (Failed failure)) reply old new work is = subst (λ r. IsAskWork key None worked r old new) (sym is) (inl work)
@@ -80,14 +80,14 @@ fresh_work key worked (Err (Error code)) reply old new (none, same) (inl is) =
     subst (λ r. IsAskWork key None worked r old new) (sym is) (subst (λ w. IsEvaluated key w old new) (sym none) same)
 fresh_work key worked (Err (Error code)) reply old new (none, same) (inr is) = subst (λ r. IsAskWork key None worked r old new) (sym is) (inl same)
 
-ask_work : (key : Key) (held : Option (List ℕ)) (worked : Option (List ℕ × Bool)) (result : Result (List ℕ) Unsuccessful) (reply : Reply) (old new : DecisionsModel)
+ask_work : (key : Key) (held : Option (List ℕ)) (worked : Option (List ℕ × Bool)) (result : Result (List ℕ) HandlingError) (reply : Reply) (old new : DecisionsModel)
     → IsAsked key held worked result old new → IsReplyOf result reply → IsAskWork key held worked reply old new
 ask_work key None worked result reply old new work is = fresh_work key worked result reply old new work is
 ask_work key (Some body) worked (Ok bytes) reply old new work is = subst (λ r. IsAskWork key (Some body) worked r old new) (sym is) work
 ask_work key (Some body) worked (Err (Failed failure)) reply old new work is = subst (λ r. IsAskWork key (Some body) worked r old new) (sym is) work
 ask_work key (Some body) worked (Err (Error code)) reply old new work is = elim work [ ]
 
-pub work_of : (asked : Option Domain) (body : List ℕ) (moment : ℤ) (result : Result (List ℕ) Unsuccessful) (reply : Reply) (old new : DecisionsModel)
+pub work_of : (asked : Option Domain) (body : List ℕ) (moment : ℤ) (result : Result (List ℕ) HandlingError) (reply : Reply) (old new : DecisionsModel)
     → WorksOf asked body moment result old new → IsReplyOf result reply → IsWorkOf asked body moment reply old new
 work_of None body moment result reply old new work is = work
 work_of (Some domain) body moment result reply old new work is =

@@ -5,7 +5,7 @@ use Rattle.std.specs.List.{AllByRecursion}
 use Rattle.xa_records.specs.declared.gate.Gate.{Gate}
 use Rattle.xa_records.specs.Kept.{Kept}
 use Rattle.xa_records.specs.Readings.{gate_of}
-use Rattle.xa_server.specs.declared.ready.Ready.{Ready}
+use Rattle.xa_server.specs.declared.cached_view.CachedView.{CachedView}
 use Rattle.xa_server.specs.Decisions.{DecisionsModel, nothing_cached}
 use Rattle.xa_server.specs.Gates.{promoted, with_gate, without_gate}
 use Rattle.xa_server.specs.Standing.{StandsUnder}
@@ -28,11 +28,11 @@ empty_resources = record {
 }
 
 -- a cached view is that of the domain of its number, if this is still there and at the view's epoch
-abbrev pub IsReady : Kept → ℕ × Ready → Type 0
+abbrev pub IsReady : Kept → ℕ × CachedView → Type 0
 IsReady kept entry = StandsUnder kept entry.0 entry.1.revision.epoch (λ state. view_of state ≡ entry.1.view)
 
 -- all cached views are right
-abbrev pub AreReady : Kept → List (ℕ × Ready) → Type 0
+abbrev pub AreReady : Kept → List (ℕ × CachedView) → Type 0
 AreReady kept views = AllByRecursion (IsReady kept) views
 
 -- a remembered gate is that of the domain of its name

@@ -6,20 +6,20 @@ use Rattle.std.specs.Map.{lookup, remove_entry}
 use Rattle.lru.specs.LruCache.{promoted as entries_promoted}
 use Rattle.xa_decide.specs.Decision.{Viewed}
 use Rattle.xa_decide.specs.Nodes.{nodes_of_tree}
-use Rattle.xa_server.specs.declared.ready.Ready.{Ready}
+use Rattle.xa_server.specs.declared.cached_view.CachedView.{CachedView}
 
 -- the cached views, how many of them there may be, and how many bytes they may take together
 pub record ViewsModel : Type 0 where
-  pub views : List (ℕ × Ready)
+  pub views : List (ℕ × CachedView)
   pub max_count : ℕ
   pub max_bytes : ℕ
 
 -- a cached view, if it is of that epoch
-abbrev pub view_if : ℕ → Ready → Option Viewed
+abbrev pub view_if : ℕ → CachedView → Option Viewed
 view_if epoch ready = if nat_eq ready.revision.epoch epoch then Some ready.view else None
 
 -- the cached view under a number, if it is of that epoch
-abbrev pub view_ready : ℕ → ℕ → List (ℕ × Ready) → Option Viewed
+abbrev pub view_ready : ℕ → ℕ → List (ℕ × CachedView) → Option Viewed
 view_ready number epoch views = option_and_then (view_if epoch) (lookup (nat_eq number) views)
 
 -- the cached views after the one under a number was made the most recently used
@@ -31,22 +31,22 @@ abbrev pub without : ℕ → ViewsModel → ViewsModel
 without number cached = record cached { views = remove_entry (nat_eq number) cached.views }
 
 -- how many views from the front of a list find room, if there is room for so many of so many bytes
-abbrev pub fitting_count : ℕ → ℕ → List (ℕ × Ready) → ℕ
+abbrev pub fitting_count : ℕ → ℕ → List (ℕ × CachedView) → ℕ
 fitting_count most bytes [] = 0
 fitting_count most bytes (entry ∷ entries) =
     if nat_lt 0 most && nat_le entry.1.bytes bytes then fitting_count (most - 1) (bytes - entry.1.bytes) entries + 1
     else 0
 
 -- a list of views with one more first, and nothing else under its number
-abbrev pub in_front : ℕ → Ready → List (ℕ × Ready) → List (ℕ × Ready)
+abbrev pub in_front : ℕ → CachedView → List (ℕ × CachedView) → List (ℕ × CachedView)
 in_front number ready views = (number, ready) ∷ remove_entry (nat_eq number) views
 
 -- the views from the front of a list, as many as find room
-abbrev pub shortened : ℕ → ℕ → List (ℕ × Ready) → List (ℕ × Ready)
+abbrev pub shortened : ℕ → ℕ → List (ℕ × CachedView) → List (ℕ × CachedView)
 shortened most bytes views = take (fitting_count most bytes views) views
 
 -- the cached views with one more under a number
-abbrev pub with_view : ℕ → Ready → ViewsModel → ViewsModel
+abbrev pub with_view : ℕ → CachedView → ViewsModel → ViewsModel
 with_view number ready cached =
     record cached { views = shortened cached.max_count cached.max_bytes (in_front number ready cached.views) }
 

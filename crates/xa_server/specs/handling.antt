@@ -2,8 +2,8 @@
 pub mod Answering
 pub mod Asking
 pub mod Driving
+pub mod HandlingError
 pub mod Lending
 pub mod Replying
 pub mod Sending
-pub mod Unsuccessful
 pub mod Viewing

@@ -11,9 +11,9 @@ ghost use Rattle.xa_server.specs.Resources.{AllStand};
 use crate::authorization::token_in;
 use crate::error_code::ErrorCode;
 use crate::gates::role_in;
+use crate::handling_error::HandlingError;
 use crate::resources::Resources;
 use crate::revision::Revision;
-use crate::unsuccessful::Unsuccessful;
 use std::alloc::Global;
 use xa_http::Message;
 use xa_notation::Role;
@@ -56,7 +56,7 @@ fn gate_for<R: Records>(
     name: &Text,
     needed: Role,
     digest: &Digest,
-) -> Result<Gate, Unsuccessful>
+) -> Result<Gate, HandlingError>
     ensures tells { (R.custody records.new).sound
         → Opens (R.custody records.old).kept (R.custody records.new).kept
         (gate_of name.now (R.custody records.old).kept) result
@@ -75,7 +75,7 @@ pub(crate) fn admit<R: Records>(
     records: &mut R,
     name: &Text,
     message: &Message,
-) -> Result<(), Unsuccessful>
+) -> Result<(), HandlingError>
     ensures tells { Tells (R.custody records.old) (R.custody records.new) result
         (admitted Admin (state_of name.now (R.custody records.old).kept) message.now) }
     ensures keeper { OnlyReads (R.custody records.old) (R.custody records.new) result }
@@ -96,7 +96,7 @@ pub(crate) fn admit_ask<R: Records>(
     records: &mut R,
     name: &Text,
     message: &Message,
-) -> Result<Revision, Unsuccessful>
+) -> Result<Revision, HandlingError>
     ensures tells { AllStand (R.custody records.old).kept resources.old → (R.custody records.new).sound
         → Opens (R.custody records.old).kept (R.custody records.new).kept
         (revision_of name.now (R.custody records.old).kept) result

@@ -29,14 +29,14 @@ ghost use Rattle.xa_server.specs.handling.Viewing.{AreKeyed, nothing_viewed};
 ghost use Rattle.xa_server.specs.Views.{added, bytes_of_tree, bytes_of_view};
 ghost use Rattle.xa_server.specs.Work.{cached_body};
 
+use crate::cached_view::{CachedView, bytes_of_tree, bytes_of_view};
 use crate::decisions::{Decisions, key_within};
 use crate::error_code::{ABSENT, ErrorCode};
+use crate::handling_error::HandlingError;
 use crate::limits::Limits;
-use crate::ready::{Ready, bytes_of_tree, bytes_of_view};
 use crate::replies::decision_reply;
 use crate::resources::{PolicyTexts, Resources};
 use crate::revision::Revision;
-use crate::unsuccessful::Unsuccessful;
 use crate::view::view_of_kept;
 use std::alloc::Global;
 use xa_cache::Key;
@@ -77,7 +77,7 @@ fn kept_view<R: Records>(
     alloc: Global,
     records: &mut R,
     name: &Text,
-) -> Result<KeptView, Unsuccessful>
+) -> Result<KeptView, HandlingError>
     ensures tells { Tells (R.custody records.old) (R.custody records.new) result
         (ok_or (kept_view_of name.now (R.custody records.old).kept) (Keeper Absent)) }
     ensures keyed { (R.custody records.new).sound → IfOk result (λ kept. AreKeyed kept.texts) }
@@ -100,7 +100,7 @@ fn new_view<R: Records>(
     records: &mut R,
     ask: &Ask<'_>,
     limits: Limits,
-) -> Result<Ready, Unsuccessful>
+) -> Result<CachedView, HandlingError>
     ensures tells { MakesReady (R.custody records.old) (R.custody records.new) ask.now result }
     ensures estimate { (R.custody records.new).sound
         → IfOk result (λ ready. IfSome (kept_view_of ask.now.name.now (R.custody records.old).kept)
@@ -114,7 +114,7 @@ fn new_view<R: Records>(
     let view = view_of_kept(alloc, reader, kept)?;
     let read = left.saturating_sub(reader.left()) as usize;
     let bytes = bytes_of_view(read, rows).saturating_add(bytes_of_tree(&view));
-    Ok(Ready {
+    Ok(CachedView {
         revision: ask.revision,
         view: limits.apply_to(view),
         bytes,
@@ -129,7 +129,7 @@ fn new_view_within_limit<R: Records>(
     limits: Limits,
     records: &mut R,
     ask: &Ask<'_>,
-) -> Result<Ready, Unsuccessful>
+) -> Result<CachedView, HandlingError>
     ensures tells { MakesReady (R.custody records.old) (R.custody records.new) ask.now result }
     ensures keeper { OnlyReads (R.custody records.old) (R.custody records.new) result }
 {
@@ -147,7 +147,7 @@ fn reply_by_view(
     decisions: &mut Decisions,
     view: &View,
     read: ReadAsk<'_>,
-) -> Result<Items<u8>, Unsuccessful>
+) -> Result<Items<u8>, HandlingError>
     requires { HasItsKey read }
     ensures tells { IsResponseReply (response_asked view.now read.entry.ask.now read.entry.body) result }
     ensures works { IsFresh (key_asked read.entry.ask.now read.entry.body)
@@ -169,7 +169,7 @@ fn reply_by_new_view<R: Records>(
     resources: &mut Resources,
     records: &mut R,
     read: ReadAsk<'_>,
-) -> Result<Items<u8>, Unsuccessful>
+) -> Result<Items<u8>, HandlingError>
     requires { HasItsKey read }
     ensures tells { Tells (R.custody records.old) (R.custody records.new) result
         (reply_asked (R.custody records.old).kept read.entry.ask.now read.entry.body) }
@@ -184,7 +184,7 @@ fn reply_by_new_view<R: Records>(
 {
     if resources.texts.oversized.has(read.ask.revision) {
         // Over the limit of reading: refused as `Limits` says.
-        return Err(Unsuccessful::Failed(Failure::Memory));
+        return Err(HandlingError::Failed(Failure::Memory));
     }
     let limits = resources.limits;
     let ready = new_view_within_limit(alloc, &mut resources.texts, limits, records, read.ask)?;
@@ -200,7 +200,7 @@ fn reply_without_policies(
     decisions: &mut Decisions,
     limits: Limits,
     read: ReadAsk<'_>,
-) -> Result<Items<u8>, Unsuccessful>
+) -> Result<Items<u8>, HandlingError>
     requires { HasItsKey read }
     ensures tells { IsResponseReply
         (response_asked nothing_viewed read.entry.ask.now read.entry.body) result }
@@ -220,7 +220,7 @@ fn reply_to_read<R: Records>(
     resources: &mut Resources,
     records: &mut R,
     read: ReadAsk<'_>,
-) -> Result<Items<u8>, Unsuccessful>
+) -> Result<Items<u8>, HandlingError>
     requires { HasItsKey read }
     ensures { FreshReply (R.custody records.old) (R.custody records.new) read.entry.ask.now read.entry.body
         resources.old resources.new result }
@@ -247,7 +247,7 @@ fn evaluated_reply<R: Records>(
     ask: &Ask<'_>,
     key: Option<Key>,
     body: &[u8],
-) -> Result<Items<u8>, Unsuccessful>
+) -> Result<Items<u8>, HandlingError>
     requires { key ≡ key_within (key_asked ask.now body.now) }
     ensures { FreshReply (R.custody records.old) (R.custody records.new) ask.now body.now
         resources.old resources.new result }
@@ -265,7 +265,7 @@ pub(crate) fn reply_to_ask<R: Records>(
     records: &mut R,
     ask: &Ask<'_>,
     body: &[u8],
-) -> Result<Items<u8>, Unsuccessful>
+) -> Result<Items<u8>, HandlingError>
     ensures answers { IfLetIn (R.custody records.old) (R.custody records.new) ask.now resources.old
         (Answers (R.custody records.old).kept (R.custody records.new).kept ask.now.name.now result
         (told (response_to body.now ask.now.moment)

@@ -14,8 +14,8 @@ ghost use Rattle.xa_server.specs.handling.Replying.{HandlesChange, by_body};
 ghost use Rattle.xa_server.specs.Machine.{by_document_command, by_operator_command, changed, upload_reply};
 ghost use Rattle.xa_server.specs.Replies.{created_reply, done_reply};
 
+use crate::handling_error::HandlingError;
 use crate::replies::{created_reply, done_reply};
-use crate::unsuccessful::Unsuccessful;
 use std::alloc::Global;
 use xa_decide::read_rows;
 use xa_notation::{Parsed, read_new_token, read_old_token, read_root};
@@ -28,7 +28,7 @@ pub(crate) fn create_domain<R: Records>(
     alloc: Global,
     records: &mut R,
     name: &Text,
-) -> Result<Items<u8>, Unsuccessful>
+) -> Result<Items<u8>, HandlingError>
     requires { IsTrue (is_domain_name name.now) }
     ensures { HandlesChange (R.custody records.old) (R.custody records.new) name.now result
         (changed created_reply created) }
@@ -43,7 +43,7 @@ pub(crate) fn remove_domain<R: Records>(
     alloc: Global,
     records: &mut R,
     name: &Text,
-) -> Result<Items<u8>, Unsuccessful>
+) -> Result<Items<u8>, HandlingError>
     ensures { HandlesChange (R.custody records.old) (R.custody records.new) name.now result
         (changed done_reply removed) }
 {
@@ -58,7 +58,7 @@ pub(crate) fn put_token<R: Records>(
     records: &mut R,
     name: &Text,
     body: &[u8],
-) -> Result<Items<u8>, Unsuccessful>
+) -> Result<Items<u8>, HandlingError>
     ensures { HandlesChange (R.custody records.old) (R.custody records.new) name.now result
         (by_operator_command operator.PutToken body.now) }
 {
@@ -75,7 +75,7 @@ pub(crate) fn drop_token<R: Records>(
     records: &mut R,
     name: &Text,
     body: &[u8],
-) -> Result<Items<u8>, Unsuccessful>
+) -> Result<Items<u8>, HandlingError>
     ensures { HandlesChange (R.custody records.old) (R.custody records.new) name.now result
         (by_operator_command operator.DropToken body.now) }
 {
@@ -92,7 +92,7 @@ pub(crate) fn upload<R: Records>(
     records: &mut R,
     name: &Text,
     body: &[u8],
-) -> Result<Items<u8>, Unsuccessful>
+) -> Result<Items<u8>, HandlingError>
     ensures { HandlesChange (R.custody records.old) (R.custody records.new) name.now result
         (by_body (λ parsed state. changed (upload_reply (upload_of (key_of parsed) state))
         (within (uploaded (key_of parsed) body.now)) state) (document_of body.now)) }
@@ -113,7 +113,7 @@ pub(crate) fn set_root<R: Records>(
     records: &mut R,
     name: &Text,
     body: &[u8],
-) -> Result<Items<u8>, Unsuccessful>
+) -> Result<Items<u8>, HandlingError>
     ensures { HandlesChange (R.custody records.old) (R.custody records.new) name.now result
         (by_body (λ root. changed done_reply (within (root_set root))) (root_of body.now)) }
 {
@@ -129,7 +129,7 @@ pub(crate) fn set_source<R: Records>(
     records: &mut R,
     name: &Text,
     body: &[u8],
-) -> Result<Items<u8>, Unsuccessful>
+) -> Result<Items<u8>, HandlingError>
     ensures { HandlesChange (R.custody records.old) (R.custody records.new) name.now result
         (by_body (λ rows. changed done_reply (within (source_set rows))) (rows_of body.now)) }
 {
@@ -145,7 +145,7 @@ pub(crate) fn delete_document<R: Records>(
     records: &mut R,
     name: &Text,
     key: &DocumentKey,
-) -> Result<Items<u8>, Unsuccessful>
+) -> Result<Items<u8>, HandlingError>
     ensures { HandlesChange (R.custody records.old) (R.custody records.new) name.now result
         (by_document_command document.Delete key.now) }
 {
@@ -161,7 +161,7 @@ pub(crate) fn set_active<R: Records>(
     name: &Text,
     key: &DocumentKey,
     active: bool,
-) -> Result<Items<u8>, Unsuccessful>
+) -> Result<Items<u8>, HandlingError>
     ensures { HandlesChange (R.custody records.old) (R.custody records.new) name.now result
         (changed done_reply (within (activity_set key.now active))) }
 {

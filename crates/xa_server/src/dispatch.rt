@@ -18,11 +18,11 @@ use crate::changes::{
 };
 use crate::document_key::key_of_parts;
 use crate::error_code::{ABSENT, ErrorCode};
+use crate::handling_error::HandlingError;
 use crate::name::name_if;
 use crate::readings::{list_documents, list_domains, show_document, show_source};
-use crate::received::Received;
+use crate::received_message::ReceivedMessage;
 use crate::resources::Resources;
-use crate::unsuccessful::Unsuccessful;
 use std::alloc::Global;
 use xa_http::{DocumentCommand, DocumentParts, DomainCommand, OperatorCommand, Route, Routes};
 use xa_policy::DocumentKey;
@@ -36,7 +36,7 @@ fn by_operator_command<R: Records>(
     name: &Text,
     command: OperatorCommand,
     body: &[u8],
-) -> Result<Items<u8>, Unsuccessful>
+) -> Result<Items<u8>, HandlingError>
     requires { IsTrue (is_domain_name name.now) }
     ensures { HandlesChange (R.custody records.old) (R.custody records.new) name.now result
         (by_operator_command command body.now) }
@@ -56,7 +56,7 @@ fn by_domain_command<R: Records>(
     name: &Text,
     command: DomainCommand,
     body: &[u8],
-) -> Result<Items<u8>, Unsuccessful>
+) -> Result<Items<u8>, HandlingError>
     ensures { HandlesChange (R.custody records.old) (R.custody records.new) name.now result
         (by_domain_command command body.now) }
 {
@@ -76,7 +76,7 @@ fn by_document_command<R: Records>(
     name: &Text,
     command: DocumentCommand,
     key: &DocumentKey,
-) -> Result<Items<u8>, Unsuccessful>
+) -> Result<Items<u8>, HandlingError>
     ensures { HandlesChange (R.custody records.old) (R.custody records.new) name.now result
         (by_document_command command key.now) }
 {
@@ -95,10 +95,10 @@ fn reply_on_operator_route<R: Records>(
     alloc: Global,
     resources: &mut Resources,
     records: &mut R,
-    received: &Received<'_>,
+    received: &ReceivedMessage<'_>,
     domain: Items<u8>,
     command: OperatorCommand,
-) -> Result<Items<u8>, Unsuccessful>
+) -> Result<Items<u8>, HandlingError>
     ensures handled { ChangesRoute (R.custody records.old) (R.custody records.new) received.now
         (to.Operator domain command) result }
     ensures shared { OnlyForgets (R.custody records.old) (R.custody records.new) resources.old resources.new }
@@ -115,9 +115,9 @@ fn reply_on_decision_route<R: Records>(
     alloc: Global,
     resources: &mut Resources,
     records: &mut R,
-    received: &Received<'_>,
+    received: &ReceivedMessage<'_>,
     domain: Items<u8>,
-) -> Result<Items<u8>, Unsuccessful>
+) -> Result<Items<u8>, HandlingError>
     ensures answers { TellsRoute (R.custody records.old) (R.custody records.new) received.now
         resources.old (name_if domain) (to.Decide domain) result }
     ensures shared { SharesRoute (R.custody records.old) (R.custody records.new) received.now
@@ -142,10 +142,10 @@ fn reply_on_domain_route<R: Records>(
     alloc: Global,
     resources: &mut Resources,
     records: &mut R,
-    received: &Received<'_>,
+    received: &ReceivedMessage<'_>,
     domain: Items<u8>,
     command: DomainCommand,
-) -> Result<Items<u8>, Unsuccessful>
+) -> Result<Items<u8>, HandlingError>
     ensures handled { ChangesRoute (R.custody records.old) (R.custody records.new) received.now
         (to.Domain domain command) result }
     ensures shared { OnlyForgets (R.custody records.old) (R.custody records.new) resources.old resources.new }
@@ -163,11 +163,11 @@ fn reply_on_document_route<R: Records>(
     alloc: Global,
     resources: &mut Resources,
     records: &mut R,
-    received: &Received<'_>,
+    received: &ReceivedMessage<'_>,
     domain: Items<u8>,
     parts: DocumentParts,
     command: DocumentCommand,
-) -> Result<Items<u8>, Unsuccessful>
+) -> Result<Items<u8>, HandlingError>
     ensures handled { ChangesRoute (R.custody records.old) (R.custody records.new) received.now
         (to.Document domain parts command) result }
     ensures shared { OnlyForgets (R.custody records.old) (R.custody records.new) resources.old resources.new }
@@ -184,9 +184,9 @@ fn reply_to_route<R: Records>(
     alloc: Global,
     resources: &mut Resources,
     records: &mut R,
-    received: &Received<'_>,
+    received: &ReceivedMessage<'_>,
     route: Route,
-) -> Result<Items<u8>, Unsuccessful>
+) -> Result<Items<u8>, HandlingError>
     ensures answers { TellsRoute (R.custody records.old) (R.custody records.new) received.now
         resources.old (domain_named route) route result }
     ensures shared { SharesRoute (R.custody records.old) (R.custody records.new) received.now route
@@ -221,8 +221,8 @@ pub(crate) fn reply_to_message<R: Records>(
     routes: &Routes,
     resources: &mut Resources,
     records: &mut R,
-    received: &Received<'_>,
-) -> Result<Items<u8>, Unsuccessful>
+    received: &ReceivedMessage<'_>,
+) -> Result<Items<u8>, HandlingError>
     ensures answers { TellsMessage (R.custody records.old) (R.custody records.new) received.now
         resources.old result }
     ensures shared { SharesMessage (R.custody records.old) (R.custody records.new) received.now

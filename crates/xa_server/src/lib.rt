@@ -1,12 +1,13 @@
 //! The decision server: one message after another, each answered by the machine of its own domain.
 //!
-//! Files in the order of a message: `server` puts it into `received`, with what else its answer depends on,
-//! and `dispatch` answers it. That reads the domain and the document from the path (`name`, `document_key`),
-//! asks `admission` whether the message is let in, and goes on to `changes`, `readings` or `asks`.
+//! Files in the order of a message: `server` makes a `received_message`, with what else its answer depends
+//! on, and `dispatch` answers it. That reads the domain and the document from the path (`name`,
+//! `document_key`), asks `admission` whether the message is let in, and goes on to `changes`, `readings` or
+//! `asks`.
 //! `admission` asks `authorization` and `gates`; `asks` asks `decisions`, `views`, `view` and `oversized`. A
-//! view that is `ready` is that of a `revision` of its domain, and decides under `limits`. All that is
-//! cached stands in `resources`. What is not answered with success is `unsuccessful`; the bytes of replies
-//! come from `replies` and `error_code`.
+//! `cached_view` is that of a `revision` of its domain, and decides under `limits`. All that is cached stands
+//! in `resources`. What is not answered with success is a `handling_error`; the bytes of replies come from
+//! `replies` and `error_code`.
 //!
 //! Files of connections: `front` cuts the messages from the bytes that `lines` holds. Its calls are values of
 //! `event`, its refusals are `front_error`. `driving` reads a connection from a `reader` until it ends as
@@ -19,6 +20,7 @@
 mod admission;
 mod asks;
 mod authorization;
+mod cached_view;
 mod changes;
 mod clock;
 mod decisions;
@@ -31,6 +33,7 @@ mod event;
 mod front;
 mod front_error;
 mod gates;
+mod handling_error;
 mod interruption;
 mod limits;
 mod lines;
@@ -39,15 +42,13 @@ mod name;
 mod oversized;
 mod reader;
 mod readings;
-mod ready;
-mod received;
+mod received_message;
 mod replies;
 mod resources;
 mod revision;
 mod sending;
 mod server;
 mod turns;
-mod unsuccessful;
 mod view;
 mod views;
 mod writer;

@@ -10,8 +10,8 @@ ghost use Rattle.xa_server.specs.Machine.{by_document_command, told};
 ghost use Rattle.xa_server.specs.Replies.{json_reply};
 
 use crate::error_code::ABSENT;
+use crate::handling_error::HandlingError;
 use crate::replies::json_reply;
-use crate::unsuccessful::Unsuccessful;
 use std::alloc::Global;
 use xa_decide::write_rows;
 use xa_policy::DocumentKey;
@@ -24,7 +24,7 @@ pub(crate) fn list_documents<R: Records>(
     alloc: Global,
     records: &mut R,
     name: &Text,
-) -> Result<Items<u8>, Unsuccessful>
+) -> Result<Items<u8>, HandlingError>
     ensures { HandlesReading (R.custody records.old) (R.custody records.new) name.now result
         (told (λ kept. Ok (json_reply (listing_body (listing_of_state kept))))) }
 {
@@ -40,7 +40,7 @@ pub(crate) fn show_source<R: Records>(
     alloc: Global,
     records: &mut R,
     name: &Text,
-) -> Result<Items<u8>, Unsuccessful>
+) -> Result<Items<u8>, HandlingError>
     ensures { HandlesReading (R.custody records.old) (R.custody records.new) name.now result
         (told (λ kept. Ok (json_reply (rows_body kept.source)))) }
 {
@@ -56,7 +56,7 @@ pub(crate) fn show_document<R: Records>(
     records: &mut R,
     name: &Text,
     key: &DocumentKey,
-) -> Result<Items<u8>, Unsuccessful>
+) -> Result<Items<u8>, HandlingError>
     ensures { HandlesReading (R.custody records.old) (R.custody records.new) name.now result
         (by_document_command document.Show key.now) }
 {
@@ -68,7 +68,7 @@ pub(crate) fn show_document<R: Records>(
 pub(crate) fn list_domains<R: Records>(
     alloc: Global,
     records: &mut R,
-) -> Result<Items<u8>, Unsuccessful>
+) -> Result<Items<u8>, HandlingError>
     ensures tells { Tells (R.custody records.old) (R.custody records.new) result
         (Ok (json_reply (names_body (names_of (R.custody records.old).kept)))) }
     ensures keeper { OnlyReads (R.custody records.old) (R.custody records.new) result }

@@ -4,11 +4,11 @@ ghost use Rattle.xa_server.specs.Isolation.{TwoWorldsAgree};
 ghost use Rattle.xa_server.specs.handling.Replying.{IsReplyOf};
 
 use crate::dispatch::reply_to_message;
+use crate::handling_error::HandlingError;
 use crate::limits::Limits;
-use crate::received::Received;
+use crate::received_message::ReceivedMessage;
 use crate::replies::Reply;
 use crate::resources::Resources;
-use crate::unsuccessful::Unsuccessful;
 use std::alloc::{AllocError, AllocFailed, Global};
 use std::marker::Model;
 use xa_http::{Message, Routes};
@@ -98,7 +98,7 @@ impl<R: Records> Server<R> {
             → IsWork (R.custody self.old.records).kept moment message.now result
             self.old.decisions self.new.decisions }
     {
-        let received = Received {
+        let received = ReceivedMessage {
             operator: self.operator,
             message,
             moment,
@@ -253,13 +253,13 @@ impl<R: Records> Server<R> {
 }
 
 /// What goes back for a message that was answered, or wasn't.
-fn reply_of(alloc: Global, answered: Result<Items<u8>, Unsuccessful>) -> Reply
+fn reply_of(alloc: Global, answered: Result<Items<u8>, HandlingError>) -> Reply
     ensures { IsReplyOf answered result }
 {
     match answered {
         Ok(bytes) => Reply::Sent(bytes),
-        Err(Unsuccessful::Failed(failure)) => Reply::Refused(failure),
-        Err(Unsuccessful::Error(code)) => match code.reply(alloc) {
+        Err(HandlingError::Failed(failure)) => Reply::Refused(failure),
+        Err(HandlingError::Error(code)) => match code.reply(alloc) {
             Ok(bytes) => Reply::Sent(bytes),
             Err(_) => Reply::Refused(Failure::Memory),
         },

@@ -5,7 +5,7 @@ ghost use Rattle.std.specs.Map.{remove_entry};
 ghost use Rattle.xa_server.specs.Views.{fitting_count, in_front, promoted, shortened};
 ghost use Rattle.xa_server.specs.Views.{view_ready, with_view, without};
 
-use crate::ready::Ready;
+use crate::cached_view::CachedView;
 use crate::revision::Revision;
 use lru::LruCache;
 use std::alloc::{AllocError, Global};
@@ -24,7 +24,7 @@ const DEFAULT_TOTAL_BYTES: usize = 268_435_456;
 #[derive(Drop)]
 pub(crate) struct Views {
     /// The views, the most recently used first.
-    views: LruCache<u64, Ready>,
+    views: LruCache<u64, CachedView>,
     /// How many of them there may be.
     max_count: usize,
     /// How many bytes they may take together, by their estimates.
@@ -34,7 +34,7 @@ pub(crate) struct Views {
 impl Model for Views {
     ghost use Rattle.std.specs.Prelude.{◌≡◌, ◌-◌, ◌^◌};
     ghost use Rattle.std.specs.Coded.{codes};
-    ghost use Rattle.xa_server.specs.contracts.ready.Ready as entry;
+    ghost use Rattle.xa_server.specs.contracts.cached_view.CachedView as entry;
     ghost use Rattle.xa_server.specs.Views.{ViewsModel};
 
     ghost Value = { ViewsModel };
@@ -106,7 +106,7 @@ impl Views {
     /// used; not if it is too large, nor if there is no memory for it. The least recently used is evicted,
     /// until there is room for all. What this costs grows with the cached views, each of which is looked at
     /// once, and with those that are evicted. For the proof: whether it was cached is returned.
-    pub(crate) fn keep(&mut self, ready: Ready) -> bool
+    pub(crate) fn keep(&mut self, ready: CachedView) -> bool
         ensures kept { result ≡ true → self.new ≡ with_view ready.revision.number ready self.old }
         ensures left { result ≡ false → self.new ≡ without ready.revision.number self.old }
         ensures too_large { nat_le ready.bytes self.old.max_bytes ≡ false → result ≡ false }
@@ -126,7 +126,7 @@ impl Views {
 }
 
 /// Puts the view first, if there is memory.
-fn put(views: &mut LruCache<u64, Ready>, number: u64, ready: Ready) -> bool
+fn put(views: &mut LruCache<u64, CachedView>, number: u64, ready: CachedView) -> bool
     requires { views.old.cap ≡ 2 ^ 64 - 1 }
     ensures cap { views.new.cap ≡ 2 ^ 64 - 1 }
     ensures put { result ≡ true → views.new.entries ≡ in_front number ready views.old.entries }
@@ -141,7 +141,7 @@ fn put(views: &mut LruCache<u64, Ready>, number: u64, ready: Ready) -> bool
 }
 
 /// How many of the most recently used views find room.
-fn fitting_count(views: &LruCache<u64, Ready>, most: usize, bytes: usize) -> usize
+fn fitting_count(views: &LruCache<u64, CachedView>, most: usize, bytes: usize) -> usize
     ensures { result ≡ fitting_count most bytes views.now.entries }
 {
     let mut count = 0usize;
@@ -157,7 +157,7 @@ fn fitting_count(views: &LruCache<u64, Ready>, most: usize, bytes: usize) -> usi
 }
 
 /// Evicts the least recently used views, which find no room.
-fn shorten(views: &mut LruCache<u64, Ready>, most: usize, bytes: usize)
+fn shorten(views: &mut LruCache<u64, CachedView>, most: usize, bytes: usize)
     ensures cap { views.new.cap ≡ views.old.cap }
     ensures entries { views.new.entries ≡ shortened most bytes views.old.entries }
 {

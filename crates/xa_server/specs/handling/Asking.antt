@@ -17,11 +17,11 @@ use Rattle.xa_server.specs.declared.asks.Ask.{Ask}
 use Rattle.xa_server.specs.declared.asks.ReadAsk.{ReadAsk}
 use Rattle.xa_server.specs.declared.error_code.ErrorCode.{ErrorCode}
 use Rattle.xa_server.specs.declared.error_code.ErrorCode.TheVariants as error
-use Rattle.xa_server.specs.declared.ready.Ready.{Ready}
-use Rattle.xa_server.specs.declared.received.Received.{Received}
+use Rattle.xa_server.specs.declared.cached_view.CachedView.{CachedView}
+use Rattle.xa_server.specs.declared.received_message.ReceivedMessage.{ReceivedMessage}
 use Rattle.xa_server.specs.declared.revision.Revision.{Revision}
-use Rattle.xa_server.specs.declared.unsuccessful.Unsuccessful.{Unsuccessful}
-use Rattle.xa_server.specs.declared.unsuccessful.Unsuccessful.TheVariants.{Error, Failed}
+use Rattle.xa_server.specs.declared.handling_error.HandlingError.{HandlingError}
+use Rattle.xa_server.specs.declared.handling_error.HandlingError.TheVariants.{Error, Failed}
 use Rattle.xa_server.specs.Gates.{revision_of}
 use Rattle.xa_server.specs.handling.Replying.{OnlyReads, Sharing, Shows}
 use Rattle.xa_server.specs.Decisions.{DecisionsModel}
@@ -46,19 +46,19 @@ abbrev pub view_told : Option DomainState → Result Viewed ErrorCode
 view_told state = ok_or (option_map view_of state) (error.Keeper Absent)
 
 -- the reply to what was evaluated; or the body is no JSON; or there was no memory
-abbrev pub IsResponseReply : Option (List ℕ × Bool) → Result (List ℕ) Unsuccessful → Type 0
+abbrev pub IsResponseReply : Option (List ℕ × Bool) → Result (List ℕ) HandlingError → Type 0
 IsResponseReply meant (Ok bytes) = option_map (λ response. decision_reply response.0) meant ≡ Some bytes
 IsResponseReply meant (Err (Error code)) = (meant ≡ None) × (code ≡ error.Body NotJson)
 IsResponseReply meant (Err (Failed failure)) = failure ≡ Memory
 
 -- a view was made ready, at that revision; or an error answer says why not, or it failed; and nothing has changed
-abbrev pub IsMadeReady : Kept → Kept → Revision → Result Ready Unsuccessful → Result Viewed ErrorCode → Type 0
+abbrev pub IsMadeReady : Kept → Kept → Revision → Result CachedView HandlingError → Result Viewed ErrorCode → Type 0
 IsMadeReady old new revision (Ok ready) meant = (meant ≡ Ok ready.view) × (ready.revision ≡ revision) × (new ≡ old)
 IsMadeReady old new revision (Err (Error code)) meant = (meant ≡ Err code) × (new ≡ old)
 IsMadeReady old new revision (Err (Failed failure)) meant = new ≡ old
 
 -- `IsMadeReady` of the domain that has let an ask in, if the keeper is sound
-abbrev pub MakesReady : Custody → Custody → Ask → Result Ready Unsuccessful → Type 0
+abbrev pub MakesReady : Custody → Custody → Ask → Result CachedView HandlingError → Type 0
 MakesReady old new ask result =
     new.sound → IsMadeReady old.kept new.kept ask.revision result (view_told (state_of ask.name.now old.kept))
 
@@ -107,7 +107,7 @@ reply_asked kept ask body = reply_told body ask.moment (state_of ask.name.now ke
 
 -- a decision was evaluated, with success; by an error answer nothing was there to be evaluated, and a failure has left
 -- all
-abbrev pub IsFresh : Key → Option (List ℕ × Bool) → Result (List ℕ) Unsuccessful → DecisionsModel → DecisionsModel
+abbrev pub IsFresh : Key → Option (List ℕ × Bool) → Result (List ℕ) HandlingError → DecisionsModel → DecisionsModel
     → Type 0
 IsFresh key worked (Ok bytes) old new = IsEvaluated key worked old new
 IsFresh key worked (Err (Error code)) old new = (worked ≡ None) × (new ≡ old)
@@ -119,7 +119,7 @@ IsLookedUp None key old new = new ≡ old
 IsLookedUp (Some body) key old new = new ≡ looked_up key old
 
 -- an ask that was let in, whose decision is cached, or isn't
-abbrev pub IsAsked : Key → Option (List ℕ) → Option (List ℕ × Bool) → Result (List ℕ) Unsuccessful
+abbrev pub IsAsked : Key → Option (List ℕ) → Option (List ℕ × Bool) → Result (List ℕ) HandlingError
     → DecisionsModel → DecisionsModel → Type 0
 IsAsked key (Some body) worked (Ok bytes) old new = new ≡ looked_up key old
 IsAsked key (Some body) worked (Err (Error code)) old new = ⊥
@@ -128,7 +128,7 @@ IsAsked key None worked result old new = IsFresh key worked result old new
 
 -- an ask that was let in was answered by a decision that is evaluated
 pub record FreshReply (old new : Custody) (ask : Ask) (body : List ℕ) (before after : ResourcesModel)
-    (result : Result (List ℕ) Unsuccessful) : Type 0 where
+    (result : Result (List ℕ) HandlingError) : Type 0 where
   pub tells : IfLetIn old new ask before (Shows old.kept new.kept result (reply_asked old.kept ask body))
   pub works : IfLetIn old new ask before
       (IsFresh (key_asked ask body) (evaluated_asked old.kept ask body) result before.decisions after.decisions)
@@ -139,7 +139,7 @@ pub record FreshReply (old new : Custody) (ask : Ask) (body : List ℕ) (before 
 -- ---- what was done to cached decisions
 
 -- what was done to cached decisions by a message, by the domain that it asks
-abbrev pub WorksOf : Option Domain → List ℕ → ℤ → Result (List ℕ) Unsuccessful → DecisionsModel → DecisionsModel
+abbrev pub WorksOf : Option Domain → List ℕ → ℤ → Result (List ℕ) HandlingError → DecisionsModel → DecisionsModel
     → Type 0
 WorksOf None body moment result old new = new ≡ old
 WorksOf (Some domain) body moment result old new =
@@ -147,25 +147,26 @@ WorksOf (Some domain) body moment result old new =
     (evaluated_response domain.state body moment) result old new
 
 -- `WorksOf` a message of a route
-abbrev pub WorksRoute : Received → Kept → Route → Result (List ℕ) Unsuccessful → DecisionsModel → DecisionsModel
+abbrev pub WorksRoute : ReceivedMessage → Kept → Route → Result (List ℕ) HandlingError → DecisionsModel → DecisionsModel
     → Type 0
 WorksRoute received kept route result old new =
     WorksOf (domain_of_route kept received.message.now route) received.message.now.body received.moment result old new
 
 -- `WorksOf` a message
-abbrev pub WorksMessage : Received → Kept → Result (List ℕ) Unsuccessful → DecisionsModel → DecisionsModel → Type 0
+abbrev pub WorksMessage : ReceivedMessage → Kept → Result (List ℕ) HandlingError → DecisionsModel → DecisionsModel
+    → Type 0
 WorksMessage received kept result old new =
     WorksOf (domain_of_message kept received.message.now (route_of received.message.now)) received.message.now.body
     received.moment result old new
 
 -- `Sharing` after a message of a route
-abbrev pub SharesRoute : Custody → Custody → Received → Route → ResourcesModel → ResourcesModel
-    → Result (List ℕ) Unsuccessful → Type 0
+abbrev pub SharesRoute : Custody → Custody → ReceivedMessage → Route → ResourcesModel → ResourcesModel
+    → Result (List ℕ) HandlingError → Type 0
 SharesRoute old new received route before after result =
     Sharing old new before after result (WorksRoute received old.kept route result before.decisions after.decisions)
 
 -- `Sharing` after a message
-abbrev pub SharesMessage : Custody → Custody → Received → ResourcesModel → ResourcesModel
-    → Result (List ℕ) Unsuccessful → Type 0
+abbrev pub SharesMessage : Custody → Custody → ReceivedMessage → ResourcesModel → ResourcesModel
+    → Result (List ℕ) HandlingError → Type 0
 SharesMessage old new received before after result =
     Sharing old new before after result (WorksMessage received old.kept result before.decisions after.decisions)

@@ -9,9 +9,9 @@ use Rattle.xa_records.specs.DomainState.{DomainState}
 use Rattle.xa_records.specs.Keeper.{Custody, IsOneMore}
 use Rattle.xa_records.specs.Kept.{IsChanged, Kept, names_of, state_of}
 use Rattle.xa_server.specs.declared.error_code.ErrorCode.{ErrorCode}
-use Rattle.xa_server.specs.declared.received.Received.{Received}
-use Rattle.xa_server.specs.declared.unsuccessful.Unsuccessful.{Unsuccessful}
-use Rattle.xa_server.specs.declared.unsuccessful.Unsuccessful.TheVariants.{Error, Failed}
+use Rattle.xa_server.specs.declared.received_message.ReceivedMessage.{ReceivedMessage}
+use Rattle.xa_server.specs.declared.handling_error.HandlingError.{HandlingError}
+use Rattle.xa_server.specs.declared.handling_error.HandlingError.TheVariants.{Error, Failed}
 use Rattle.xa_server.specs.declared.replies.Reply.{Reply}
 use Rattle.xa_server.specs.declared.replies.Reply.TheVariants.{Sent, Refused}
 use Rattle.xa_server.specs.ErrorCode.{error_reply}
@@ -26,25 +26,25 @@ by_body answer given state = or_body_fault given >>= (λ x. answer x state)
 
 -- a message of the domain of that name was answered as its machine answers it, or it failed; nothing has changed but
 -- by a reply
-abbrev pub Answers : Kept → Kept → List ℕ → Result (List ℕ) Unsuccessful → Answer → Type 0
+abbrev pub Answers : Kept → Kept → List ℕ → Result (List ℕ) HandlingError → Answer → Type 0
 Answers old new name (Ok bytes) meant =
     (after : Option DomainState) × (meant ≡ Ok (bytes, after)) × IsChanged old new name after
 Answers old new name (Err (Error code)) meant = (meant ≡ Err code) × (new ≡ old)
 Answers old new name (Err (Failed failure)) meant = new ≡ old
 
 -- a message was answered as is meant, or it failed; and nothing has changed
-abbrev pub Shows : {X : Type 0} → Kept → Kept → Result X Unsuccessful → Result X ErrorCode → Type 0
+abbrev pub Shows : {X : Type 0} → Kept → Kept → Result X HandlingError → Result X ErrorCode → Type 0
 Shows old new (Ok x) meant = (meant ≡ Ok x) × (new ≡ old)
 Shows old new (Err (Error code)) meant = (meant ≡ Err code) × (new ≡ old)
 Shows old new (Err (Failed failure)) meant = new ≡ old
 
 -- `Shows`, if the keeper is sound
-abbrev pub Tells : {X : Type 0} → Custody → Custody → Result X Unsuccessful → Result X ErrorCode → Type 0
+abbrev pub Tells : {X : Type 0} → Custody → Custody → Result X HandlingError → Result X ErrorCode → Type 0
 Tells old new result meant = new.sound → Shows old.kept new.kept result meant
 
 -- a message was let in: then the result is what is there, by the gate of a domain; or it wasn't, or it failed; and
 -- nothing has changed
-abbrev pub Opens : {X : Type 0} → Kept → Kept → Option X → Result X Unsuccessful → Result (Unit {0}) ErrorCode → Type 0
+abbrev pub Opens : {X : Type 0} → Kept → Kept → Option X → Result X HandlingError → Result (Unit {0}) ErrorCode → Type 0
 Opens old new there (Ok x) meant = (there ≡ Some x) × (meant ≡ Ok tt) × (new ≡ old)
 Opens old new there (Err (Error code)) meant = (meant ≡ Err code) × (new ≡ old)
 Opens old new there (Err (Failed failure)) meant = new ≡ old
@@ -54,7 +54,8 @@ abbrev pub domain_named : Route → Option (List ℕ)
 domain_named route = option_and_then name_if (named_by route)
 
 -- a message of a route was answered, by the domain that its path names, if it names one
-abbrev pub AnswersRoute : Received → Kept → Kept → Option (List ℕ) → Route → Result (List ℕ) Unsuccessful → Type 0
+abbrev pub AnswersRoute : ReceivedMessage → Kept → Kept → Option (List ℕ) → Route → Result (List ℕ) HandlingError
+    → Type 0
 AnswersRoute received old new None route result =
     Shows old new result (general_by_route received.operator (names_of old) received.message.now route)
 AnswersRoute received old new (Some name) route result =
@@ -62,33 +63,33 @@ AnswersRoute received old new (Some name) route result =
     (by_route received.operator (state_of name old) received.message.now received.moment route)
 
 -- a message was answered, by the domain that its path names, if it names one
-abbrev pub AnswersMessage : Received → Kept → Kept → Option (List ℕ) → Result (List ℕ) Unsuccessful → Type 0
+abbrev pub AnswersMessage : ReceivedMessage → Kept → Kept → Option (List ℕ) → Result (List ℕ) HandlingError → Type 0
 AnswersMessage received old new None result =
     Shows old new result (general_answer received.operator (names_of old) received.message.now)
 AnswersMessage received old new (Some name) result =
     Answers old new name result (answer received.operator (state_of name old) received.message.now received.moment)
 
 -- `AnswersRoute`, if all that the server shares stood before and the keeper is sound after
-abbrev pub TellsRoute : Custody → Custody → Received → ResourcesModel → Option (List ℕ) → Route
-    → Result (List ℕ) Unsuccessful → Type 0
+abbrev pub TellsRoute : Custody → Custody → ReceivedMessage → ResourcesModel → Option (List ℕ) → Route
+    → Result (List ℕ) HandlingError → Type 0
 TellsRoute old new received before name route result =
     AllStand old.kept before → new.sound → AnswersRoute received old.kept new.kept name route result
 
 -- `AnswersMessage`, if all that the server shares stood before and the keeper is sound after
-abbrev pub TellsMessage : Custody → Custody → Received → ResourcesModel → Result (List ℕ) Unsuccessful → Type 0
+abbrev pub TellsMessage : Custody → Custody → ReceivedMessage → ResourcesModel → Result (List ℕ) HandlingError → Type 0
 TellsMessage old new received before result =
     AllStand old.kept before → new.sound
     → AnswersMessage received old.kept new.kept (owner received.message.now) result
 
 -- how often the keeper has failed by a result: once more if that is a failure for want of storage, and else no more
-abbrev pub Counts : {X : Type 0} → ℕ → ℕ → Result X Unsuccessful → Type 0
+abbrev pub Counts : {X : Type 0} → ℕ → ℕ → Result X HandlingError → Type 0
 Counts old new (Ok x) = new ≡ old
 Counts old new (Err (Error code)) = new ≡ old
 Counts old new (Err (Failed Memory)) = new ≡ old
 Counts old new (Err (Failed Store)) = IsOneMore old new
 
 -- the reply that goes back for a result
-abbrev pub IsReplyOf : Result (List ℕ) Unsuccessful → Reply → Type 0
+abbrev pub IsReplyOf : Result (List ℕ) HandlingError → Reply → Type 0
 IsReplyOf (Ok bytes) reply = reply ≡ Sent bytes
 IsReplyOf (Err (Failed failure)) reply = reply ≡ Refused failure
 IsReplyOf (Err (Error code)) reply = (reply ≡ Sent (error_reply code)) ⊎ (reply ≡ Refused Memory)
@@ -96,7 +97,7 @@ IsReplyOf (Err (Error code)) reply = (reply ≡ Sent (error_reply code)) ⊎ (re
 -- ---- what a crash may leave
 
 -- the claim holds, unless the message failed
-abbrev pub IfTold : {X : Type 0} → Result X Unsuccessful → Type 0 → Type 0
+abbrev pub IfTold : {X : Type 0} → Result X HandlingError → Type 0 → Type 0
 IfTold (Ok x) claim = claim
 IfTold (Err (Error code)) claim = claim
 IfTold (Err (Failed failure)) claim = Unit {0}
@@ -117,14 +118,14 @@ abbrev pub LeavesAnswer : (Kept → Type 0) → (Kept → Type 0) → Kept → L
 LeavesAnswer before after old name meant = (left : Kept) → after left → before left ⊎ IsAnswerMade old left name meant
 
 -- what a crash may leave after a message of a route
-abbrev pub LeavesRoute : (Kept → Type 0) → (Kept → Type 0) → Received → Kept → Option (List ℕ) → Route → Type 0
+abbrev pub LeavesRoute : (Kept → Type 0) → (Kept → Type 0) → ReceivedMessage → Kept → Option (List ℕ) → Route → Type 0
 LeavesRoute before after received old None route = LeavesNoMore before after
 LeavesRoute before after received old (Some name) route =
     LeavesAnswer before after old name
     (by_route received.operator (state_of name old) received.message.now received.moment route)
 
 -- what a crash may leave after a message
-abbrev pub LeavesMessage : (Kept → Type 0) → (Kept → Type 0) → Received → Kept → Option (List ℕ) → Type 0
+abbrev pub LeavesMessage : (Kept → Type 0) → (Kept → Type 0) → ReceivedMessage → Kept → Option (List ℕ) → Type 0
 LeavesMessage before after received old None = LeavesNoMore before after
 LeavesMessage before after received old (Some name) =
     LeavesAnswer before after old name
@@ -133,7 +134,8 @@ LeavesMessage before after received old (Some name) =
 -- ---- what is done for a message
 
 -- what is told of the keeper after a part of a message was handled; `leaves_so` is what a crash may leave
-pub record Keeping {X : Type 0} (old new : Custody) (result : Result X Unsuccessful) (leaves_so : Type 0) : Type 0 where
+pub record Keeping {X : Type 0} (old new : Custody) (result : Result X HandlingError) (leaves_so : Type 0)
+    : Type 0 where
   -- if the keeper is sound, it was; if the disk has given back what was written, it had before
   pub sound : new.sound → old.sound
   pub clean : new.clean → old.clean
@@ -144,23 +146,23 @@ pub record Keeping {X : Type 0} (old new : Custody) (result : Result X Unsuccess
   pub counts : Counts old.faults new.faults result
 
 -- the keeper was asked to read, or wasn't asked: a crash leaves nothing that it might not have left before
-abbrev pub OnlyReads : {X : Type 0} → Custody → Custody → Result X Unsuccessful → Type 0
+abbrev pub OnlyReads : {X : Type 0} → Custody → Custody → Result X HandlingError → Type 0
 OnlyReads old new result = Keeping old new result (LeavesNoMore old.may_leave new.may_leave)
 
 -- `Keeping` after a message of a route
-abbrev pub KeepsRoute : Custody → Custody → Received → Route → Result (List ℕ) Unsuccessful → Type 0
+abbrev pub KeepsRoute : Custody → Custody → ReceivedMessage → Route → Result (List ℕ) HandlingError → Type 0
 KeepsRoute old new received route result =
     Keeping old new result (LeavesRoute old.may_leave new.may_leave received old.kept (domain_named route) route)
 
 -- `Keeping` after a message
-abbrev pub KeepsMessage : Custody → Custody → Received → Result (List ℕ) Unsuccessful → Type 0
+abbrev pub KeepsMessage : Custody → Custody → ReceivedMessage → Result (List ℕ) HandlingError → Type 0
 KeepsMessage old new received result =
     Keeping old new result
     (LeavesMessage old.may_leave new.may_leave received old.kept (owner received.message.now))
 
 -- what is told of all that a server shares, after a part of a message was handled before which all of it stood: this
 -- was done to cached decisions, and all still stands; without success the views are as they were
-pub record Sharing {X : Type 0} (old new : Custody) (before after : ResourcesModel) (result : Result X Unsuccessful)
+pub record Sharing {X : Type 0} (old new : Custody) (before after : ResourcesModel) (result : Result X HandlingError)
     (works_so : Type 0) : Type 0 where
   pub works : AllStand old.kept before → new.sound → works_so
   pub stands : AllStand old.kept before → new.sound → AllStand new.kept after
@@ -174,26 +176,26 @@ pub record OnlyForgets (old new : Custody) (before after : ResourcesModel) : Typ
 
 -- a part of a message was handled: it was answered as `is_answered` says, and a crash may leave what `leaves_so` says,
 -- or it failed
-pub record Handles {X : Type 0} (old new : Custody) (result : Result X Unsuccessful) (is_answered leaves_so : Type 0)
+pub record Handles {X : Type 0} (old new : Custody) (result : Result X HandlingError) (is_answered leaves_so : Type 0)
     : Type 0 where
   pub answers : new.sound → is_answered
   pub keeper : Keeping old new result leaves_so
 
 -- a message of a route was handled, which may change the domain that its path names
-pub record ChangesRoute (old new : Custody) (received : Received) (route : Route)
-    (result : Result (List ℕ) Unsuccessful) : Type 0 where
+pub record ChangesRoute (old new : Custody) (received : ReceivedMessage) (route : Route)
+    (result : Result (List ℕ) HandlingError) : Type 0 where
   pub answers : new.sound → AnswersRoute received old.kept new.kept (domain_named route) route result
   pub keeper : KeepsRoute old new received route result
 
 -- `Handles` as a machine of the domain of that name answers
-abbrev pub HandlesChange : Custody → Custody → List ℕ → Result (List ℕ) Unsuccessful
+abbrev pub HandlesChange : Custody → Custody → List ℕ → Result (List ℕ) HandlingError
     → (Option DomainState → Answer) → Type 0
 HandlesChange old new name result machine =
     Handles old new result (Answers old.kept new.kept name result (machine (state_of name old.kept)))
     (LeavesAnswer old.may_leave new.may_leave old.kept name (machine (state_of name old.kept)))
 
 -- `Handles` as a machine of the domain of that name answers, which changes nothing
-abbrev pub HandlesReading : Custody → Custody → List ℕ → Result (List ℕ) Unsuccessful
+abbrev pub HandlesReading : Custody → Custody → List ℕ → Result (List ℕ) HandlingError
     → (Option DomainState → Answer) → Type 0
 HandlesReading old new name result machine =
     Handles old new result (Answers old.kept new.kept name result (machine (state_of name old.kept)))

@@ -4,7 +4,7 @@ use Rattle.std.specs.Option.{ok_or}
 use Rattle.std.specs.Prelude.{Bool, Some, option_map}
 use Rattle.xa_notation.specs.declared.notation_error.NotationError.TheVariants.{NotJson}
 use Rattle.xa_server.specs.declared.error_code.ErrorCode.TheVariants as error
-use Rattle.xa_server.specs.declared.unsuccessful.Unsuccessful.TheVariants.{Error}
+use Rattle.xa_server.specs.declared.handling_error.HandlingError.TheVariants.{Error}
 use Rattle.xa_server.specs.Replies.{decision_reply}
 use Rattle.xa_server.specs.Work.{IsEvaluated, key_of_revision, response_of}
 use Rattle.xa_server.proofs.AskLemmas.{no_response, noted, response_so}

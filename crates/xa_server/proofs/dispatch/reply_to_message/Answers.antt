@@ -1,10 +1,10 @@
 use Rattle.std.proofs.Common.{rules, ◌≡◌, ℕ, List, Result, Err, refl, ap, sym, subst}
 use Rattle.std.specs.Option.{option_and_then}
 use Rattle.xa_http.specs.Routes.{named_by}
-use Rattle.xa_server.specs.declared.unsuccessful.Unsuccessful.{Unsuccessful}
+use Rattle.xa_server.specs.declared.handling_error.HandlingError.{HandlingError}
 use Rattle.xa_server.specs.handling.Replying.{AnswersMessage, Counts, IfTold, LeavesMessage}
 use Rattle.xa_server.specs.Owner.{name_if, owner}
-use Rattle.xa_server.specs.handling.Unsuccessful.{unsuccessful_of_route}
+use Rattle.xa_server.specs.handling.HandlingError.{error_of_route}
 use Rattle.xa_server.proofs.AnswerLemmas.{asked, unasked}
 use Rattle.xa_server.proofs.CrashLemmas.{asked_left, no_more, unasked_counts, unasked_told}
 use Rattle.xa_server.proofs.WorkLemmas.{asked_work, unasked_work}
@@ -12,13 +12,13 @@ use Rattle.xa_server.proofs.dispatch.reply_to_message.Goals as goal
 
 pub returns-in_err-route-clause-answers : goal.returns-in_err-route-clause-answers
 returns-in_err-route-clause-answers g c = λ stand sound.
-    let stopped : c.from_residual.result ≡ Err (unsuccessful_of_route c.in_err-route.field-0.0) = search rules in
+    let stopped : c.from_residual.result ≡ Err (error_of_route c.in_err-route.field-0.0) = search rules in
     rw stopped (unasked c.args.received.now _ (owner c.args.received.now.message.now) c.in_err-route.field-0.0 c.in_err-route.ensures.route)
 
 pub returns-in_err-route-clause-shared : goal.returns-in_err-route-clause-shared
 returns-in_err-route-clause-shared g c =
     let error = c.in_err-route.field-0.0 in
-    let stopped : c.from_residual.result ≡ Err (unsuccessful_of_route error) = search rules in
+    let stopped : c.from_residual.result ≡ Err (error_of_route error) = search rules in
     record {
       works = λ stand sound.
           rw stopped (unasked_work c.args.received.now (g.R.Records.custody c.args.records.now).kept error c.args.resources.now.decisions c.in_err-route.ensures.route);
@@ -49,13 +49,13 @@ pub returns-in_err-route-clause-keeper : goal.returns-in_err-route-clause-keeper
 returns-in_err-route-clause-keeper g c =
     let custody = g.R.Records.custody c.args.records.now in
     let error = c.in_err-route.field-0.0 in
-    let stopped : c.from_residual.result ≡ Err (unsuccessful_of_route error) = search rules in
+    let stopped : c.from_residual.result ≡ Err (error_of_route error) = search rules in
     record {
       sound = λ sound. sound;
       clean = λ clean. clean;
-      stays = λ clean sound. subst (λ (r : Result (List ℕ) Unsuccessful). IfTold r custody.sound) (sym stopped) (unasked_told error custody.sound sound);
+      stays = λ clean sound. subst (λ (r : Result (List ℕ) HandlingError). IfTold r custody.sound) (sym stopped) (unasked_told error custody.sound sound);
       leaves = λ clean sound. no_more custody.may_leave custody.may_leave c.args.received.now _ (owner c.args.received.now.message.now) (λ left is. is);
-      counts = subst (λ (r : Result (List ℕ) Unsuccessful). Counts custody.faults custody.faults r) (sym stopped) (unasked_counts error custody.faults);
+      counts = subst (λ (r : Result (List ℕ) HandlingError). Counts custody.faults custody.faults r) (sym stopped) (unasked_counts error custody.faults);
     }
 
 pub returns-clause-keeper : goal.returns-clause-keeper

@@ -1,5 +1,5 @@
 use Rattle.std.proofs.Common.{refl}
-use Rattle.xa_server.specs.declared.received.Received.{Received}
+use Rattle.xa_server.specs.declared.received_message.ReceivedMessage.{ReceivedMessage}
 use Rattle.xa_server.specs.Owner.{owner}
 use Rattle.xa_server.proofs.CrashLemmas.{if_sent, step_left}
 use Rattle.xa_server.proofs.ServedLemmas.{counted, served}
@@ -8,7 +8,7 @@ use Rattle.xa_server.proofs.server.Server.serve.Goals as goal
 
 pub returns-clause-served : goal.returns-clause-served
 returns-clause-served g c = λ sound.
-    let received : Received = record { operator = c.self.inside.operator; message = c.args.message; moment = c.args.moment } in
+    let received : ReceivedMessage = record { operator = c.self.inside.operator; message = c.args.message; moment = c.args.moment } in
     let stand = c.self.invariant (c.reply_to_message-answered.ensures.keeper.sound sound) in
     rw (← c.self.view_is)
     (served received (g.R.Records.custody c.self.inside.records).kept _ c.reply_to_message-answered.result _ (c.reply_to_message-answered.ensures.answers stand sound) c.reply_of.ensures refl)
@@ -21,7 +21,7 @@ returns-clause-stays g c = rw (← c.self.view_is) (λ clean sound. if_sent _ c.
 
 pub returns-clause-crash : goal.returns-clause-crash
 returns-clause-crash g c = rw (← c.self.view_is) (λ clean sound.
-    let received : Received = record { operator = c.self.inside.operator; message = c.args.message; moment = c.args.moment } in
+    let received : ReceivedMessage = record { operator = c.self.inside.operator; message = c.args.message; moment = c.args.moment } in
     step_left _ _ received (g.R.Records.custody c.self.inside.records).kept (owner c.args.message.now) (c.reply_to_message-answered.ensures.keeper.leaves clean sound))
 
 pub returns-clause-work : goal.returns-clause-work

@@ -1,4 +1,4 @@
-//! A view that is ready to decide, and how much memory it takes.
+//! A cached view, and how much memory it takes.
 ghost use Rattle.std.specs.Prelude.{◌≡◌, ◌*◌};
 ghost use Rattle.xa_server.specs.Views.{added, bytes_of_tree, bytes_of_view, times};
 
@@ -22,7 +22,7 @@ const NODE_BYTES: usize = 24;
 
 /// The view of a domain at a revision of it.
 #[derive(Drop)]
-pub(crate) struct Ready {
+pub(crate) struct CachedView {
     /// The revision of the domain whose view it is.
     pub(crate) revision: Revision,
     /// The view.

@@ -7,21 +7,21 @@ use Rattle.xa_records.specs.declared.refusal.ChangeError.{ChangeError}
 use Rattle.xa_records.specs.declared.refusal.ChangeError.TheVariants as change
 use Rattle.xa_records.specs.declared.refusal.Failure.TheVariants.{Memory}
 use Rattle.xa_server.specs.declared.error_code.ErrorCode.TheVariants.{Body, Keeper}
-use Rattle.xa_server.specs.declared.unsuccessful.Unsuccessful.{Unsuccessful}
-use Rattle.xa_server.specs.declared.unsuccessful.Unsuccessful.TheVariants.{Error, Failed}
+use Rattle.xa_server.specs.declared.handling_error.HandlingError.{HandlingError}
+use Rattle.xa_server.specs.declared.handling_error.HandlingError.TheVariants.{Error, Failed}
 use Rattle.xa_server.specs.ErrorCode.{code_of_route_fault}
 
 -- what a change that wasn't made comes to
-abbrev pub unsuccessful_of_change : ChangeError → Unsuccessful
-unsuccessful_of_change (change.Failed failure) = Failed failure
-unsuccessful_of_change (change.Refused refusal) = Error (Keeper refusal)
+abbrev pub error_of_change : ChangeError → HandlingError
+error_of_change (change.Failed failure) = Failed failure
+error_of_change (change.Refused refusal) = Error (Keeper refusal)
 
 -- what a body that wasn't read comes to
-abbrev pub unsuccessful_of_body : OrMemory NotationError → Unsuccessful
-unsuccessful_of_body or_memory.Memory = Failed Memory
-unsuccessful_of_body (or_memory.Error fault) = Error (Body fault)
+abbrev pub error_of_body : OrMemory NotationError → HandlingError
+error_of_body or_memory.Memory = Failed Memory
+error_of_body (or_memory.Error fault) = Error (Body fault)
 
 -- what a route that wasn't found comes to
-abbrev pub unsuccessful_of_route : OrMemory RouteFault → Unsuccessful
-unsuccessful_of_route or_memory.Memory = Failed Memory
-unsuccessful_of_route (or_memory.Error fault) = Error (code_of_route_fault fault)
+abbrev pub error_of_route : OrMemory RouteFault → HandlingError
+error_of_route or_memory.Memory = Failed Memory
+error_of_route (or_memory.Error fault) = Error (code_of_route_fault fault)

@@ -7,7 +7,7 @@ use xa_value::Moment;
 
 /// A message, and all else but the state that its answer depends on.
 #[derive(Drop)]
-pub(crate) struct Received<'a> {
+pub(crate) struct ReceivedMessage<'a> {
     /// The digest of the operator's token.
     pub(crate) operator: Digest,
     /// The message.
@@ -16,7 +16,7 @@ pub(crate) struct Received<'a> {
     pub(crate) moment: Moment,
 }
 
-impl<'a> Received<'a> {
+impl<'a> ReceivedMessage<'a> {
     /// The message's body.
     pub(crate) fn body(&self) -> &[u8]
         ensures { result.now ≡ self.now.message.now.body }
