@@ -61,7 +61,7 @@ times a b = min (a * b) (2 ^ 64 - 1)
 -- the memory by which a view is counted but for its tree: 8 bytes for each byte of the texts that were read for it, 512
 -- for each row, and 524,288 for the rest
 abbrev pub bytes_of_view : ℕ → ℕ → ℕ
-bytes_of_view read rows = added (added (times read 8) (times rows 512)) 524_288
+bytes_of_view bytes_read rows = added (added (times bytes_read 8) (times rows 512)) 524_288
 
 -- the memory by which a view's tree is counted: 24 bytes for each node
 abbrev pub bytes_of_tree : Viewed → ℕ

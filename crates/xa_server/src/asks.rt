@@ -29,7 +29,7 @@ ghost use Rattle.xa_server.specs.handling.Viewing.{AreKeyed, nothing_viewed};
 ghost use Rattle.xa_server.specs.Views.{added, bytes_of_tree, bytes_of_view};
 ghost use Rattle.xa_server.specs.Work.{cached_body};
 
-use crate::cached_view::{CachedView, bytes_of_tree, bytes_of_view};
+use crate::cached_view::CachedView;
 use crate::decisions::{Decisions, key_within};
 use crate::error_code::{ABSENT, ErrorCode};
 use crate::handling_error::HandlingError;
@@ -112,13 +112,9 @@ fn new_view<R: Records>(
     let rows = kept.source.len();
     let left = reader.left();
     let view = view_of_kept(alloc, reader, kept)?;
-    let read = left.saturating_sub(reader.left()) as usize;
-    let bytes = bytes_of_view(read, rows).saturating_add(bytes_of_tree(&view));
-    Ok(CachedView {
-        revision: ask.revision,
-        view: limits.apply_to(view),
-        bytes,
-    })
+    let bytes_read = left.saturating_sub(reader.left()) as usize;
+    let limited = limits.apply_to(view);
+    Ok(CachedView::new(ask.revision, limited, bytes_read, rows))
 }
 
 /// The domain's view, made of no more text than may be read for a message. A domain whose policies have

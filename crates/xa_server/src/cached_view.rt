@@ -31,19 +31,35 @@ pub(crate) struct CachedView {
     pub(crate) bytes: usize,
 }
 
+impl CachedView {
+    /// The view of a domain at that revision, for which so many bytes of texts were read, with so many rows.
+    pub(crate) fn new(revision: Revision, view: View, bytes_read: usize, rows: usize) -> CachedView
+        ensures revision { result.revision ≡ revision }
+        ensures viewed { result.view ≡ view }
+        ensures bytes { result.bytes ≡ added (bytes_of_view bytes_read rows) (bytes_of_tree result.view) }
+    {
+        let bytes = bytes_of_view(bytes_read, rows).saturating_add(bytes_of_tree(&view));
+        CachedView {
+            revision,
+            view,
+            bytes,
+        }
+    }
+}
+
 /// An estimate of the memory that a view takes but for its linked tree, by the bytes of the texts that were
 /// read for it and the number of its rows.
-pub(crate) fn bytes_of_view(read: usize, rows: usize) -> usize
-    ensures { result ≡ bytes_of_view read rows }
+fn bytes_of_view(bytes_read: usize, rows: usize) -> usize
+    ensures { result ≡ bytes_of_view bytes_read rows }
 {
-    let documents = read.saturating_mul(BYTES_OF_A_TEXT_BYTE);
+    let documents = bytes_read.saturating_mul(BYTES_OF_A_TEXT_BYTE);
     let rows = rows.saturating_mul(ROW_BYTES);
     documents.saturating_add(rows).saturating_add(VIEW_BYTES)
 }
 
 /// An estimate of the memory that the view's linked tree takes, which may have far more nodes than the
 /// documents have bytes.
-pub(crate) fn bytes_of_tree(view: &View) -> usize
+fn bytes_of_tree(view: &View) -> usize
     ensures { result ≡ bytes_of_tree view.now }
 {
     view.nodes().saturating_mul(NODE_BYTES)
