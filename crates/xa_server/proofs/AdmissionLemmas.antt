@@ -9,7 +9,7 @@ use Rattle.std.proofs.lemmas.Map.Text.{is_eq-slice_cmp}
 use Rattle.xa_notation.specs.declared.token.Role.{Role}
 use Rattle.xa_records.specs.DomainState.{compare_bytes}
 use Rattle.xa_records.specs.Readings.{token_of}
-use Rattle.xa_server.specs.Gates.{role_in}
+use Rattle.xa_server.specs.handling.Gates.{role_in}
 
 -- the role of a digest among entries
 among : (digest : List ℕ) (tokens : List (List ℕ × Role)) → role_in digest (map token_of tokens) ≡ find compare_bytes digest tokens

@@ -19,10 +19,10 @@ use Rattle.xa_shelf.proofs.EntryLemmas.{all_promoted, all_put, all_removed, valu
 use Rattle.xa_server.specs.declared.revision.Revision.{Revision}
 use Rattle.xa_server.specs.declared.handling_error.HandlingError.{HandlingError}
 use Rattle.xa_server.specs.declared.handling_error.HandlingError.TheVariants.{Error, Failed}
-use Rattle.xa_server.specs.Gates.{revision_by, revision_in, revision_of, revision_with, role_in, without_gate}
+use Rattle.xa_server.specs.handling.Gates.{forgetting, remembering, revision_by, revision_in, revision_of, revision_with, role_in, using_gate, without_gate}
 use Rattle.xa_server.specs.handling.Replying.{Answers}
 use Rattle.xa_server.specs.Machine.{Answer, admitted, admitted_by, digest_shown, permitted}
-use Rattle.xa_server.specs.Resources.{AllStand, AreGates, IsGate, ResourcesModel, forgetting, remembering, using_gate}
+use Rattle.xa_server.specs.Resources.{AllStand, AreGates, IsGate, ResourcesModel}
 use Rattle.xa_server.proofs.AdmissionLemmas.{role_is}
 use Rattle.xa_server.proofs.GrowthLemmas.{grows}
 use Rattle.xa_server.proofs.ReadyLemmas.{ready_grown}

@@ -12,12 +12,12 @@ use Rattle.xa_records.specs.Readings.{gate_of_domain}
 use Rattle.xa_shelf.proofs.EntryLemmas.{all_promoted, all_removed, all_taken, value_found}
 use Rattle.xa_server.specs.declared.revision.Revision.{Revision}
 use Rattle.xa_server.specs.declared.cached_view.CachedView.{CachedView}
-use Rattle.xa_server.specs.Gates.{revision_by, revision_of}
+use Rattle.xa_server.specs.handling.Gates.{revision_by, revision_of}
 use Rattle.xa_server.specs.handling.Asking.{view_told}
-use Rattle.xa_server.specs.Resources.{AreReady, IsReady}
+use Rattle.xa_server.specs.Resources.{AreReady, IsReady, ViewsModel}
 use Rattle.xa_server.specs.Standing.{StandsUnder}
 use Rattle.xa_server.specs.View.{view_of}
-use Rattle.xa_server.specs.Views.{ViewsModel, added, bytes_of_tree, bytes_of_view, fitting_count, in_front, promoted, view_ready, with_view, without}
+use Rattle.xa_server.specs.handling.Views.{added, bytes_of_tree, bytes_of_view, fitting_count, in_front, promoted, view_ready, with_view, without}
 use Rattle.xa_server.proofs.GrowthLemmas.{HasGrown}
 use Rattle.xa_server.proofs.StandingLemmas.{all_implied, made_stands, stands_on}
 use Rattle.xa_server.proofs.WorkLemmas.{domain_of_revision}

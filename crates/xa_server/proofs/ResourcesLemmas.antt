@@ -6,10 +6,10 @@ use Rattle.xa_records.specs.Kept.{IsNumbered, Kept, state_of}
 use Rattle.xa_server.specs.declared.revision.Revision.{Revision}
 use Rattle.xa_server.specs.declared.cached_view.CachedView.{CachedView}
 use Rattle.xa_server.specs.declared.handling_error.HandlingError.{HandlingError}
-use Rattle.xa_server.specs.Gates.{revision_of}
+use Rattle.xa_server.specs.handling.Gates.{revision_of}
 use Rattle.xa_server.specs.handling.Asking.{IsFresh, IsLookedUp, evaluated_in, view_told}
 use Rattle.xa_server.specs.Resources.{AllStand, AreGates, AreReady, ResourcesModel}
-use Rattle.xa_server.specs.Views.{promoted, with_view, without}
+use Rattle.xa_server.specs.handling.Views.{promoted, with_view, without}
 use Rattle.xa_server.specs.Work.{key_of_revision}
 use Rattle.xa_server.proofs.ReadyLemmas.{made_ready, ready_promoted, ready_with, ready_without}
 use Rattle.xa_server.proofs.ValidLemmas.{fresh_valid, looked_valid}

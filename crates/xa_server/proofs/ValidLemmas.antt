@@ -14,7 +14,7 @@ use Rattle.xa_records.specs.Readings.{gate_of_domain}
 use Rattle.xa_server.specs.declared.revision.Revision.{Revision}
 use Rattle.xa_server.specs.declared.handling_error.HandlingError.{HandlingError}
 use Rattle.xa_server.specs.declared.handling_error.HandlingError.TheVariants.{Error, Failed}
-use Rattle.xa_server.specs.Gates.{revision_by, revision_of}
+use Rattle.xa_server.specs.handling.Gates.{revision_by, revision_of}
 use Rattle.xa_server.specs.handling.Asking.{IsFresh, IsLookedUp, evaluated_in}
 use Rattle.xa_server.specs.Decisions.{DecisionsModel}
 use Rattle.xa_server.specs.ValidCache.{AreValid, GivesBody, IsValid, response_body_at}

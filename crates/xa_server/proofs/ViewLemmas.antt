@@ -6,7 +6,7 @@ use Rattle.std.proofs.lemmas.Bool.{eqb-true}
 use Rattle.lru.specs.LruCache.{LruCache, put_entries}
 use Rattle.lru.proofs.CallerLemmas.{Contains-lookup_entry}
 use Rattle.xa_server.specs.declared.cached_view.CachedView.{CachedView}
-use Rattle.xa_server.specs.Views.{in_front}
+use Rattle.xa_server.specs.handling.Views.{in_front}
 
 -- where nothing stands under a number, nothing is taken away
 none : (number : ℕ) (es : List (ℕ × CachedView)) → lookup_entry (nat_eq number) es ≡ None → remove_entry (nat_eq number) es ≡ es

@@ -20,7 +20,7 @@ use Rattle.xa_server.specs.declared.revision.Revision.{Revision}
 use Rattle.xa_server.specs.declared.received_message.ReceivedMessage.{ReceivedMessage}
 use Rattle.xa_server.specs.declared.handling_error.HandlingError.{HandlingError}
 use Rattle.xa_server.specs.declared.handling_error.HandlingError.TheVariants.{Error, Failed}
-use Rattle.xa_server.specs.Gates.{revision_by, revision_of}
+use Rattle.xa_server.specs.handling.Gates.{revision_by, revision_of}
 use Rattle.xa_server.specs.handling.Asking.{IsAsked, IsFresh, WorksMessage, WorksOf, WorksRoute}
 use Rattle.xa_server.specs.handling.Replying.{IsReplyOf}
 use Rattle.xa_server.specs.handling.HandlingError.{error_of_route}

@@ -15,8 +15,6 @@ pub mod Interruption
 pub mod Standing
 pub mod ValidCache
 pub mod Work
-pub mod Views
-pub mod Gates
 pub mod Resources
 pub mod Connection
 pub mod Lines

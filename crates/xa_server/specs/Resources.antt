@@ -7,11 +7,15 @@ use Rattle.xa_records.specs.Kept.{Kept}
 use Rattle.xa_records.specs.Readings.{gate_of}
 use Rattle.xa_server.specs.declared.cached_view.CachedView.{CachedView}
 use Rattle.xa_server.specs.Decisions.{DecisionsModel, nothing_cached}
-use Rattle.xa_server.specs.Gates.{promoted, with_gate, without_gate}
 use Rattle.xa_server.specs.Standing.{StandsUnder}
 use Rattle.xa_server.specs.ValidCache.{AreValid}
 use Rattle.xa_server.specs.View.{view_of}
-use Rattle.xa_server.specs.Views.{ViewsModel}
+
+-- the cached views, how many of them there may be, and how many bytes they may take together
+pub record ViewsModel : Type 0 where
+  pub views : List (ℕ × CachedView)
+  pub max_count : ℕ
+  pub max_bytes : ℕ
 
 -- what a server caches: decisions with their counts, views, and gates that are remembered
 pub record ResourcesModel : Type 0 where
@@ -49,15 +53,3 @@ pub record AllStand (kept : Kept) (resources : ResourcesModel) : Type 0 where
   pub decisions : AreValid kept resources.decisions.cached
   pub views : AreReady kept resources.views.views
   pub gates : AreGates kept resources.gates
-
--- what is cached after the gate under a name was made the most recently used
-abbrev pub using_gate : List ℕ → ResourcesModel → ResourcesModel
-using_gate name resources = record resources { gates = promoted name resources.gates }
-
--- what is cached with one more gate under a name
-abbrev pub remembering : List ℕ → Gate → ResourcesModel → ResourcesModel
-remembering name gate resources = record resources { gates = with_gate name gate resources.gates }
-
--- what is cached without the gate under a name
-abbrev pub forgetting : List ℕ → ResourcesModel → ResourcesModel
-forgetting name resources = record resources { gates = without_gate name resources.gates }

@@ -2,8 +2,10 @@
 pub mod Answering
 pub mod Asking
 pub mod Driving
+pub mod Gates
 pub mod HandlingError
 pub mod Lending
 pub mod Replying
 pub mod Sending
 pub mod Viewing
+pub mod Views

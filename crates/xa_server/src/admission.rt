@@ -3,7 +3,7 @@ ghost use Rattle.std.specs.Prelude.{◌≡◌, Some};
 ghost use Rattle.xa_notation.specs.declared.token.Role.TheVariants.{Admin, Ask};
 ghost use Rattle.xa_records.specs.Kept.{state_of};
 ghost use Rattle.xa_records.specs.Readings.{gate_of};
-ghost use Rattle.xa_server.specs.Gates.{revision_of};
+ghost use Rattle.xa_server.specs.handling.Gates.{revision_of};
 ghost use Rattle.xa_server.specs.handling.Replying.{OnlyReads, Opens, Tells};
 ghost use Rattle.xa_server.specs.Machine.{admitted, admitted_by, by_operator, digest_shown, permitted};
 ghost use Rattle.xa_server.specs.Resources.{AllStand};

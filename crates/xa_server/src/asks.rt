@@ -26,7 +26,7 @@ ghost use Rattle.xa_server.specs.handling.Replying.{Answers, OnlyReads, Tells};
 ghost use Rattle.xa_server.specs.Machine.{response_to, told};
 ghost use Rattle.xa_server.specs.Resources.{AllStand};
 ghost use Rattle.xa_server.specs.handling.Viewing.{AreKeyed, nothing_viewed};
-ghost use Rattle.xa_server.specs.Views.{added, bytes_of_tree, bytes_of_view};
+ghost use Rattle.xa_server.specs.handling.Views.{added, bytes_of_tree, bytes_of_view};
 ghost use Rattle.xa_server.specs.Work.{cached_body};
 
 use crate::cached_view::CachedView;

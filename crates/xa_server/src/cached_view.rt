@@ -1,6 +1,6 @@
 //! A cached view, and how much memory it takes.
 ghost use Rattle.std.specs.Prelude.{◌≡◌, ◌*◌};
-ghost use Rattle.xa_server.specs.Views.{added, bytes_of_tree, bytes_of_view, times};
+ghost use Rattle.xa_server.specs.handling.Views.{added, bytes_of_tree, bytes_of_view, times};
 
 use crate::revision::Revision;
 use xa_decide::View;

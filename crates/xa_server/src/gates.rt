@@ -2,7 +2,7 @@
 //! in: the domain's tokens, with its number and epoch.
 ghost use Rattle.std.specs.Prelude.{◌≡◌, ◌⊎◌, [], IfOk, None, bytes_eq};
 ghost use Rattle.std.specs.Map.{lookup};
-ghost use Rattle.xa_server.specs.Gates.{promoted, revision_in, role_in, with_gate, without_gate};
+ghost use Rattle.xa_server.specs.handling.Gates.{promoted, revision_in, role_in, with_gate, without_gate};
 
 use crate::revision::Revision;
 use lru::LruCache;

@@ -2,8 +2,8 @@
 //! and what the decision on a message may cost.
 ghost use Rattle.std.specs.Prelude.{◌≡◌, ◌⊎◌, [], IfOk, IsSome, None, bytes_eq};
 ghost use Rattle.std.specs.Map.{lookup};
-ghost use Rattle.xa_server.specs.Gates.{revision_in};
-ghost use Rattle.xa_server.specs.Resources.{empty_resources, forgetting, remembering, using_gate};
+ghost use Rattle.xa_server.specs.handling.Gates.{forgetting, remembering, revision_in, using_gate};
+ghost use Rattle.xa_server.specs.Resources.{empty_resources};
 
 use crate::decisions::Decisions;
 use crate::gates::Gates;

@@ -1,6 +1,6 @@
 //! A state of a domain, without its content.
 ghost use Rattle.std.specs.Prelude.{◌≡◌};
-ghost use Rattle.xa_server.specs.Gates.{revision_by};
+ghost use Rattle.xa_server.specs.handling.Gates.{revision_by};
 
 use xa_records::Gate;
 

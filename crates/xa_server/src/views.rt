@@ -2,8 +2,8 @@
 ghost use Rattle.std.specs.Prelude.{◌≡◌, ◌≤◌, ◌-◌, ◌^◌, true, false, [], take};
 ghost use Rattle.std.specs.Prelude.{min, nat_eq, nat_le, option_map, IfOk};
 ghost use Rattle.std.specs.Map.{remove_entry};
-ghost use Rattle.xa_server.specs.Views.{fitting_count, in_front, promoted, shortened};
-ghost use Rattle.xa_server.specs.Views.{view_ready, with_view, without};
+ghost use Rattle.xa_server.specs.handling.Views.{fitting_count, in_front, promoted, shortened};
+ghost use Rattle.xa_server.specs.handling.Views.{view_ready, with_view, without};
 
 use crate::cached_view::CachedView;
 use crate::revision::Revision;
@@ -35,7 +35,7 @@ impl Model for Views {
     ghost use Rattle.std.specs.Prelude.{◌≡◌, ◌-◌, ◌^◌};
     ghost use Rattle.std.specs.Coded.{codes};
     ghost use Rattle.xa_server.specs.contracts.cached_view.CachedView as entry;
-    ghost use Rattle.xa_server.specs.Views.{ViewsModel};
+    ghost use Rattle.xa_server.specs.Resources.{ViewsModel};
 
     ghost Value = { ViewsModel };
 

@@ -22,7 +22,7 @@ use Rattle.xa_server.specs.declared.received_message.ReceivedMessage.{ReceivedMe
 use Rattle.xa_server.specs.declared.revision.Revision.{Revision}
 use Rattle.xa_server.specs.declared.handling_error.HandlingError.{HandlingError}
 use Rattle.xa_server.specs.declared.handling_error.HandlingError.TheVariants.{Error, Failed}
-use Rattle.xa_server.specs.Gates.{revision_of}
+use Rattle.xa_server.specs.handling.Gates.{revision_of}
 use Rattle.xa_server.specs.handling.Replying.{OnlyReads, Sharing, Shows}
 use Rattle.xa_server.specs.Decisions.{DecisionsModel}
 use Rattle.xa_server.specs.Replies.{decision_reply}

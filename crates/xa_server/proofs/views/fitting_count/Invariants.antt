@@ -1,5 +1,5 @@
 use Rattle.std.proofs.Common.{◌≡◌, ◌≤◌, ◌-◌, ◌+◌}
-use Rattle.xa_server.specs.Views.{fitting_count}
+use Rattle.xa_server.specs.handling.Views.{fitting_count}
 use Rattle.xa_server.proofs.views.fitting_count.Given as goal
 
 -- those so far, and then those of the rest that find room

@@ -1,5 +1,4 @@
--- Cached views, each under its domain's number, the most recently used first: words that only private functions and the
--- server's invariant cite.
+-- Cached views, each under its domain's number, the most recently used first.
 use Rattle.std.specs.Prelude.{◌+◌, ◌*◌, ◌-◌, ◌&&◌, ℕ, List, [], ◌∷◌, Option, Some, None, min, nat_eq, nat_le, nat_lt}
 use Rattle.std.specs.Prelude.{option_and_then, take, ◌^◌, if◌then◌else◌}
 use Rattle.std.specs.Map.{lookup, remove_entry}
@@ -7,12 +6,7 @@ use Rattle.lru.specs.LruCache.{promoted as entries_promoted}
 use Rattle.xa_decide.specs.Decision.{Viewed}
 use Rattle.xa_decide.specs.Nodes.{nodes_of_tree}
 use Rattle.xa_server.specs.declared.cached_view.CachedView.{CachedView}
-
--- the cached views, how many of them there may be, and how many bytes they may take together
-pub record ViewsModel : Type 0 where
-  pub views : List (ℕ × CachedView)
-  pub max_count : ℕ
-  pub max_bytes : ℕ
+use Rattle.xa_server.specs.Resources.{ViewsModel}
 
 -- a cached view, if it is of that epoch
 abbrev pub view_if : ℕ → CachedView → Option Viewed

@@ -1,5 +1,4 @@
--- Gates that are remembered, each under its domain's name, the most recently used first: words that only private
--- functions and the server's invariant cite.
+-- Gates that are remembered, each under its domain's name, the most recently used first.
 use Rattle.std.specs.Prelude.{ℕ, List, [], ◌∷◌, Option, Some, None, option_and_then, option_map, bytes_eq}
 use Rattle.std.specs.Prelude.{if◌then◌else◌}
 use Rattle.std.specs.Map.{lookup, remove_entry}
@@ -10,6 +9,7 @@ use Rattle.xa_records.specs.declared.gate.Token.{Token}
 use Rattle.xa_records.specs.Kept.{Kept}
 use Rattle.xa_records.specs.Readings.{gate_of}
 use Rattle.xa_server.specs.declared.revision.Revision.{Revision}
+use Rattle.xa_server.specs.Resources.{ResourcesModel}
 
 -- the revision of a gate's domain: its number and its epoch
 abbrev pub revision_by : Gate → Revision
@@ -43,3 +43,15 @@ with_gate name gate gates = put_entries bytes_eq (lru_cache gates 512) name gate
 -- the gates without the one under a name
 abbrev pub without_gate : List ℕ → List (List ℕ × Gate) → List (List ℕ × Gate)
 without_gate name gates = remove_entry (bytes_eq name) gates
+
+-- what is cached after the gate under a name was made the most recently used
+abbrev pub using_gate : List ℕ → ResourcesModel → ResourcesModel
+using_gate name resources = record resources { gates = promoted name resources.gates }
+
+-- what is cached with one more gate under a name
+abbrev pub remembering : List ℕ → Gate → ResourcesModel → ResourcesModel
+remembering name gate resources = record resources { gates = with_gate name gate resources.gates }
+
+-- what is cached without the gate under a name
+abbrev pub forgetting : List ℕ → ResourcesModel → ResourcesModel
+forgetting name resources = record resources { gates = without_gate name resources.gates }
