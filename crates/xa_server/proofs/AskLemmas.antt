@@ -40,30 +40,34 @@ use Rattle.xa_server.proofs.WorkLemmas.{domain_of_revision}
 
 -- ---- what was responded
 
+-- a response has that body and that mark
+one_response : (r : Responded) (body : List ℕ) (timeless : Bool) → r.body ≡ body → r.timeless ≡ timeless → r ≡ record { body = body; timeless = timeless }
+one_response r body timeless body_is marked = λ i. record { body = body_is i; timeless = marked i }
+
 -- a response with its mark is what is evaluated
 response_is : (view : Viewed) (body : List ℕ) (moment : ℤ) (sent : Option Responded) → option_map (λ r. r.body) sent ≡ option_map decision.body_of (decision.answer view body moment)
-    → IfSome sent (λ r. r.timeless ≡ is_timeless_answer view body) → response_of view body moment ≡ option_map (λ r. (r.body, r.timeless)) sent
+    → IfSome sent (λ r. r.timeless ≡ is_timeless_answer view body) → response_of view body moment ≡ sent
 unfolding response_of
 response_is view body moment sent is timeless = by_answer (decision.answer view body moment) refl sent is timeless where
   by_answer : (answered : Option decision.Answered) → decision.answer view body moment ≡ answered → (s : Option Responded)
       → option_map (λ r. r.body) s ≡ option_map decision.body_of (decision.answer view body moment) → IfSome s (λ r. r.timeless ≡ is_timeless_answer view body)
-      → response_of view body moment ≡ option_map (λ r. (r.body, r.timeless)) s
+      → response_of view body moment ≡ s
   by_answer None e None is timeless = rw e refl
   by_answer None e (Some r) is timeless = let none : Some r.body ≡ None = is ∙ ap (option_map decision.body_of) e in absurd cc
   by_answer (Some answered) e None is timeless = let none : None ≡ Some (decision.body_of answered) = is ∙ ap (option_map decision.body_of) e in absurd cc
   by_answer (Some answered) e (Some r) is timeless =
       let some : Some r.body ≡ Some (decision.body_of answered) = is ∙ ap (option_map decision.body_of) e in
       let body_is : r.body ≡ decision.body_of answered = cc in
-      rw e (ap (λ b. Some (b, is_timeless_answer view body)) (sym body_is) ∙ ap (λ t. Some (r.body, t)) (sym timeless))
+      rw e (ap Some (sym (one_response r (decision.body_of answered) (is_timeless_answer view body) body_is timeless)))
 
 -- where it is told, or why there is none
 pub response_so : (view : Viewed) (body : List ℕ) (moment : ℤ) (sent : Option Responded) (responded : Responded) → ok_or sent (error.Body NotJson) ≡ Ok responded
     → option_map (λ r. r.body) sent ≡ option_map decision.body_of (decision.answer view body moment) → IfSome sent (λ r. r.timeless ≡ is_timeless_answer view body)
-    → response_of view body moment ≡ Some (responded.body, responded.timeless)
+    → response_of view body moment ≡ Some responded
 response_so view body moment None responded told is timeless = absurd cc
 response_so view body moment (Some r) responded told is timeless =
     let same : r ≡ responded = (let it : Ok r ≡ Ok responded = told in cc) in
-    response_is view body moment (Some r) is timeless ∙ ap (λ (x : Responded). Some (x.body, x.timeless)) same
+    response_is view body moment (Some r) is timeless ∙ ap Some same
 
 pub no_response : (view : Viewed) (body : List ℕ) (moment : ℤ) (sent : Option Responded) (code : ErrorCode) → ok_or sent (error.Body NotJson) ≡ Err code
     → option_map (λ r. r.body) sent ≡ option_map decision.body_of (decision.answer view body moment) → IfSome sent (λ r. r.timeless ≡ is_timeless_answer view body)
@@ -86,12 +90,12 @@ by_view (Some state) view body moment is =
 pub replied : (old new : Kept) (name body : List ℕ) (moment : ℤ) (view : Viewed) (result : Result (List ℕ) HandlingError) → view_told (state_of name old) ≡ Ok view
     → IsResponseReply (response_of view body moment) result → new ≡ old → Shows old new result (reply_told body moment (state_of name old))
 replied old new name body moment view result is meant same =
-    subst (λ told. Shows old new result (told >>= (λ response. Ok (decision_reply response.0)))) (sym (by_view (state_of name old) view body moment is))
+    subst (λ (told : Result Responded ErrorCode). Shows old new result (told >>= (λ response. Ok (decision_reply response.body)))) (sym (by_view (state_of name old) view body moment is))
     (by_response (response_of view body moment) result meant) where
-      by_response : (response : Option (List ℕ × Bool)) (r : Result (List ℕ) HandlingError) → IsResponseReply response r → Shows old new r (ok_or response (error.Body NotJson) >>= (λ pair. Ok (decision_reply pair.0)))
-      by_response (Some pair) (Ok bytes) meant = (let e : decision_reply pair.0 ≡ bytes = cc in ap Ok e, same)
+      by_response : (response : Option Responded) (r : Result (List ℕ) HandlingError) → IsResponseReply response r → Shows old new r (ok_or response (error.Body NotJson) >>= (λ (sent : Responded). Ok (decision_reply sent.body)))
+      by_response (Some sent) (Ok bytes) meant = (let e : decision_reply sent.body ≡ bytes = cc in ap Ok e, same)
       by_response None (Ok bytes) meant = absurd cc
-      by_response (Some pair) (Err (Error code)) (none, no_json) = absurd cc
+      by_response (Some sent) (Err (Error code)) (none, no_json) = absurd cc
       by_response None (Err (Error code)) (none, no_json) = (ap Err (sym no_json), same)
       by_response response (Err (Failed failure)) meant = same
 
@@ -156,13 +160,13 @@ and_false true other = refl
 and_false false other = refl
 
 -- a decision that was evaluated is cached under the key of its body, if that isn't too large
-pub noted : (key : Key) (given : Option Key) (body : List ℕ) (timeless : Bool) (old new : DecisionsModel) → given ≡ key_within key → IsNoted given body timeless old new
-    → IsEvaluated key (Some (body, timeless)) old new
-noted key given body timeless old new is = subst (λ (g : Option Key). IsNoted g body timeless old new → IsEvaluated key (Some (body, timeless)) old new) (sym is) (by_size (nat_le (length key.body) 16_384) refl) where
-  by_size : (small : Bool) → nat_le (length key.body) 16_384 ≡ small → IsNoted (cond small (Some key) None) body timeless old new → IsEvaluated key (Some (body, timeless)) old new
+pub noted : (key : Key) (given : Option Key) (responded : Responded) (old new : DecisionsModel) → given ≡ key_within key → IsNoted given responded old new
+    → IsEvaluated key (Some responded) old new
+noted key given responded old new is = subst (λ (g : Option Key). IsNoted g responded old new → IsEvaluated key (Some responded) old new) (sym is) (by_size (nat_le (length key.body) 16_384) refl) where
+  by_size : (small : Bool) → nat_le (length key.body) 16_384 ≡ small → IsNoted (cond small (Some key) None) responded old new → IsEvaluated key (Some responded) old new
   by_size true e work = work
   by_size false e (more, held, unkept) =
-      (more, subst (λ (b : Bool). IsBodyCached b key body old new) (sym (ap (λ (b : Bool). timeless && (b && nat_le (length body) 16_384)) e ∙ and_false timeless (nat_le (length body) 16_384))) (held, unkept))
+      (more, subst (λ (b : Bool). IsBodyCached b key responded.body old new) (sym (ap (λ (b : Bool). responded.timeless && (b && nat_le (length responded.body) 16_384)) e ∙ and_false responded.timeless (nat_le (length responded.body) 16_384))) (held, unkept))
 
 -- the key is the one that was given, and what is cached under it is found
 pub key_is : (key small : Key) → Some small ≡ key_within key → small ≡ key
@@ -230,8 +234,9 @@ unasked : (view : Viewed) (body : List ℕ) (moment : ℤ) → asks_policies bod
 unfolding response_of
 unasked view body moment none =
     let alike = others_alike body none nothing_viewed view moment moment in
-    ap (λ timeless. option_map (λ answered. (decision.body_of answered, timeless)) (decision.answer nothing_viewed body moment)) alike.1
-    ∙ ap (option_map (λ answered. (decision.body_of answered, is_timeless_answer view body))) alike.0
+    let marked : Bool → decision.Answered → Responded = λ timeless answered. record { body = decision.body_of answered; timeless = timeless } in
+    ap (λ (timeless : Bool). option_map (marked timeless) (decision.answer nothing_viewed body moment)) alike.1
+    ∙ ap (option_map (marked (is_timeless_answer view body))) alike.0
 
 module _ (kept : Kept) (name body : List ℕ) (moment : ℤ) (revision : Revision) (opens : revision_of name kept ≡ Some revision) (none : asks_policies body ≡ false) where
   -- the reply by it is that of the domain

@@ -5,6 +5,7 @@ use Rattle.std.specs.FinMap.{get}
 use Rattle.xa_cache.specs.Bodies.{fits, found}
 use Rattle.xa_cache.specs.declared.key.Key.{Key}
 use Rattle.xa_cache.proofs.BodyLemmas.{all_found, all_kept, all_looked}
+use Rattle.xa_decide.specs.declared.decision.Responded.{Responded}
 use Rattle.xa_decide.specs.Decision as decision
 use Rattle.xa_decide.specs.Timeless.{is_timeless_answer}
 use Rattle.xa_decide.proofs.TimelessLemmas.{timeless_answers_stay}
@@ -45,55 +46,56 @@ found_right kept name domain held body decided moment valid there is =
 
 -- ---- a decision that was evaluated
 
-one_pair : (a b : List ℕ × Bool) → Some a ≡ Some b → a ≡ b
-one_pair a b e = cc
+one_response : (a b : Responded) → Some a ≡ Some b → a ≡ b
+one_response a b e = cc
 
 -- the body is that of the response
-is_body : (state : DomainState) (body decided : List ℕ) (timeless : Bool) (moment : ℤ) → evaluated_response state body moment ≡ Some (decided, timeless)
-    → (response_body_at state body moment ≡ Some decided) × (is_timeless_answer (view_of state) body ≡ timeless)
+is_body : (state : DomainState) (body : List ℕ) (responded : Responded) (moment : ℤ) → evaluated_response state body moment ≡ Some responded
+    → (response_body_at state body moment ≡ Some responded.body) × (is_timeless_answer (view_of state) body ≡ responded.timeless)
 unfolding response_body_at response_of
-is_body state body decided timeless moment worked = by_answer (decision.answer (view_of state) body moment) refl where
+is_body state body responded moment worked = by_answer (decision.answer (view_of state) body moment) refl where
   by_answer : (answered : Option decision.Answered) → decision.answer (view_of state) body moment ≡ answered
-      → (response_body_at state body moment ≡ Some decided) × (is_timeless_answer (view_of state) body ≡ timeless)
-  by_answer None e = let none : None ≡ Some (decided, timeless) = rw e at worked in absurd cc
+      → (response_body_at state body moment ≡ Some responded.body) × (is_timeless_answer (view_of state) body ≡ responded.timeless)
+  by_answer None e = let none : None ≡ Some responded = rw e at worked in absurd cc
   by_answer (Some answered) e =
-      let pair : (decision.body_of answered, is_timeless_answer (view_of state) body) ≡ (decided, timeless) = one_pair _ _ (rw e at worked) in
-      (rw e (ap (λ p. Some p.0) pair), ap (λ p. p.1) pair)
+      let given : Responded = record { body = decision.body_of answered; timeless = is_timeless_answer (view_of state) body } in
+      let same : given ≡ responded = one_response given responded (rw e at worked) in
+      (rw e (ap (λ (r : Responded). Some r.body) same), ap (λ (r : Responded). r.timeless) same)
 
 -- one that stays is right at every moment
-stays_right : (state : DomainState) (body decided : List ℕ) (moment other : ℤ) → evaluated_response state body moment ≡ Some (decided, true)
-    → response_body_at state body other ≡ Some decided
+stays_right : (state : DomainState) (body : List ℕ) (responded : Responded) (moment other : ℤ) → evaluated_response state body moment ≡ Some responded → responded.timeless ≡ true
+    → response_body_at state body other ≡ Some responded.body
 unfolding response_body_at
-stays_right state body decided moment other worked =
-    let is = is_body state body decided true moment worked in
-    ap (option_map decision.body_of) (timeless_answers_stay (view_of state) body is.1 other moment) ∙ is.0
+stays_right state body responded moment other worked marked =
+    let is = is_body state body responded moment worked in
+    ap (option_map decision.body_of) (timeless_answers_stay (view_of state) body (is.1 ∙ marked) other moment) ∙ is.0
 
-worked_valid : (kept : Kept) (name : List ℕ) (domain : Domain) (body decided : List ℕ) (moment : ℤ) → IsNumbered kept → get kept.domains name ≡ Some domain
-    → evaluated_response domain.state body moment ≡ Some (decided, true) → IsValid kept (cache_key domain body, decided)
-worked_valid kept name domain body decided moment numbered there worked =
-    made_stands (GivesBody (cache_key domain body, decided)) kept name domain numbered there (λ at. stays_right domain.state body decided moment at worked)
+worked_valid : (kept : Kept) (name : List ℕ) (domain : Domain) (body : List ℕ) (responded : Responded) (moment : ℤ) → IsNumbered kept → get kept.domains name ≡ Some domain
+    → evaluated_response domain.state body moment ≡ Some responded → responded.timeless ≡ true → IsValid kept (cache_key domain body, responded.body)
+worked_valid kept name domain body responded moment numbered there worked marked =
+    made_stands (GivesBody (cache_key domain body, responded.body)) kept name domain numbered there (λ at. stays_right domain.state body responded moment at worked marked)
 
 -- ---- what is cached after a message
 
 module _ (kept' : Kept) (numbered : IsNumbered kept') (name : List ℕ) (domain' : Domain) (there : get kept'.domains name ≡ Some domain') (body : List ℕ) (moment : ℤ) where
-  valid_held : (decided : List ℕ) (timeless holds : Bool) → (holds ≡ true → timeless ≡ true) → (old new : DecisionsModel) → evaluated_response domain'.state body moment ≡ Some (decided, timeless)
-      → IsBodyCached holds (cache_key domain' body) decided old new → AreValid kept' old.cached → AreValid kept' new.cached
-  valid_held decided timeless false so old new worked (held, unkept) valid = subst (AreValid kept') (sym held) valid
-  valid_held decided timeless true so old new worked (inr (held, unkept)) valid = subst (AreValid kept') (sym held) valid
-  valid_held decided timeless true so old new worked (inl (held, unkept)) valid =
+  valid_held : (responded : Responded) (holds : Bool) → (holds ≡ true → responded.timeless ≡ true) → (old new : DecisionsModel) → evaluated_response domain'.state body moment ≡ Some responded
+      → IsBodyCached holds (cache_key domain' body) responded.body old new → AreValid kept' old.cached → AreValid kept' new.cached
+  valid_held responded false so old new worked (held, unkept) valid = subst (AreValid kept') (sym held) valid
+  valid_held responded true so old new worked (inr (held, unkept)) valid = subst (AreValid kept') (sym held) valid
+  valid_held responded true so old new worked (inl (held, unkept)) valid =
       subst (AreValid kept') (sym held)
-      (all_kept (IsValid kept') (cache_key domain' body) decided old.cached
-      (worked_valid kept' name domain' body decided moment numbered there (worked ∙ ap (λ t. Some (decided, t)) (so refl))) valid)
+      (all_kept (IsValid kept') (cache_key domain' body) responded.body old.cached
+      (worked_valid kept' name domain' body responded moment numbered there worked (so refl)) valid)
 
   first : (a b : Bool) → (a && b) ≡ true → a ≡ true
   first true b h = refl
   first false b h = absurd cc
 
-  valid_worked : (worked : Option (List ℕ × Bool)) (old new : DecisionsModel) → evaluated_response domain'.state body moment ≡ worked → IsEvaluated (cache_key domain' body) worked old new
+  valid_worked : (worked : Option Responded) (old new : DecisionsModel) → evaluated_response domain'.state body moment ≡ worked → IsEvaluated (cache_key domain' body) worked old new
       → AreValid kept' old.cached → AreValid kept' new.cached
   valid_worked None old new e same valid = subst (λ t. AreValid kept' t.cached) (sym same) valid
-  valid_worked (Some (decided, timeless)) old new e (counted, held) valid =
-      valid_held decided timeless (timeless && fits (cache_key domain' body) decided) (first timeless (fits (cache_key domain' body) decided)) old new e held valid
+  valid_worked (Some responded) old new e (counted, held) valid =
+      valid_held responded (responded.timeless && fits (cache_key domain' body) responded.body) (first responded.timeless (fits (cache_key domain' body) responded.body)) old new e held valid
 
   valid_fresh : (result : Result (List ℕ) HandlingError) (old new : DecisionsModel) → IsFresh (cache_key domain' body) (evaluated_response domain'.state body moment) result old new
       → AreValid kept' old.cached → AreValid kept' new.cached

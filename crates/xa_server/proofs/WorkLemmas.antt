@@ -1,8 +1,9 @@
 -- What was done for a message to cached decisions.
 use Rattle.std.proofs.Common.{◌≡◌, ℕ, ℤ, List, [], ◌∷◌, ◌++◌, refl, sym, subst, inl, inr}
-use Rattle.std.specs.Prelude.{Bool, Option, Some, None, Result, Ok, Err}
+use Rattle.std.specs.Prelude.{Option, Some, None, Result, Ok, Err}
 use Rattle.std.specs.FinMap.{get}
 use Rattle.xa_cache.specs.declared.key.Key.{Key}
+use Rattle.xa_decide.specs.declared.decision.Responded.{Responded}
 use Rattle.xa_value.specs.declared.or_memory.OrMemory.{OrMemory}
 use Rattle.xa_value.specs.declared.or_memory.OrMemory.TheVariants as or_memory
 use Rattle.xa_value.specs.Gives.{Gives}
@@ -31,7 +32,7 @@ use Rattle.xa_server.specs.World.{World}
 
 -- ---- a message that failed, or was turned away, before anything was done
 
-failed_ask : (key : Key) (held : Option (List ℕ)) (worked : Option (List ℕ × Bool)) (failure : Failure) (decisions : DecisionsModel) → IsAsked key held worked (Err (Failed failure)) decisions decisions
+failed_ask : (key : Key) (held : Option (List ℕ)) (worked : Option Responded) (failure : Failure) (decisions : DecisionsModel) → IsAsked key held worked (Err (Failed failure)) decisions decisions
 failed_ask key None worked failure decisions = refl
 failed_ask key (Some body) worked failure decisions = inl refl
 
@@ -72,7 +73,7 @@ unasked_work received kept (or_memory.Error fault) decisions gives = rw gives re
 
 -- ---- what goes back
 
-fresh_work : (key : Key) (worked : Option (List ℕ × Bool)) (result : Result (List ℕ) HandlingError) (reply : Reply) (old new : DecisionsModel)
+fresh_work : (key : Key) (worked : Option Responded) (result : Result (List ℕ) HandlingError) (reply : Reply) (old new : DecisionsModel)
     → IsFresh key worked result old new → IsReplyOf result reply → IsAskWork key None worked reply old new
 fresh_work key worked (Ok bytes) reply old new work is = subst (λ r. IsAskWork key None worked r old new) (sym is) work
 fresh_work key worked (Err (Failed failure)) reply old new work is = subst (λ r. IsAskWork key None worked r old new) (sym is) (inl work)
@@ -80,7 +81,7 @@ fresh_work key worked (Err (Error code)) reply old new (none, same) (inl is) =
     subst (λ r. IsAskWork key None worked r old new) (sym is) (subst (λ w. IsEvaluated key w old new) (sym none) same)
 fresh_work key worked (Err (Error code)) reply old new (none, same) (inr is) = subst (λ r. IsAskWork key None worked r old new) (sym is) (inl same)
 
-ask_work : (key : Key) (held : Option (List ℕ)) (worked : Option (List ℕ × Bool)) (result : Result (List ℕ) HandlingError) (reply : Reply) (old new : DecisionsModel)
+ask_work : (key : Key) (held : Option (List ℕ)) (worked : Option Responded) (result : Result (List ℕ) HandlingError) (reply : Reply) (old new : DecisionsModel)
     → IsAsked key held worked result old new → IsReplyOf result reply → IsAskWork key held worked reply old new
 ask_work key None worked result reply old new work is = fresh_work key worked result reply old new work is
 ask_work key (Some body) worked (Ok bytes) reply old new work is = subst (λ r. IsAskWork key (Some body) worked r old new) (sym is) work

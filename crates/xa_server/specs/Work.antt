@@ -4,6 +4,7 @@ use Rattle.std.specs.Prelude.{option_and_then, option_map, Result, Ok, Err, leng
 use Rattle.std.specs.FinMap.{get}
 use Rattle.xa_cache.specs.Bodies.{fits, found, kept, looked}
 use Rattle.xa_cache.specs.declared.key.Key.{Key}
+use Rattle.xa_decide.specs.declared.decision.Responded.{Responded}
 use Rattle.xa_decide.specs.Decision as decision
 use Rattle.xa_decide.specs.Decision.{Viewed}
 use Rattle.xa_decide.specs.Timeless.{is_timeless_answer}
@@ -64,13 +65,13 @@ cache_key domain body = key_of_revision (domain_revision domain) body
 
 -- the body of the response that is evaluated by what decides, and whether it is the same at every moment; nothing if
 -- the request's body is no JSON
-unfoldable pub response_of : Viewed → List ℕ → ℤ → Option (List ℕ × Bool)
+unfoldable pub response_of : Viewed → List ℕ → ℤ → Option Responded
 response_of view body moment =
-    option_map (λ answered. (decision.body_of answered, is_timeless_answer view body))
+    option_map (λ answered. record { body = decision.body_of answered; timeless = is_timeless_answer view body })
     (decision.answer view body moment)
 
 -- `response_of` what decides in a domain of that state
-abbrev pub evaluated_response : DomainState → List ℕ → ℤ → Option (List ℕ × Bool)
+abbrev pub evaluated_response : DomainState → List ℕ → ℤ → Option Responded
 evaluated_response state body moment = response_of (view_of state) body moment
 
 -- ---- what becomes of the cached decisions, and of the counts
@@ -84,21 +85,26 @@ abbrev pub looked_up : Key → DecisionsModel → DecisionsModel
 looked_up key decisions = record decisions { cached = looked key decisions.cached }
 
 -- a body that is to be cached is cached, or is counted as not cached
-abbrev pub IsBodyCached : Bool → Key → List ℕ → DecisionsModel → DecisionsModel → Type 0
-IsBodyCached true key body old new =
+abbrev pub IsKept : Key → List ℕ → DecisionsModel → DecisionsModel → Type 0
+IsKept key body old new =
     ((new.cached ≡ kept key body old.cached) × (new.unkept ≡ old.unkept))
     ⊎ ((new.cached ≡ old.cached) × IsOneMore old.unkept new.unkept)
+
+-- `IsKept` a body that may be cached; any other isn't
+abbrev pub IsBodyCached : Bool → Key → List ℕ → DecisionsModel → DecisionsModel → Type 0
+IsBodyCached true key body old new = IsKept key body old new
 IsBodyCached false key body old new = (new.cached ≡ old.cached) × (new.unkept ≡ old.unkept)
 
 -- a decision was evaluated: it is counted, and cached if it is the same at every moment and neither body is too large.
 -- Of no JSON nothing is evaluated
-abbrev pub IsEvaluated : Key → Option (List ℕ × Bool) → DecisionsModel → DecisionsModel → Type 0
+abbrev pub IsEvaluated : Key → Option Responded → DecisionsModel → DecisionsModel → Type 0
 IsEvaluated key None old new = new ≡ old
-IsEvaluated key (Some (body, timeless)) old new =
-    IsOneMore old.evaluations new.evaluations × IsBodyCached (timeless && fits key body) key body old new
+IsEvaluated key (Some responded) old new =
+    IsOneMore old.evaluations new.evaluations
+    × IsBodyCached (responded.timeless && fits key responded.body) key responded.body old new
 
 -- the work of an ask whose decision is cached, or isn't. One that is refused may have done as much, or nothing
-abbrev pub IsAskWork : Key → Option (List ℕ) → Option (List ℕ × Bool) → Reply → DecisionsModel → DecisionsModel → Type 0
+abbrev pub IsAskWork : Key → Option (List ℕ) → Option Responded → Reply → DecisionsModel → DecisionsModel → Type 0
 IsAskWork key (Some body) worked (Sent _) old new = new ≡ looked_up key old
 IsAskWork key (Some body) worked (Refused _) old new = (new ≡ old) ⊎ (new ≡ looked_up key old)
 IsAskWork key None worked (Sent _) old new = IsEvaluated key worked old new

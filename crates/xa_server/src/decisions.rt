@@ -1,9 +1,9 @@
 //! The cached decisions, with their counts.
-ghost use Rattle.std.specs.Prelude.{◌≡◌, true, option_map, IfOk};
+ghost use Rattle.std.specs.Prelude.{◌≡◌, option_map, IfOk};
 ghost use Rattle.xa_cache.specs.Bodies.{found};
 ghost use Rattle.xa_server.specs.handling.Asking.{IsLookedUp, IsNoted, key_within};
 ghost use Rattle.xa_server.specs.Decisions.{nothing_cached};
-ghost use Rattle.xa_server.specs.Work.{IsBodyCached, key_of_revision};
+ghost use Rattle.xa_server.specs.Work.{IsKept, key_of_revision};
 ghost use Rattle.xa_server.specs.Replies.{decision_reply};
 
 use crate::replies::decision_reply;
@@ -91,7 +91,7 @@ impl Decisions {
 
     /// Caches a decision, or counts that it couldn't.
     fn keep(&mut self, key: Key, body: Items<u8>)
-        ensures cached { IsBodyCached true key body self.old self.new }
+        ensures cached { IsKept key body self.old self.new }
         ensures evaluations { self.new.evaluations ≡ self.old.evaluations }
     {
         if !self.cache.keep(key, body) {
@@ -102,7 +102,7 @@ impl Decisions {
     /// Counts a decision that was evaluated, and caches it if there is a key for it, it is the same at
     /// every moment and neither body is too large.
     pub(crate) fn note(&mut self, key: Option<Key>, responded: Responded)
-        ensures { IsNoted key responded.body responded.timeless self.old self.new }
+        ensures { IsNoted key responded self.old self.new }
     {
         self.evaluations = self.evaluations.saturating_add(1);
         let Some(key) = key else {

@@ -1,6 +1,6 @@
 -- How an ask, a request for a decision that a domain has let in, is answered.
 use Rattle.std.specs.Option.{ok_or}
-use Rattle.std.specs.Prelude.{◌≡◌, ◌⊎◌, ℕ, ℤ, Bool, List, length, nat_le, OnErr, Option, Some, None, option_and_then}
+use Rattle.std.specs.Prelude.{◌≡◌, ◌⊎◌, ℕ, ℤ, List, length, nat_le, OnErr, Option, Some, None, option_and_then}
 use Rattle.std.specs.Prelude.{option_map, Result, Ok, Err, if◌then◌else◌}
 use Rattle.xa_value.specs.Gives.{◌>>=◌}
 use Rattle.xa_notation.specs.declared.notation_error.NotationError.TheVariants.{NotJson}
@@ -10,6 +10,7 @@ use Rattle.xa_records.specs.DomainState.{DomainState}
 use Rattle.xa_records.specs.Keeper.{Custody, IsOneMore}
 use Rattle.xa_records.specs.Kept.{Domain, Kept, state_of}
 use Rattle.xa_cache.specs.declared.key.Key.{Key}
+use Rattle.xa_decide.specs.declared.decision.Responded.{Responded}
 use Rattle.xa_decide.specs.Decision.{Viewed}
 use Rattle.xa_http.specs.declared.route.Route.{Route}
 use Rattle.xa_http.specs.Routes.{route_of}
@@ -33,11 +34,11 @@ use Rattle.xa_server.specs.Work.{evaluated_response, key_of_revision, response_o
 
 -- what a domain evaluates: the body of the response, and whether it is the same at every moment; nothing of an absent
 -- domain, or if the request's body is no JSON
-abbrev pub evaluated_in : Option DomainState → List ℕ → ℤ → Option (List ℕ × Bool)
+abbrev pub evaluated_in : Option DomainState → List ℕ → ℤ → Option Responded
 evaluated_in state body moment = option_and_then (λ s. evaluated_response s body moment) state
 
 -- `evaluated_in` a domain, or why there is nothing
-abbrev pub response_told : List ℕ → ℤ → Option DomainState → Result (List ℕ × Bool) ErrorCode
+abbrev pub response_told : List ℕ → ℤ → Option DomainState → Result Responded ErrorCode
 response_told body moment state =
     ok_or state (error.Keeper Absent) >>= (λ s. ok_or (evaluated_response s body moment) (error.Body NotJson))
 
@@ -46,8 +47,9 @@ abbrev pub view_told : Option DomainState → Result Viewed ErrorCode
 view_told state = ok_or (option_map view_of state) (error.Keeper Absent)
 
 -- the reply to what was evaluated; or the body is no JSON; or there was no memory
-abbrev pub IsResponseReply : Option (List ℕ × Bool) → Result (List ℕ) HandlingError → Type 0
-IsResponseReply meant (Ok bytes) = option_map (λ response. decision_reply response.0) meant ≡ Some bytes
+abbrev pub IsResponseReply : Option Responded → Result (List ℕ) HandlingError → Type 0
+IsResponseReply meant (Ok bytes) =
+    option_map (λ (response : Responded). decision_reply response.body) meant ≡ Some bytes
 IsResponseReply meant (Err (Error code)) = (meant ≡ None) × (code ≡ error.Body NotJson)
 IsResponseReply meant (Err (Failed failure)) = failure ≡ Memory
 
@@ -64,16 +66,16 @@ MakesReady old new ask result =
 
 -- the reply to a request by the state of a domain
 abbrev pub reply_told : List ℕ → ℤ → Option DomainState → Result (List ℕ) ErrorCode
-reply_told body moment state = response_told body moment state >>= (λ response. Ok (decision_reply response.0))
+reply_told body moment state = response_told body moment state >>= (λ response. Ok (decision_reply response.body))
 
 -- the key, if its body isn't too large: it has at most 16,384 bytes
 abbrev pub key_within : Key → Option Key
 key_within key = if nat_le (length key.body) 16_384 then Some key else None
 
 -- a decision was evaluated, and counted; without a key it isn't cached
-abbrev pub IsNoted : Option Key → List ℕ → Bool → DecisionsModel → DecisionsModel → Type 0
-IsNoted (Some key) body timeless old new = IsEvaluated key (Some (body, timeless)) old new
-IsNoted None body timeless old new =
+abbrev pub IsNoted : Option Key → Responded → DecisionsModel → DecisionsModel → Type 0
+IsNoted (Some key) responded old new = IsEvaluated key (Some responded) old new
+IsNoted None responded old new =
     IsOneMore old.evaluations new.evaluations × (new.cached ≡ old.cached) × (new.unkept ≡ old.unkept)
 
 -- the domain that has let an ask in is there, at the ask's revision
@@ -94,11 +96,11 @@ abbrev pub HasItsKey : ReadAsk → Type 0
 HasItsKey read = read.key ≡ key_within (key_asked read.ask.now read.body)
 
 -- what an ask evaluates, by what decides
-abbrev pub response_asked : Viewed → Ask → List ℕ → Option (List ℕ × Bool)
+abbrev pub response_asked : Viewed → Ask → List ℕ → Option Responded
 response_asked view ask body = response_of view body ask.moment
 
 -- what an ask evaluates, by what decides in its domain
-abbrev pub evaluated_asked : Kept → Ask → List ℕ → Option (List ℕ × Bool)
+abbrev pub evaluated_asked : Kept → Ask → List ℕ → Option Responded
 evaluated_asked kept ask body = evaluated_in (state_of ask.name.now kept) body ask.moment
 
 -- the reply to an ask
@@ -107,7 +109,7 @@ reply_asked kept ask body = reply_told body ask.moment (state_of ask.name.now ke
 
 -- a decision was evaluated, with success; by an error answer nothing was there to be evaluated, and a failure has left
 -- all
-abbrev pub IsFresh : Key → Option (List ℕ × Bool) → Result (List ℕ) HandlingError → DecisionsModel → DecisionsModel
+abbrev pub IsFresh : Key → Option Responded → Result (List ℕ) HandlingError → DecisionsModel → DecisionsModel
     → Type 0
 IsFresh key worked (Ok bytes) old new = IsEvaluated key worked old new
 IsFresh key worked (Err (Error code)) old new = (worked ≡ None) × (new ≡ old)
@@ -119,7 +121,7 @@ IsLookedUp None key old new = new ≡ old
 IsLookedUp (Some body) key old new = new ≡ looked_up key old
 
 -- an ask that was let in, whose decision is cached, or isn't
-abbrev pub IsAsked : Key → Option (List ℕ) → Option (List ℕ × Bool) → Result (List ℕ) HandlingError
+abbrev pub IsAsked : Key → Option (List ℕ) → Option Responded → Result (List ℕ) HandlingError
     → DecisionsModel → DecisionsModel → Type 0
 IsAsked key (Some body) worked (Ok bytes) old new = new ≡ looked_up key old
 IsAsked key (Some body) worked (Err (Error code)) old new = ⊥
