@@ -3,7 +3,7 @@ ghost use Rattle.std.specs.Prelude.{◌≡◌, ◌≤◌, false, List, Option, S
 ghost use Rattle.xa_http.specs.Stream.{Stream};
 ghost use Rattle.xa_server.specs.Driven.{IsConnection, KeepsOpen, seen_by};
 ghost use Rattle.xa_server.specs.declared.drive_end.DriveEnd.TheVariants as drive_end;
-ghost use Rattle.xa_server.specs.handling.Driving.{FeedsOne, IsRead, IsWaiting};
+ghost use Rattle.xa_server.specs.handling.Driving.{FeedsOne, IsRead, IsWaiting, KeepsFront};
 ghost use Rattle.xa_server.specs.Lines.{IsOpen, line_at};
 
 use crate::clock::Clock;
@@ -32,9 +32,8 @@ fn play_piece<F: Multiplexer>(front: &mut F, conn: Conn, piece: &[u8]) -> Result
     ensures fed { F.is_sound front.new
         → FeedsOne conn piece.now (F.state front.old) (F.state front.new)
         (F.had_memory front.old) (F.had_memory front.new) result }
-    ensures stays_open { KeepsOpen conn (F.state front.old).lines (F.state front.new).lines }
+    ensures keeps { KeepsFront F.Multiplexer conn front.old front.new }
     ensures said_open { F.said_open front.new ≡ F.said_open front.old }
-    ensures sound { F.is_sound front.new → F.is_sound front.old }
 {
     let outcome = play_one(front, &Event::Piece(conn, piece))?;
     let Outcome::Held(held) = outcome else {
@@ -59,9 +58,8 @@ fn read_on<F: Multiplexer, I: Reader, W: Writer, C: Clock>(
         → IsWaiting stream
         → IsRead result conn (F.state front.old) (F.state front.new) stream
         (seen front.old reader.old writer.old clock.old) (seen front.new reader.new writer.new clock.new) }
-    ensures stays_open { KeepsOpen conn (F.state front.old).lines (F.state front.new).lines }
+    ensures keeps { KeepsFront F.Multiplexer conn front.old front.new }
     ensures shut { result ≡ Some drive_end.Shut → F.keeper_is_open front.new ≡ false }
-    ensures sound { F.is_sound front.new → F.is_sound front.old }
 {
     let count = match reader.receive(piece) {
         Ok(0) => return Some(DriveEnd::Ended),

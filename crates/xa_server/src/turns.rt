@@ -11,11 +11,10 @@
 //!    after a refusal for want of storage (`IsSentAs`).
 ghost use Rattle.std.specs.Prelude.{◌≡◌, ℕ, false, true, IsTrue, List, MatchResult, Option, Some, pos};
 ghost use Rattle.xa_http.specs.Stream.{Stream};
-ghost use Rattle.xa_server.specs.Driven.{KeepsOpen};
 ghost use Rattle.xa_server.specs.declared.turns.Turn.TheVariants as turn;
 ghost use Rattle.xa_server.specs.declared.drive_end.DriveEnd.TheVariants as drive_end;
 ghost use Rattle.xa_server.specs.handling.Driving.{AnswersOne, IsAnsweredAt, IsAnsweredNow, IsAskedAfter};
-ghost use Rattle.xa_server.specs.handling.Driving.{IsHeldAnswered, IsSentAs, IsTurn, PlaysOne};
+ghost use Rattle.xa_server.specs.handling.Driving.{IsHeldAnswered, IsSentAs, IsTurn, KeepsFront, PlaysOne};
 ghost use Rattle.xa_server.specs.handling.Driving.{seen_by_front_and_writer, seen_without_reader};
 ghost use Rattle.xa_server.specs.Fronting.{DoesLines};
 ghost use Rattle.xa_server.specs.Lines.{IsOpen, line_at};
@@ -77,9 +76,8 @@ fn play_answer<F: Multiplexer>(
     ensures answered { F.is_sound front.new
         → AnswersOne conn moment (F.state front.old) (F.state front.new)
         (F.had_memory front.old) (F.had_memory front.new) result }
-    ensures stays_open { KeepsOpen conn (F.state front.old).lines (F.state front.new).lines }
+    ensures keeps { KeepsFront F.Multiplexer conn front.old front.new }
     ensures said_open { F.said_open front.new ≡ F.said_open front.old }
-    ensures sound { F.is_sound front.new → F.is_sound front.old }
 {
     let outcome = play_one(front, &Event::Answer(conn, moment))?;
     let Outcome::Answered(answered) = outcome else {
@@ -137,9 +135,8 @@ fn turn_at<F: Multiplexer, W: Writer>(
         F.is_sound front.new
         → IsAnsweredAt result conn moment (F.state front.old) (F.state front.new)
         (seen front.old writer.old) (seen front.new writer.new) }
-    ensures stays_open { KeepsOpen conn (F.state front.old).lines (F.state front.new).lines }
+    ensures keeps { KeepsFront F.Multiplexer conn front.old front.new }
     ensures shut { result ≡ turn.Ends drive_end.Shut → F.keeper_is_open front.new ≡ false }
-    ensures sound { F.is_sound front.new → F.is_sound front.old }
 {
     match play_answer(front, conn, moment) {
         Ok(Some(answer)) => send_answer(front, writer, &answer),
@@ -160,9 +157,8 @@ fn message_turn<F: Multiplexer, W: Writer, C: Clock>(
         F.is_sound front.new
         → IsAnsweredNow result conn (F.state front.old) (F.state front.new)
         (seen front.old writer.old clock.old) (seen front.new writer.new clock.new) }
-    ensures stays_open { KeepsOpen conn (F.state front.old).lines (F.state front.new).lines }
+    ensures keeps { KeepsFront F.Multiplexer conn front.old front.new }
     ensures shut { result ≡ turn.Ends drive_end.Shut → F.keeper_is_open front.new ≡ false }
-    ensures sound { F.is_sound front.new → F.is_sound front.old }
 {
     let Some(moment) = clock.now() else {
         return Turn::Ends(DriveEnd::NoClock);
@@ -177,9 +173,8 @@ fn fault_turn<F: Multiplexer, W: Writer>(front: &mut F, conn: Conn, writer: &mut
         F.is_sound front.new
         → IsAnsweredAt result conn (pos 0) (F.state front.old) (F.state front.new)
         (seen front.old writer.old) (seen front.new writer.new) }
-    ensures stays_open { KeepsOpen conn (F.state front.old).lines (F.state front.new).lines }
+    ensures keeps { KeepsFront F.Multiplexer conn front.old front.new }
     ensures shut { result ≡ turn.Ends drive_end.Shut → F.keeper_is_open front.new ≡ false }
-    ensures sound { F.is_sound front.new → F.is_sound front.old }
 {
     let Some(moment) = Moment::new(0) else {
         unreachable!()
@@ -203,9 +198,8 @@ fn next_turn<F: Multiplexer, W: Writer, C: Clock>(
         → IsTurn result conn (F.state front.old) (F.state front.new) stream
         (record (seen front.old writer.old clock.old) { left = left; reads = reads })
         (record (seen front.new writer.new clock.new) { left = left; reads = reads }) }
-    ensures stays_open { KeepsOpen conn (F.state front.old).lines (F.state front.new).lines }
+    ensures keeps { KeepsFront F.Multiplexer conn front.old front.new }
     ensures shut { result ≡ turn.Ends drive_end.Shut → F.keeper_is_open front.new ≡ false }
-    ensures sound { F.is_sound front.new → F.is_sound front.old }
 {
     // A front looks again when it answers, since an event brings no look along. The head that this one has
     // read is kept, and isn't read again.
@@ -233,9 +227,8 @@ pub(crate) fn answer_held<F: Multiplexer, W: Writer, C: Clock>(
         (F.state front.old) (F.state front.new)
         (record (seen front.old writer.old clock.old) { left = left; reads = reads })
         (record (seen front.new writer.new clock.new) { left = left; reads = reads }) }
-    ensures stays_open { KeepsOpen conn (F.state front.old).lines (F.state front.new).lines }
+    ensures keeps { KeepsFront F.Multiplexer conn front.old front.new }
     ensures shut { result ≡ Some drive_end.Shut → F.keeper_is_open front.new ≡ false }
-    ensures sound { F.is_sound front.new → F.is_sound front.old }
 {
     let Some(held) = front.held_len(conn) else {
         return Some(DriveEnd::Ended);

@@ -23,7 +23,8 @@ use Rattle.xa_server.specs.declared.replies.Reply.{Reply}
 use Rattle.xa_server.specs.declared.replies.Reply.TheVariants.{Refused}
 use Rattle.xa_server.specs.Alone as messages
 use Rattle.xa_server.specs.Connection.{messages_of, moments_of}
-use Rattle.xa_server.specs.Driven.{AreMade, AreSent, Calls, HadMemory, IsDrivenWithin, Known, said_open_after}
+use Rattle.xa_server.specs.Driven.{AreMade, AreSent, Calls, HadMemory, IsDrivenWithin, KeepsOpen, Known}
+use Rattle.xa_server.specs.Driven.{said_open_after}
 use Rattle.xa_server.specs.Front.{FrontState, IsAnswered}
 use Rattle.xa_server.specs.Fronting.{DoesEvent}
 use Rattle.xa_server.specs.Lines.{IsOpen, line_at, with_line}
@@ -56,6 +57,12 @@ seen_without_reader front_says writer_says clock_says front writer clock =
     record (seen_by_front_and_writer front_says writer_says front writer) { told = clock_says.told clock }
 
 -- ---- one call of the front
+
+-- a call on a connection leaves it open and changes no other; if the front does what its clauses say after it, it did
+-- before
+pub record KeepsFront {F : Type 0} (says : MultiplexerGhosts F) (conn : Conn) (old new : F) : Type 0 where
+  pub stays_open : KeepsOpen conn (says.state old).lines (says.state new).lines
+  pub sound : says.is_sound new → says.is_sound old
 
 -- an event was played alone; or nothing was done, for want of memory
 abbrev pub PlaysOne : {E : Type 0} → Event → FrontState → FrontState → Option (List Bool) → Option (List Bool)

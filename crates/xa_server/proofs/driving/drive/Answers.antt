@@ -8,22 +8,22 @@ returns-in-Some-clause-connection g c = λ sound. held_ends c.in-Some.end _ c.ar
 
 pub loop-read-init : goal.loop-read-init
 loop-read-init g c = record {
-  stays_open = c.answer_held.ensures.stays_open;
-  sound = c.answer_held.ensures.sound;
+  stays_open = c.answer_held.ensures.keeps.stays_open;
+  sound = c.answer_held.ensures.keeps.sound;
   read = λ sound. begun _ c.args.conn _ _ _ _ refl (c.in_default.ensures.held sound _ _);
 }
 
 pub returns-in-Some-read_on-clause-connection : goal.returns-in-Some-read_on-clause-connection
 returns-in-Some-read_on-clause-connection g c = λ sound.
-    read_ends _ c.in-Some-read_on.end c.args.conn _ _ _ _ _ _ c.loop-read-test.true (c.loop-read.invariant.read (c.read_on.ensures.sound sound))
+    read_ends _ c.in-Some-read_on.end c.args.conn _ _ _ _ _ _ c.loop-read-test.true (c.loop-read.invariant.read (c.read_on.ensures.keeps.sound sound))
     (c.in-Some-read_on.ensures.read sound)
 
 pub loop-read-preserved : goal.loop-read-preserved
 loop-read-preserved g c = record {
-  stays_open = open_trans c.args.conn _ _ _ c.loop-read.invariant.stays_open c.read_on.ensures.stays_open;
-  sound = λ sound. c.loop-read.invariant.sound (c.read_on.ensures.sound sound);
+  stays_open = open_trans c.args.conn _ _ _ c.loop-read.invariant.stays_open c.read_on.ensures.keeps.stays_open;
+  sound = λ sound. c.loop-read.invariant.sound (c.read_on.ensures.keeps.sound sound);
   read = λ sound.
-      read_more _ c.args.conn _ _ _ _ _ _ (c.loop-read.invariant.read (c.read_on.ensures.sound sound)) (c.in_default-read_on.ensures.read sound);
+      read_more _ c.args.conn _ _ _ _ _ _ (c.loop-read.invariant.read (c.read_on.ensures.keeps.sound sound)) (c.in_default-read_on.ensures.read sound);
 }
 
 pub returns-clause-connection : goal.returns-clause-connection

@@ -13,5 +13,8 @@ pub returns-clause-fed : goal.returns-clause-fed
 returns-clause-fed g c = λ sound.
     held_one c.args.conn c.args.piece _ _ _ _ c.in_ok-outcome.outcome c.in-Held.held c.in-Held.is (c.in_ok-outcome.ensures.played sound)
 
-pub returns-clause-stays_open : goal.returns-clause-stays_open
-returns-clause-stays_open g c = piece_keeps c.args.conn c.args.piece _ _ c.in_ok-outcome.outcome c.in_ok-outcome.ensures.lines
+pub returns-clause-keeps : goal.returns-clause-keeps
+returns-clause-keeps g c = record {
+  stays_open = piece_keeps c.args.conn c.args.piece _ _ c.in_ok-outcome.outcome c.in_ok-outcome.ensures.lines;
+  sound = c.play_one.ensures.sound;
+}

@@ -28,7 +28,7 @@ returns-in-Ok-play_piece-clause-read g c = λ sound stream opens waits.
     piece_answered c.answer_held.result c.args.conn _ (g.F.Multiplexer.state c.play_piece.new.front) _ stream _ _ _ _
     (fed_read c.args.conn _ _ stream (length c.receive.new.room) (take c.in-Ok.count c.receive.new.room) _ _ _ _ _ _ _ _ _ _ _ opens full some few c.in-Ok.ensures.bytes.0 c.in-Ok.ensures.read
     c.play_piece.ensures.said_open
-    (c.in-Ok-play_piece.ensures.fed (c.answer_held.ensures.sound sound)))
+    (c.in-Ok-play_piece.ensures.fed (c.answer_held.ensures.keeps.sound sound)))
     (c.answer_held.ensures.held sound _ _)
 
 pub returns-in-Err-play_piece-clause-read : goal.returns-in-Err-play_piece-clause-read

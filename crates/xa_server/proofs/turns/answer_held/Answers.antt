@@ -13,20 +13,20 @@ loop-turn-init g c = record {
 
 pub returns-in-Waits-clause-held : goal.returns-in-Waits-clause-held
 returns-in-Waits-clause-held g c = λ sound left reads.
-    turn_waits _ c.args.conn _ _ _ _ _ _ (c.loop-turn.invariant.shrinks (c.next_turn.ensures.sound sound) left reads)
+    turn_waits _ c.args.conn _ _ _ _ _ _ (c.loop-turn.invariant.shrinks (c.next_turn.ensures.keeps.sound sound) left reads)
     (λ stream opens. c.in-Waits.ensures.turn sound stream left reads opens)
 
 pub returns-in-Ends-clause-held : goal.returns-in-Ends-clause-held
 returns-in-Ends-clause-held g c = λ sound left reads.
-    turn_ends _ c.in-Ends.end c.args.conn _ _ _ _ _ _ (c.loop-turn.invariant.shrinks (c.next_turn.ensures.sound sound) left reads)
+    turn_ends _ c.in-Ends.end c.args.conn _ _ _ _ _ _ (c.loop-turn.invariant.shrinks (c.next_turn.ensures.keeps.sound sound) left reads)
     (λ stream opens. c.in-Ends.ensures.turn sound stream left reads opens)
 
 pub loop-turn-preserved : goal.loop-turn-preserved
 loop-turn-preserved g c = record {
-  stays_open = open_trans c.args.conn _ _ _ c.loop-turn.invariant.stays_open c.next_turn.ensures.stays_open;
-  sound = λ sound. c.loop-turn.invariant.sound (c.next_turn.ensures.sound sound);
+  stays_open = open_trans c.args.conn _ _ _ c.loop-turn.invariant.stays_open c.next_turn.ensures.keeps.stays_open;
+  sound = λ sound. c.loop-turn.invariant.sound (c.next_turn.ensures.keeps.sound sound);
   shrinks = λ sound left reads.
-      turn_more _ c.args.conn _ _ _ _ _ _ (c.loop-turn.invariant.shrinks (c.next_turn.ensures.sound sound) left reads)
+      turn_more _ c.args.conn _ _ _ _ _ _ (c.loop-turn.invariant.shrinks (c.next_turn.ensures.keeps.sound sound) left reads)
       (λ stream opens. c.in-Answered.ensures.turn sound stream left reads opens);
 }
 

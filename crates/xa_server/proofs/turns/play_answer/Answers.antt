@@ -13,5 +13,8 @@ pub returns-clause-answered : goal.returns-clause-answered
 returns-clause-answered g c = λ sound.
     answered_one c.args.conn c.args.moment _ _ _ _ c.in_ok-outcome.outcome c.in-Answered.answered c.in-Answered.is (c.in_ok-outcome.ensures.played sound)
 
-pub returns-clause-stays_open : goal.returns-clause-stays_open
-returns-clause-stays_open g c = answer_keeps c.args.conn c.args.moment _ _ c.in_ok-outcome.outcome c.in_ok-outcome.ensures.lines
+pub returns-clause-keeps : goal.returns-clause-keeps
+returns-clause-keeps g c = record {
+  stays_open = answer_keeps c.args.conn c.args.moment _ _ c.in_ok-outcome.outcome c.in_ok-outcome.ensures.lines;
+  sound = c.play_one.ensures.sound;
+}
