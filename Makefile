@@ -31,8 +31,8 @@ pdpd: ## proves pdpd and what it stands on, and leaves the program in build/pdpd
 	install -D crates/pdpd/out/pdpd build/pdpd
 endif
 
-try: ## runs a crate's tests, or a program on its stored input, without proving
-	@cd crates/$(crate); if [ -f src/main.rt ]; then rt try -- $$(cat args 2> /dev/null) < stdin; else rt try --test; fi
+try: ## runs a program, pdpd or xa_trials, on its stored input, without proving
+	@cd crates/$(crate); rt try -- $$(cat args 2> /dev/null) < stdin
 
 check: ## proves a crate, over what earlier checks kept
 	@cd crates/$(crate); rt check
