@@ -1,8 +1,8 @@
 #!/usr/bin/env python3
-"""Looks whether the lines of the code (crates/*/src) are within 110 columns, and those of the definitions
-(crates/*/specs) and of Python within 120. Four kinds of lines may be longer, since they can't be broken: one that is a
-text or ends in one, one inside a text of several lines, one with a link, and a `#[tactic(..)]`, which `rt fmt` lays
-out on one line. Takes a second.
+"""Looks whether the lines of the code (crates/*/src) and the comments of rows (tests/rows) are within 110 columns, and
+the lines of the definitions (crates/*/specs) and of Python within 120. Five kinds of lines may be longer, since they
+can't be broken: one that is a text or ends in one, one inside a text of several lines, one with a link, a comment of
+rows that is one word, and a `#[tactic(..)]`, which `rt fmt` lays out on one line. Takes a second.
 
 usage: tests/columns.py     looks; the last line is 'N passed, M failed', of files
 """
@@ -13,7 +13,7 @@ import sys
 TOP = pathlib.Path(__file__).resolve().parent.parent
 GREATEST = {
     "crates/*/src/**/*.rt": 110, "crates/*/specs/**/*.antt": 120, "tests/**/*.py": 120, "bench/*.py": 120,
-    "crates/*/*.py": 120, "deploy/**/*.py": 120, "tools/**/*.py": 120,
+    "crates/*/*.py": 120, "deploy/**/*.py": 120, "tools/**/*.py": 120, "tests/rows/*.rows": 110,
 }
 UNBROKEN = re.compile(r"""\s*(?:[\w. =]*b?"(?:[^"\\]|\\.)*"[\s);,}?]*|.*https?://.*|\#!?\[tactic\(.*\)\])""")
 
@@ -34,6 +34,8 @@ def too_long(path, greatest):
     """The numbers and lengths of the lines that are longer than they may be."""
     text = path.read_text(encoding="utf-8")
     lines = (without_texts(text) if path.suffix == ".py" else text).split("\n")
+    if path.suffix == ".rows":
+        lines = [line if line.startswith("#") and " " in line[2:] else "" for line in lines]
     return [(n, len(line)) for n, line in enumerate(lines, 1) if len(line) > greatest and not UNBROKEN.fullmatch(line)]
 
 
