@@ -34,7 +34,18 @@ PROGRAM = pathlib.Path(WORDS[0]) if WORDS else CRATE / "out" / "xa_trials"
 ALGORITHM = "urn:oasis:names:tc:xacml:3.0:%s-combining-algorithm:deny-overrides"
 RESOURCE = "urn:oasis:names:tc:xacml:3.0:attribute-category:resource"
 RESOURCE_NAME = "record 0"
-POLICIES, DESIGNATORS, ATTRIBUTES, ROWS, INDIVIDUALS, RUNS = 999, 10, 5000, 4096, 64, 5
+# how many policies the set has
+POLICIES = 999
+# how many designators each policy has
+DESIGNATORS = 10
+# how many attributes a large request has
+ATTRIBUTES = 5000
+# how many rows the source has where it has any
+ROWS = 4096
+# how many individual requests a request has that is compared with a request of one
+INDIVIDUALS = 64
+# how often each row is timed; the best counts
+RUNS = 5
 
 
 def attribute_id(number):

@@ -25,7 +25,18 @@ from page import shown, words  # noqa: E402
 from serving import OPERATOR, Served, answered, message, policy  # noqa: E402
 
 PROGRAM = os.path.abspath(words()[0] if words() else os.path.join(TOP, "build/pdpd"))
-TOKEN, RUNS, MOST, MORE, COUNT, LISTINGS, MOST_LISTING = "domain-token-1", 9, 1.3, 3, 2_000, 30, 5_000
+TOKEN = "domain-token-1"
+# how often the messages of a kind are sent; the best counts
+RUNS = 9
+# how many messages of a kind are sent each time
+COUNT = 2_000
+# how often the operator lists all domains each time
+LISTINGS = 30
+# a message with 10,000 domains may take MOST times what it takes with one, and MORE microseconds more
+MOST = 1.3
+MORE = 3
+# how many microseconds the list of all domains may take
+MOST_LISTING = 5_000
 
 
 def rows(numbers):

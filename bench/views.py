@@ -42,9 +42,24 @@ CRATE = TOP / "crates" / "xa_trials"
 PROGRAM = pathlib.Path(words()[0]) if words() else CRATE / "out" / "xa_trials"
 POLICIES = "urn:oasis:names:tc:xacml:3.0:policy-combining-algorithm:deny-overrides"
 ADMIN, TOKEN = "admin-token-1", "domain-token-1"
-ASKS, FEW_ASKS, TIMED_ASKS, RUNS, DOMAINS = 600, 4, 1_000, 2, 300
-ROOM_A_BYTE, OF_EACH = 8, 524_288
-SMALL, LARGE = {"1 MB": 16, "4 MB": 64}, {"16 MB": 255, "64 MB": 999}
+# how many asks of a small domain are counted, after as many that aren't
+ASKS = 600
+# how many asks are counted of a domain with 255 policies, after as many that aren't
+FEW_ASKS = 4
+# how many asks are timed of a large domain whose view is kept
+TIMED_ASKS = 1_000
+# how often each row is timed; the best counts
+RUNS = 2
+# how many domains are asked in turn
+DOMAINS = 300
+# what the server counts for each byte of the texts that were read for a view
+ROOM_A_BYTE = 8
+# what the server counts for each view besides, in bytes
+OF_EACH = 524_288
+# how many policies have so many bytes together: of domains whose instructions are counted
+SMALL = {"1 MB": 16, "4 MB": 64}
+# how many policies have so many bytes together: of domains that are timed
+LARGE = {"16 MB": 255, "64 MB": 999}
 
 
 # ---- what a domain has: texts of policies, each with its id, of which the last is the root's

@@ -106,14 +106,15 @@ class Load:
             return "create", self.by_operator("create", name)
         if digest(f"{name}-token-1".encode()) not in state.tokens:
             return "put", self.by_operator("admit", name)
-        kind = self.chance.choice((*CHANGES[2:], "upload", "upload", "decide",
-                                   *CHANGES[1:2] * (self.chance.random() < 0.5)))
+        removals = CHANGES[1:2] if self.chance.random() < 0.5 else ()
+        kind = self.chance.choice((*CHANGES[2:], "upload", "upload", "decide", *removals))
         if kind in ("remove", "put", "drop"):
             return kind, self.by_operator(kind, name)
         if kind in ("activate", "deactivate", "delete") and state.documents:
             return kind, self.of_document(kind, name, state)
-        return ((kind, self.of_domain(kind, name))
-                if kind in ("upload", "root", "source", "decide") else self.next(model))
+        if kind in ("upload", "root", "source", "decide"):
+            return kind, self.of_domain(kind, name)
+        return self.next(model)
 
 
 class Sent:

@@ -1,33 +1,52 @@
 """What each step of a decision is charged, in units, by the table of docs/PERFORMANCE.md ("What a unit is"), and the
 work that is left of a limit."""
 
-STEP, LOOK, VALUE = 32, 8, 16
-# a call of an inner function; a policy, a set or a rule that is looked at; an assignment that is made
-CALL, CHILD, ASSIGNMENT = 64, 80, 64
+# an expression, a variable that is worked out, a match, a call of its function, an obligation, a bag of the context, an
+# individual request and each of its places
+STEP = 32
+# a value that is compared where it is, and what else only looks: an AnyOf, an AllOf, a stated duty
+LOOK = 8
+# a value that is made, copied or compared, beside its bytes
+VALUE = 16
+# a call of an inner function
+CALL = 64
+# a policy, a set or a rule that is looked at
+CHILD = 80
+# an assignment that is made, beside what it holds
+ASSIGNMENT = 64
 # the list of a call's arguments
 LIST = 16
 # beside its texts and values: an attribute, a Category object, an obligation and a result
 MEMBERS = 128
 # a byte that an escape adds to a text
 ESCAPED = 7
-# beside the step of its expression: a literal, a call of a function of booleans; a variable that is worked out, beside
-# its expression
-LITERAL, LOGIC, VARIABLE = VALUE, LOOK, STEP
+# a literal, beside the step of its expression and its value
+LITERAL = VALUE
+# a call of a function of booleans, beside the step of its expression
+LOGIC = LOOK
+# a variable that is worked out, beside its expression
+VARIABLE = STEP
 # what is printed takes so much beside its value, by its type
 PRINTING = {
     "dateTime": 192, "dayTimeDuration": 192, "time": 128, "date": 96, "yearMonthDuration": 64, "hexBinary": 64,
     "base64Binary": 64, "boolean": 32, "integer": 32, "string": 0, "anyURI": 0,
 }
-# how many items are looked at one after another where one is searched for; more are in order, and what each halving of
-# them takes
-FEW, HALVING = 8, 48
-# a policy or a set that is named, beside its id and version, and each number of its version
-NAME, NUMBER = 32, 10
+# how many items are looked at one after another where one is searched for; more are in order
+FEW = 8
+# a search among more: each time that they are halved
+HALVING = 48
+# a policy or a set that is named, beside its id and version
+NAME = 32
+# each number of its version
+NUMBER = 10
 # with how many others a value is compared at most that is searched for
 COMPARISONS = 32
-# of how many values a bag is large; how often the large bags of a request are searched value by value before they are
-# put in order; what each value of one takes that is put in order, and a value that is searched for in it
-LARGE, SCANS, ORDERED = 256, 16, 18
+# of how many values a bag is large
+LARGE = 256
+# how often the large bags of a request are searched value by value before they are put in order
+SCANS = 16
+# how often the units count of each value of a large bag that is put in order, and of one that is searched for in it
+ORDERED = 18
 
 
 # ---- the work that is left

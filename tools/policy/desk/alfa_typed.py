@@ -20,16 +20,17 @@ COMPARED = {"==": "equal", ">": "greater-than", "<": "less-than", ">=": "greater
             "<=": "less-than-or-equal"}
 TURNED = {"==": "==", ">": "<", "<": ">", ">=": "<=", "<=": ">="}
 SUMS = {"+": "add", "-": "subtract"}
+PRODUCTS = {"*": "multiply", "/": "divide"}
 
 
 def function_of(sign: str, left: str, right: str) -> str:
     """The function that an operator is for these types; the empty text where it is none."""
     if sign in COMPARED:
-        is_there = left == right and (sign == "==" or left in ORDERED)
-        return next((uri for uri in functions.FUNCTIONS
-                     if names.short(uri) == f"{left}-{COMPARED[sign]}"), "") if is_there else ""
-    name = f"{left}-{SUMS[sign]}-{right}" if sign in SUMS and left != right else f"{left}-" + (
-        SUMS | {"*": "multiply", "/": "divide"})[sign]
+        name = f"{left}-{COMPARED[sign]}" if left == right and (sign == "==" or left in ORDERED) else ""
+    elif sign in SUMS and left != right:
+        name = f"{left}-{SUMS[sign]}-{right}"
+    else:
+        name = f"{left}-{(SUMS | PRODUCTS)[sign]}"
     return next((uri for uri in functions.FUNCTIONS if names.short(uri) == name), "")
 
 

@@ -160,9 +160,9 @@ class Lints:
                       and (kind == "first-applicable" or rule.effect == wanted)), None)
         if first is None or kind not in ("first-applicable", *SETTLED):
             return
-        for rule in rules[rules.index(first)
-                          + 1:] if kind == "first-applicable" else [rule for rule in rules if rule is not first
-                                                                    and rule.effect == wanted]:
+        others = (rules[rules.index(first) + 1:] if kind == "first-applicable"
+                  else [rule for rule in rules if rule is not first and rule.effect == wanted])
+        for rule in others:
             remarks.warning("idle-rule", rule.node,
                             f'The rule "{first.id}" in line {first.node.place.line} has no target and no condition: '
                             f'under {kind} it always decides, and this one never.')

@@ -110,11 +110,10 @@ class Planner:
             return None
         old = self.answering.asked_in(self.answering.view(self.befores[0]).tree)
         held, new = self.answering.rows[NOW], self.answering.rows[NEW]
-        between = {place: entities for rows, is_old in ((held, True), (new, False)) for place,
-                   entities in rows.items()
-                   if (place in old) == is_old}
-        if between in (held, new) or sum(len(found) for entities in between.values()
-                                         for found in entities.values()) > MOST_ROWS:
+        between = {place: entities for rows, is_old in ((held, True), (new, False))
+                   for place, entities in rows.items() if (place in old) == is_old}
+        count = sum(len(found) for entities in between.values() for found in entities.values())
+        if between in (held, new) or count > MOST_ROWS:
             return None
         self.answering.rows[BETWEEN] = between
         first = [step for step in self.steps if step.do == "activate"]
