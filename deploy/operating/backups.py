@@ -147,6 +147,7 @@ def fill_backup(settings, shard, pid, folder):
 
 def backup(settings, shard):
     """Makes a backup of a shard, and gives its folder, its domains, and how long the shard stood still."""
+    settings.refuse_unfinished_put_back(shard)
     pid = supervisor.of(settings).pid(shard)
     if not pid:
         raise Wrong(f"shard {shard} doesn't run: start it, or copy its files, which nobody changes, yourself")

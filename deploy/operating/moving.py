@@ -39,9 +39,7 @@ def as_not_begun(what):
 @contextlib.contextmanager
 def open_store(settings, shard):
     """A shard's file, which no pdpd may have open."""
-    path, mark = settings.folder(shard) / "pdpd.db", settings.unfinished_put_back(shard)
-    if mark.exists():
-        raise NotBegun(f"a backup was put back in part ({mark}): give pdpd-shards put-back again")
+    path = settings.folder(shard) / "pdpd.db"
     with as_not_begun(f"{path} can't be opened"):
         base = sqlite3.connect(f"file:{path}?mode=rw", uri=True, isolation_level=None)
     with contextlib.closing(base):
@@ -163,6 +161,8 @@ def move(settings, domain, one, other):
     """Moves a domain from one shard to another, and tells for how long the two were away."""
     if not DOMAIN.fullmatch(domain) or one == other:
         raise Wrong("a domain's name and two different shards are wanted")
+    for shard in (one, other):
+        settings.refuse_unfinished_put_back(shard)
     talk.settle(settings)
     before = talk.map_in_file(settings).get(domain)
     began = time.time()

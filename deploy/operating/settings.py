@@ -85,6 +85,12 @@ class Settings:
         """The file that is there while a backup replaces a shard's files: pdpd-run starts no program beside it."""
         return self.folder(shard) / "put-back-unfinished"
 
+    def refuse_unfinished_put_back(self, shard):
+        """An error if a backup was put back in part: what stands there is no store."""
+        mark = self.unfinished_put_back(shard)
+        if mark.exists():
+            raise Wrong(f"a backup was put back in part ({mark}): give pdpd-shards put-back again")
+
     def port(self, shard):
         return self.first_port + shard
 

@@ -74,11 +74,20 @@ class Runit:
         except FileNotFoundError:
             return 0
 
+    def is_down(self, shard):
+        """Whether a shard's program has ended, and runit starts none."""
+        state = self.sv("status", f"pdpd-{shard}").partition(";")[0]
+        return state.startswith("down:") and "want up" not in state
+
     def stop(self, shard):
-        old = self.pid(shard)
+        """Stops a shard's program, and waits until runit knows that it is to start none.
+
+        If a program has ended within its first second, runit hears an order only a second later. A `sv up`
+        before that would do nothing, and the shard would stay away.
+        """
         self.sv("down", f"pdpd-{shard}")
         end = time.time() + PATIENCE
-        while old and os.path.exists(f"/proc/{old}"):
+        while not self.is_down(shard):
             if time.time() > end:
                 raise Wrong(f"shard {shard} doesn't end")
             time.sleep(0.005)

@@ -3,6 +3,7 @@ import itertools
 import pathlib
 import re
 import shutil
+import signal
 import sqlite3
 import sys
 import tempfile
@@ -10,8 +11,10 @@ import threading
 import time
 import zlib
 
+from checks import Between
+
 from .clients import Load, Makers, decision, many, message, once, policy, status
-from .machine import LIBRARY, pid, sh, shards, wait_until
+from .machine import LIBRARY, admin, ended_shards, sh, shards, wait_until
 
 BACKUPS = 50
 # so many of the texts that were uploaded last are kept, and the others are deleted
@@ -90,22 +93,59 @@ def put_back(machine, checks, shard):
     checks.expect("and there again", decision(once(ask)), "Permit")
     said = shards("put-back", shard, "20000101T000000Z", status=1)
     checks.expect("a backup that isn't there", "is no backup" in said, True)
-    cut_put_back(checks, shard, name)
-    checks.expect("and there again behind a cut", decision(once(ask)), "Permit")
+    cut_put_backs(machine, checks, shard, name)
 
 
-def cut_put_back(checks, shard, name):
-    """A shard into which a backup was put back in part isn't started, until that is given again."""
-    service, place = f"/etc/service/pdpd-{shard}", pathlib.Path(f"/var/lib/pdpd/{shard}")
-    sh(f"sv down {service}")
-    wait_until(lambda: not pid(shard), "a shard isn't ended")
-    (place / "put-back-unfinished").write_text("before-cut\n")
-    sh(f"sv up {service}")
+def cut_put_backs(machine, checks, shard, name):
+    """A put-back is killed at each of its renames, and as it removes its mark.
+
+    The shard has its old files, or the mark keeps it from starting. Given again the put-back is made whole,
+    and the old files are kept.
+    """
+    ask = message("POST", "/domains/acme/pdp", "acme-token-1", '{"Request":{}}')
+    marks = []
+    for call in ("rename", "unlink"):
+        for number in itertools.count(1):
+            once(machine.operator.message("DELETE", "/acme"))
+            old, what = machine.operator.names(), f"a put-back that is killed at {call} {number}"
+            found, said = ended_shards(machine.folder, ("KILL", call, number), "put-back", shard, name)
+            if found == 0:
+                break
+            checks.expect(f"{what}: {said}", found, -signal.SIGKILL)
+            marks.append(stands_cut(machine, checks, what, shard, ask))
+            aside = shards("put-back", shard, name).strip().rpartition(" are in ")[2]
+            checks.expect(f"{what}, given again", decision(once(ask)), "Permit")
+            checks.expect(f"{what}: the old files", domains_in(pathlib.Path(aside)), sorted(old))
+    checks.within(f"moments with a mark: {marks}", marks.count(True), Between(3))
+    checks.within("moments without one", marks.count(False), Between(1))
+    checks.say(f"a put-back was killed at {len(marks)} moments; {marks.count(True)} of them left a mark")
+
+
+def stands_cut(machine, checks, what, shard, ask):
+    """How a shard stands behind a put-back that was killed, once it is started: whether a mark is there."""
+    has_mark = (pathlib.Path(f"/var/lib/pdpd/{shard}") / "put-back-unfinished").exists()
     log = pathlib.Path(f"/var/log/pdpd/pdpd-{shard}/current")
-    wait_until(lambda: "a backup was put back in part" in log.read_text(), "the log doesn't say why a shard is away")
-    shards("put-back", shard, name)
-    found = (place / "put-back-unfinished").exists(), (place / "before-cut" / "pdpd.db").exists()
-    checks.expect("whether the mark is there, and the files before", found, (False, True))
+    reason = "a backup was put back in part"
+    count = log.read_text().count(reason)
+    sh(f"sv up /etc/service/pdpd-{shard}")
+    admin("del map /etc/haproxy/domains.map HELD")
+    if not has_mark:
+        wait_until(machine.operator.is_answered, f"{what}: the shard stays away")
+        checks.expect(f"{what}: it has its old files", status(once(ask)), 401)
+        return False
+    wait_until(lambda: log.read_text().count(reason) > count, f"{what}: the log doesn't say why it is away")
+    checks.expect(f"{what}: it isn't started", status(once(ask)), 503)
+    for words in (("backup", shard), ("move", "acme", shard, (shard + 1) % 4)):
+        checks.expect(f"{what}: no {words[0]} is made", reason in shards(*words, status=1), True)
+    return True
+
+
+def domains_in(folder):
+    """The domains in a folder with a shard's files, as pdpd lists them over a copy of it."""
+    sys.path.insert(0, str(LIBRARY))
+    from operating import backups as kit
+    from operating.settings import read
+    return sorted(kit.domains_in_backup(read(), folder))
 
 
 def anew(machine, checks):

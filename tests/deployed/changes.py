@@ -4,7 +4,6 @@ import os
 import pathlib
 import signal
 import sqlite3
-import subprocess
 import sys
 import threading
 import time
@@ -14,7 +13,7 @@ from checks import Between
 
 from . import clients
 from .clients import Deciders, Load, Makers, decision, many, message, once, read, status
-from .machine import LIBRARY, admin, pid, sh, shards, wait_until
+from .machine import LIBRARY, admin, ended_shards, pid, sh, shards, wait_until
 
 
 def shown_of(name):
@@ -125,7 +124,7 @@ def killed(machine, checks):
         for number in itertools.count(step, step):
             one = int(shards("where", "mover"))
             other, what = (one + 1) % 4, f"behind {how} at {call} {number}"
-            found, said = ended_move(machine, (how, call, number), one, other)
+            found, said = ended_shards(machine.folder, (how, call, number), "move", "mover", one, other)
             if found == 0:
                 break
             checks.expect(f"{what}: {said}", found, -signal.SIGKILL if how == "KILL" else 128 + signal.SIGHUP)
@@ -135,16 +134,6 @@ def killed(machine, checks):
         counts.append(number // step - 1)
         checks.within(f"it is ended by {how} at {call}: how often", counts[-1], Between(1))
     checks.say(f"a move was ended at {sum(counts)} moments: {counts}")
-
-
-def ended_move(machine, ending, one, other):
-    """The status of a move that is ended there, and what it says; 0 where it is over before."""
-    how, call, number = ending
-    # (whoever runs the test may ignore SIGHUP)
-    words = ["env", "--default-signal=HUP", "strace", "-qq", "-o", machine.folder / "ended", "-e", f"trace={call}",
-             "-e", f"inject={call}:signal={how}:when={number}", "pdpd-shards", "move", "mover", str(one), str(other)]
-    ran = subprocess.run(words, capture_output=True, text=True, check=False, timeout=120)
-    return ran.returncode, ran.stdout + ran.stderr
 
 
 def stands(machine, checks, what, before, ending):

@@ -159,6 +159,19 @@ def shards(*words, status=0):
     return ran.stdout
 
 
+def ended_shards(folder, ending, *words):
+    """The status of a pdpd-shards that is ended, and what it says; 0 if it is over before.
+
+    `ending` is a signal, a system call, and at how manyth entry of that the signal comes.
+    """
+    how, call, number = ending
+    # (whoever runs the test may ignore SIGHUP)
+    traced = ["env", "--default-signal=HUP", "strace", "-qq", "-o", folder / "ended", "-e", f"trace={call}",
+              "-e", f"inject={call}:signal={how}:when={number}", "pdpd-shards", *map(str, words)]
+    ran = subprocess.run(traced, capture_output=True, text=True, check=False, timeout=120)
+    return ran.returncode, ran.stdout + ran.stderr
+
+
 def pid(shard):
     """The process of a shard, 0 where there is none."""
     return int(pathlib.Path(f"/etc/service/pdpd-{shard}/supervise/pid").read_text().strip() or 0)
