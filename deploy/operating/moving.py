@@ -13,6 +13,9 @@ from . import supervisor, talk
 from .settings import DOMAIN, NUMBERS, Wrong, errors_of, put_off_signals, set_in_file
 
 SCHEMA = 2
+# How long is waited for shards after an error, in seconds: as long as HAProxy tries one that is down. A
+# question that is under way then may take five, and messages wait for a tool for ten.
+SOON = 3.0
 # The tables of a domain's rows, beside `number`, which each file gives itself (crates/xa_store/README.md).
 # `attributes` isn't among them: it is empty in schema 2.
 TABLES = {
@@ -113,20 +116,26 @@ def stop_shards(settings, shards):
         yield
 
 
-def wait_until_up(settings, shards):
+def wait_until_up(settings, shards, seconds=30.0):
+    """Waits until the shards answer, for so long at the most."""
+    end = time.time() + seconds
     for shard in shards:
-        talk.wait_until_up(settings, shard)
+        talk.wait_until_up(settings, shard, end - time.time())
 
 
 @contextlib.contextmanager
 def restart_shards(settings, *shards):
-    """Restarts the shards' programs, which are stopped meanwhile, and waits until they answer, after an error too."""
+    """Restarts the shards' programs, which are stopped meanwhile, and waits until they answer.
+
+    After an error it doesn't wait for long: one of them may stay away, and the messages of the others are
+    held back meanwhile.
+    """
     try:
         with stop_shards(settings, shards):
             yield
     except Exception:
         with contextlib.suppress(Wrong):
-            wait_until_up(settings, shards)
+            wait_until_up(settings, shards, SOON)
         raise
     wait_until_up(settings, shards)
 

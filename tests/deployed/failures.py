@@ -11,7 +11,7 @@ from checks import Between
 
 from . import clients
 from .clients import Client, Deciders, Makers, decision, many, once
-from .machine import LIBRARY, pid, sh, shards, wait_until
+from .machine import LIBRARY, pid, refuse_starts, sh, shards, wait_until
 
 KILLS = 20
 
@@ -131,6 +131,35 @@ def watched(machine, checks):
         checks.expect(f"without a reply, and with connections taken after {delay} s", found, wanted)
     sh("sv up /etc/service/pdpd-3")
     wait_until(machine.operator.is_answered, "the shard isn't there again")
+
+
+def unstarted(machine, checks):
+    """A shard that isn't started again behind a move: that is told, beside why the move wasn't made.
+
+    The other shard is started all the same, and loses no message.
+    """
+    machine.operator.clear()
+    asks = many(machine, 8)
+    places = [int(shards("where", f"d{number}")) for number in range(8)]
+    one = places[0]
+    other = next(place for place in places if place != one)
+    for refused, started in ((one, other), (other, one)):
+        beside = [ask for ask, place in zip(asks, places) if place == started]
+        with refuse_starts(machine.folder, refused), Deciders(beside, 2) as deciders:
+            said = shards("move", "nobody", one, other, status=1)
+        found = f"neither shard {one} nor {other} has nobody" in said, "refused for the test" in said
+        checks.expect(f"why it isn't made, and what isn't started: {said}", found, (True, True))
+        found = bool(pid(refused)), bool(pid(started))
+        checks.expect("whether the one runs, and the other", found, (False, True))
+        checks.expect("no decision of the other is lost", deciders.wrong, [])
+        sh(f"sv up /etc/service/pdpd-{refused}")
+        wait_until(machine.operator.is_answered, "the shard isn't there again")
+    with refuse_starts(machine.folder, other):
+        shards("move", "d0", one, other, status=1)
+    sh(f"sv up /etc/service/pdpd-{other}")
+    shards("move", "d0", one, other)
+    (ask, wanted), *_ = asks
+    checks.expect("a move, given again", (int(shards("where", "d0")), decision(once(ask))), (other, wanted))
 
 
 def holding(machine, checks):

@@ -1,4 +1,5 @@
 """A machine of the test's own: namespaces for mounts, processes and the network, with the paths of a real one."""
+import contextlib
 import os
 import pathlib
 import re
@@ -170,6 +171,24 @@ def ended_shards(folder, ending, *words):
               "-e", f"inject={call}:signal={how}:when={number}", "pdpd-shards", *map(str, words)]
     ran = subprocess.run(traced, capture_output=True, text=True, check=False, timeout=120)
     return ran.returncode, ran.stdout + ran.stderr
+
+
+@contextlib.contextmanager
+def refuse_starts(folder, shard):
+    """Meanwhile the command sv starts no program of that shard: one that stands before it on the path."""
+    place = folder / f"refuses-{shard}"
+    place.mkdir(exist_ok=True)
+    (place / "sv").write_text(f"""#!/bin/sh
+case "$*" in "up /etc/service/pdpd-{shard}") echo "refused for the test"; exit 1;; esac
+exec {shutil.which("sv")} "$@"
+""")
+    (place / "sv").chmod(0o755)
+    before = os.environ["PATH"]
+    os.environ["PATH"] = f"{place}:{before}"
+    try:
+        yield
+    finally:
+        os.environ["PATH"] = before
 
 
 def pid(shard):
