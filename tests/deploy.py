@@ -29,8 +29,8 @@ PARTS = (
     units.walk, units.decision, units.configurations, units.installed, units.calls,
     replies.examples, replies.desk, replies.odd, replies.paths, replies.listing,
     slowness.slow, slowness.slow_readers, slowness.rates,
-    failures.restarts, failures.kills, failures.stuck, failures.watched, failures.unstarted,
-    failures.holding,
+    failures.restarts, failures.kills, failures.stuck, failures.watched, failures.unkilled,
+    failures.unstarted, failures.holding,
     backups.backups, backups.anew,
     changes.moves, changes.crossed, changes.killed, changes.keeping,
     units.certificate, units.upgrade, changes.growth, units.status, units.secrets)

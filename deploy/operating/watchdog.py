@@ -52,11 +52,17 @@ def shard_state(settings, shard):
 
 
 def kill(settings, shard, before):
-    """Kills the shard's program, if it still is the one with that socket: a tool may have started another one."""
+    """Kills the shard's program, if it still is the one with that socket; an error says why none is killed.
+
+    A tool may have started another one.
+    """
     process = supervisor.of(settings).pid(shard)
-    if process and listener(settings.port(shard)) == before:
-        with contextlib.suppress(ProcessLookupError):
-            os.kill(process, signal.SIGKILL)
+    if listener(settings.port(shard)) != before:
+        raise setting.Wrong("the program that was stuck has gone meanwhile")
+    if not process:
+        raise setting.Wrong("no program of it runs, and another one has its port")
+    with contextlib.suppress(ProcessLookupError):
+        os.kill(process, signal.SIGKILL)
 
 
 def tell(what):

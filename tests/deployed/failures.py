@@ -1,4 +1,6 @@
 """What goes wrong: restarts, kills, programs that are stuck."""
+import contextlib
+import io
 import os
 import signal
 import socket
@@ -6,6 +8,7 @@ import subprocess
 import sys
 import threading
 import time
+from unittest import mock
 
 from checks import Between
 
@@ -131,6 +134,50 @@ def watched(machine, checks):
         checks.expect(f"without a reply, and with connections taken after {delay} s", found, wanted)
     sh("sv up /etc/service/pdpd-3")
     wait_until(machine.operator.is_answered, "the shard isn't there again")
+
+
+def looked(shard, before):
+    """How the watchdog finds a shard, and what it tells."""
+    sys.path.insert(0, str(LIBRARY))
+    from operating import watchdog
+    with contextlib.redirect_stderr(io.StringIO()) as told:
+        now = watchdog.look(shard, before)
+    return now, told.getvalue().replace("pdpd-watchdog: ", "").splitlines()
+
+
+def unkilled(machine, checks):
+    """A program that is stuck and isn't killed: the reason is told each time; without one it is killed."""
+    # the services' own watchdog would kill it
+    sh("sv down /etc/service/pdpd-watchdog /etc/service/pdpd-3")
+    wait_until(lambda: not pid(3), "a shard isn't ended")
+    stuck = "shard 3 is stuck"
+    why = "shard 3 wasn't killed: no program of it runs, and another one has its port"
+    with Mute(7103, 0):
+        checks.expect("another program has its port", looked(3, "up"), ("stuck", [stuck, why]))
+    sh("sv up /etc/service/pdpd-3")
+    wait_until(machine.operator.is_answered, "the shard isn't there again")
+    old, why = pid(3), "shard 3 wasn't killed: [Errno 1] not permitted"
+    os.kill(old, signal.SIGSTOP)
+    with mock.patch("os.kill", side_effect=PermissionError(1, "not permitted")):
+        checks.expect("a kill that fails", looked(3, "up"), ("stuck", [stuck, why]))
+        checks.expect("one that fails again", looked(3, "stuck"), ("stuck", [why]))
+    checks.expect("a kill", looked(3, "stuck"), ("stuck", []))
+    wait_until(lambda: pid(3) not in (0, old), "a program that stands still isn't killed")
+    looks_again(checks)
+    sh("sv up /etc/service/pdpd-watchdog")
+
+
+def looks_again(checks):
+    """A look that ends with a fault is told, and the next one knows how the shard was before."""
+    from operating import watchdog
+    looks = mock.patch.object(watchdog, "look", side_effect=[ValueError("a fault"), "stuck", SystemExit])
+    with mock.patch.object(watchdog, "PAUSE", 0), looks as look, contextlib.suppress(SystemExit), \
+            contextlib.redirect_stderr(io.StringIO()) as told:
+        watchdog.watch(3)
+    found = [call.args for call in look.call_args_list]
+    checks.expect("the looks", found, [(3, "up"), (3, "up"), (3, "stuck")])
+    line = "pdpd-watchdog: shard 3 wasn't looked at: ValueError('a fault')\n"
+    checks.expect("what is told", told.getvalue(), line)
 
 
 def unstarted(machine, checks):
