@@ -26,7 +26,7 @@ pub struct SqlRecords<S: Alter> {
 }
 
 impl<S: Alter> Model for SqlRecords<S> {
-    ghost use Rattle.xa_store.specs.Keeper.{Keeper, keeper_code, IsKeeper};
+    ghost use Rattle.xa_store.specs.Keeper.{IsKeeper, Keeper, are_only_ours, keeper_code};
 
     ghost Value = { Keeper S };
 

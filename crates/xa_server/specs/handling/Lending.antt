@@ -1,7 +1,7 @@
 -- What a front's connections are once one of them, which was lent, is given back.
 use Rattle.std.specs.Prelude.{Option}
 use Rattle.std.specs.Borrow.{Fml, LendsIf, MutBor}
-use Rattle.core.specs.contracts.option.Option.{the_row as option_row}
+use Rattle.std.specs.contracts.option.Option.{the_row as option_row}
 use Rattle.xa_http.specs.Stream.{Stream}
 use Rattle.xa_http.specs.contracts.session.Session.{the_row as session_row}
 use Rattle.xa_server.specs.contracts.lines.Lines.{the_row}
