@@ -1,18 +1,19 @@
 """What is generated in the pages (*.md), between the comments `pages: ..` and `end of pages`.
 
 Marks: `files PATTERN` is a table of the files with the first sentence of each; `definitions` the index of all
-definitions, crate by crate; `standing` the table of all crates, with links to their pages; `lines` counts the lines of
-definitions that have to be read; `decisions ROOM,ROOM..` is the index of all decisions in docs/design/decisions, each
-of which is a heading and a line that begins with its date; `kinds PATTERN` an example of each kind of row;
-`tables FILE` the tables of SQL that a file of code makes; `said COMMAND,WORD..` what a command writes; `functions` the
-functions that policies can call, by tests/model/names.py. `routes`, `route METHOD:PATH`, `errors`, `objects FIRST`,
-`states` and `examples METHOD:PATH` are parts of docs/guide, of what docs/guide/openapi.yaml has and the page doesn't
-write out.
+definitions, crate by crate (both with links to the files); `standing` the table of all crates, with links to their
+pages; `lines` counts the lines of definitions that have to be read; `decisions ROOM,ROOM..` is the index of all
+decisions in docs/design/decisions, each of which is a heading and a line that begins with its date; `kinds PATTERN`
+an example of each kind of row; `tables FILE` the tables of SQL that a file of code makes; `said COMMAND,WORD..` what
+a command writes; `functions` the functions that policies can call, by tests/model/names.py. `routes`, `route
+METHOD:PATH`, `errors`, `objects FIRST`, `states` and `examples METHOD:PATH` are parts of docs/guide, of what
+docs/guide/openapi.yaml has and the page doesn't write out.
 """
 import ast
 import collections
 import functools
 import json
+import os
 import pathlib
 import re
 import subprocess
@@ -74,22 +75,27 @@ def cell(text):
     return text.replace("|", r"\|").replace("<", r"\<")
 
 
-def files(pattern):
+def link(name, path, folder):
+    """A link to a file, from a page in that folder."""
+    return f"[`{name}`]({os.path.relpath(path, folder)})"
+
+
+def files(pattern, folder):
     found = [path for path in sorted(TOP.glob(pattern)) if path.is_file()]
-    rows = [(path.name, first_sentence(path)) for path in found if path.name not in ("__init__.py", "README.md")]
-    lines = [f"| `{name}` | {cell(about)} |\n" for name, about in rows]
+    lines = [f"| {link(path.name, path, folder)} | {cell(first_sentence(path))} |\n" for path in found
+             if path.name not in ("__init__.py", "README.md")]
     return "| File | What it is about |\n|---|---|\n" + "".join(lines)
 
 
-def definitions(_):
+def definitions(folder):
     text = ""
     for name in crates():
-        folder = TOP / "crates" / name / "specs"
+        specs = TOP / "crates" / name / "specs"
         rows = []
-        for path in sorted(folder.rglob("*.antt")):
-            within = path.relative_to(folder).with_suffix("").as_posix()
+        for path in sorted(specs.rglob("*.antt")):
+            within = path.relative_to(specs).with_suffix("").as_posix()
             if within != "Lib" and not within.startswith("declared") and (about := first_sentence(path)):
-                rows.append(f"| `{within}` | {cell(about)} |\n")
+                rows.append(f"| {link(within, path, folder)} | {cell(about)} |\n")
         if rows:
             text += f"\n## {name}\n\n| Module | What it says |\n|---|---|\n" + "".join(rows)
     return text.lstrip("\n")
@@ -352,8 +358,10 @@ def decisions(rooms):
 
 # ---- all
 
-def generated(text):
-    makers = {"files": files, "definitions": definitions, "standing": standing, "lines": lines, "states": states,
+def generated(text, folder):
+    """The text of a page in that folder, with what is generated made anew."""
+    makers = {"files": lambda pattern: files(pattern, folder), "definitions": lambda _: definitions(folder),
+              "standing": standing, "lines": lines, "states": states,
               "decisions": decisions, "kinds": kinds, "said": said, "tables": tables, "routes": routes, "route": route,
               "errors": errors, "objects": objects, "functions": functions,
               "examples": lambda route: examples(route, text)}

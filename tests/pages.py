@@ -69,10 +69,15 @@ def pages():
     return sorted({path for path in found if path.is_file() and not any(folder in path.parents for folder in built)})
 
 
+def without_code(text):
+    """A page without blocks of code."""
+    text = re.sub(r"^```.*?^```$", "", text, flags=re.S | re.M)
+    return "\n".join(line for line in text.split("\n") if not line.startswith("    "))
+
+
 def plain(text):
     """A page without code and without what is generated."""
-    text = re.sub(r"^```.*?^```$", "", GENERATED.sub("", text), flags=re.S | re.M)
-    return "\n".join(line for line in text.split("\n") if not line.startswith("    "))
+    return without_code(GENERATED.sub("", text))
 
 
 # ---- links
@@ -139,12 +144,12 @@ def faults_of(path):
     for span, name in named_files(plain(text)):
         if not any(each.endswith((name, name.removesuffix(".antt"))) for each in all_files()):
             yield f"no file {span}"
-    if text != generated(text):
+    if text != generated(text, path.parent):
         yield "what is generated is stale: make pages"
     for number, line in enumerate(plain(text).split("\n"), 1):
         if len(line) > GREATEST and not line.startswith("|") and "](" not in line and "`" not in line:
             yield f"a line of {len(line)} columns (make pages): {line[:60]}.."
-    for target in re.findall(r"\]\(([^)\s]+)\)", plain(text)):
+    for target in re.findall(r"\]\(([^)\s]+)\)", re.sub(r"`[^`\n]*`", "", without_code(text))):
         name, _, anchor = target.partition("#")
         if re.match(r"\w+:", target):
             continue
@@ -175,7 +180,7 @@ def main():
     for path in pages():
         if sys.argv[1:] == ["--write"]:
             text = path.read_text(encoding="utf-8")
-            if (made := laid_out(generated(text))) != text:
+            if (made := laid_out(generated(text, path.parent))) != text:
                 path.write_text(made, encoding="utf-8")
                 print(f"wrote {path.relative_to(TOP)}")
             continue
