@@ -1,5 +1,5 @@
 #!/usr/bin/env python3
-"""Asks a second and their times through the kit of deploy/: 1, 2 and 4 shards, 1, 10 and 100 clients.
+"""Asks a second and their times through what deploy/ sets up: 1, 2 and 4 shards, 1, 10 and 100 clients.
 
 usage: bench/deploy.py [--write] [PROGRAM]   the program, or that which is proved and built of these very sources;
                                              with --write the table is written into docs/PERFORMANCE.md too

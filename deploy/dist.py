@@ -1,5 +1,5 @@
 #!/usr/bin/env python3
-"""Packs the proved program, the kit, the pages and their checksums into build/pdpd-VERSION.tar.gz.
+"""Packs the proved program, what deploys it, the pages and their checksums into build/pdpd-VERSION.tar.gz.
 
 Without more words it takes the program that is proved and built of these very sources.
 """

@@ -1,6 +1,5 @@
 #!/usr/bin/env python3
-"""Tries the kit of deploy/ with the real parts, from the archive on: four shards behind HAProxy, under
-runit.
+"""Tries deploy/ with the real parts, from the archive on: four shards behind HAProxy, under runit.
 
 usage: tests/deploy.py [PROGRAM] [PART..]   the program, or that which is proved and built of these very sources
 
@@ -71,7 +70,7 @@ def differences(found, wanted):
         lacks, more = (Counter(one) - Counter(other) for one, other in ((wanted, found), (found, wanted)))
         lines += [f"isn't there: {sorted(lacks.elements())}", f"is there without reason: {sorted(more.elements())}"]
         for name in sorted({*lacks, *more})[:MOST]:
-            lines += [f"-- {name}, which by the kit is in shard {machine.where(name)}", *clients.history_of(name)]
+            lines += [f"-- {name}, which by deploy/ is in shard {machine.where(name)}", *clients.history_of(name)]
     return "\n".join(lines)
 
 

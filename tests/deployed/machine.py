@@ -88,7 +88,7 @@ def sh(command, **how):
 
 
 class Machine:
-    """The machine: the kit on it, its shards and its proxy."""
+    """The machine: what deploy/ installs on it, its shards and its proxy."""
 
     def __init__(self, folder):
         self.folder = pathlib.Path(folder)
@@ -105,7 +105,7 @@ class Machine:
         upper, work = self.folder / f"upper{path}", self.folder / f"work{path}"
         upper.mkdir(parents=True)
         work.mkdir(parents=True)
-        # (nothing of the kit is there before)
+        # (nothing of deploy/ is there before)
         sh(f"mount -t overlay overlay -o lowerdir={path},upperdir={upper},workdir={work} {path}")
 
     def pack(self, program):

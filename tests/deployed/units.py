@@ -41,7 +41,7 @@ def walk(machine, checks):
 def decision(machine, checks):
     """The messages of docs/guide/API.md up to a first decision, over TLS, as the page says."""
     page = (TOP / "docs" / "guide" / "API.md").read_text()
-    block = re.search(r"(?ms)^## From nothing to a decision\n(.*?)^[A-Z]", page)[1]
+    block = re.search(r"(?ms)^## From nothing to a decision\n(.*?)^## ", page)[1]
     lines = [line.strip().removeprefix("$ ") for line in block.splitlines() if line.strip().startswith("$ curl ")]
     settings = re.findall(r"(?m)^    # (operator=.*|at=.*); alias|^    # (operator=.*)", PAGE.read_text())
     first = "\n".join(one or other for one, other in settings)

@@ -1,4 +1,4 @@
-"""The limits of one message: the bytes of its reply, its work, and the bytes of policies that are read for it."""
+"""The limits of one decision request: the bytes of its reply, its work, and the bytes of policies that are read."""
 import json
 
 from checks import Between
@@ -103,7 +103,7 @@ def asked_by_root(served, set_id, ask=ASK):
 
 
 def limits():
-    """PDPD_WORK and PDPD_READING limit what a message may take, beside all that else is set; with 0 neither does. An
+    """PDPD_WORK and PDPD_READING limit what an ask may take, beside all that else is set; with 0 neither does. An
     ask takes 32 units, a policy 80, a rule 80 and a result 128."""
     for name, takes in (("PDPD_WORK", 32 + 80 + 80 + 128), ("PDPD_READING", len(policy()))):
         for value, wanted in ((takes, PERMIT), (takes - 1, UNAVAILABLE), (0, PERMIT)):
@@ -126,7 +126,7 @@ def much_asked(served, rules):
 
 
 def work_unless_set():
-    """Where PDPD_WORK isn't set a message may take 150,000,000 units, and by 0 more. An individual request takes 32,
+    """Where PDPD_WORK isn't set an ask may take 150,000,000 units, and by 0 more. An individual request takes 32,
     each of its objects too, a set 80, a result 128."""
     permits = response([{"Decision": "Permit", "Status": OK}] * 64)
     for rules, settings in ((28, {}), (29, {}), (29, {"PDPD_WORK": "0"})):
@@ -160,7 +160,7 @@ def seconds_again(served):
 
 
 def reading_and_views():
-    """Where PDPD_READING isn't set 16,000,000 bytes of policies may be read for a message, and by 0 more. They are
+    """Where PDPD_READING isn't set 16,000,000 bytes of policies may be read for an ask, and by 0 more. They are
     read once, and by PDPD_VIEWS=0 for each ask."""
     with serving("reading.db") as served:
         make_domain(served)
