@@ -195,7 +195,7 @@ fn serve<S: StoreInFile>(
     let address = address_of(serving.address.as_str())?;
     let settings = Settings::read(rt)?;
     let mut front = front_of_files::<S>(rt, serving, settings)?;
-    // No `?`: its exit drops the front, and the search for the clause of that exit doesn't end.
+    // For the proof: by no `?`, whose exit drops the front; the search for that exit's clause doesn't end.
     match serve_at(rt, &mut front, address, serving, settings.idle) {
         Ok(()) => Ok(front),
         Err(fault) => Err(fault),

@@ -135,8 +135,8 @@ fn reply_on_decision_route<R: Records>(
 }
 
 /// The reply to a message that administers a domain: its documents, its root or its source rows. Once it is
-/// let in the domain's gate is forgotten: a change may make it wrong, and a reading isn't told apart from
-/// one.
+/// let in the domain's gate is forgotten: a change may make it wrong. A reading isn't told apart from a
+/// change: both are rare beside decisions, and one contract does for both.
 #[tactic(auto, using(crate::proofs::GateLemmas::changed_stands))]
 fn reply_on_domain_route<R: Records>(
     alloc: Global,
@@ -157,7 +157,7 @@ fn reply_on_domain_route<R: Records>(
 }
 
 /// The reply to a message to the path of a document. Once it is let in and names a key, the domain's gate
-/// is forgotten: a change may make it wrong, and a reading isn't told apart from one.
+/// is forgotten: a change may make it wrong, and a reading isn't told apart from a change.
 #[tactic(auto, using(crate::proofs::GateLemmas::changed_stands))]
 fn reply_on_document_route<R: Records>(
     alloc: Global,

@@ -17,7 +17,7 @@ use xa_records::{Digest, Gate};
 use xa_shelf::Shelf;
 use xa_value::Text;
 
-/// The policies that were read, and the domains that have too many to read.
+/// The texts of policies that were read, and the domains whose policies have too much text to read.
 #[derive(Drop)]
 pub(crate) struct PolicyTexts {
     /// The policies that were read.

@@ -122,7 +122,7 @@ holds_value_text row number = holds_text (holds_value number) (column row shown.
 abbrev pub holds_typed_value : Row → Bool
 holds_typed_value row = holds_int (λ number. holds_value_text row number) (column row shown.source_value_type)
 
--- the row is one of a source, whoever says so
+-- the row is one of a source, but for its issuer
 abbrev pub is_row_of_source : ℤ → Row → Bool
 is_row_of_source next row =
     holds_int (is_assigned next) (column row shown.source_number)

@@ -142,7 +142,7 @@ attributes =
     ∷ needed (codes "category") Text ∷ needed (codes "entity") Text ∷ needed (codes "attribute") Text
     ∷ needed (codes "value_type") Integer ∷ needed (codes "value") Text ∷ []) (1 ∷ 2 ∷ []) rising
 
--- the rows of sources in schema 2: the same columns, and who says so
+-- the rows of sources in schema 2: the columns of schema 1, and the issuer
 abbrev pub sources : Table
 sources =
     of_domains (codes "sources") (tree_of Sources)

@@ -7,7 +7,7 @@ use crate::fault::Fault;
 use std::env::{self, VarError};
 use xa_value::number_up_to;
 
-/// The limit of work for one message if PDPD_WORK isn't set: at most a quarter of a second, in which others
+/// The limit of work for one decision if PDPD_WORK isn't set: at most a quarter of a second, in which others
 /// wait. The dearest honest ask measured takes 3,500,000.
 const DEFAULT_WORK: usize = 150_000_000;
 
@@ -15,7 +15,7 @@ const DEFAULT_WORK: usize = 150_000_000;
 /// alone leaves room for hundreds of megabytes.
 const DEFAULT_REPLY: usize = 16_777_216;
 
-/// How many bytes of policies may be read for one message if PDPD_READING isn't set. To read them takes
+/// How many bytes of policies may be read for one decision if PDPD_READING isn't set. To read them takes
 /// some 0.3 seconds, too.
 const DEFAULT_READING: usize = 16_000_000;
 

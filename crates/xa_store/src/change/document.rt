@@ -162,7 +162,7 @@ pub(crate) fn upload<S: Alter>(
     ensures which { HasCleanDisk (state S.Store conn.new) → Ours (state S.Store conn.old) → IfOk result (λ u.
         u ≡ upload_of key (state_of name.now (world_of (state S.Store conn.old).now.trees))) }
 {
-    // not by `carry_out`: whether the document is new is read off the steps
+    // Not by `carry_out`: whether the document is new is read off the steps.
     let planned = plan_upload(alloc, conn, name, key, text)?;
     let steps = planned.as_slice();
     let upload = upload_by(steps);

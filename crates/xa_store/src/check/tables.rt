@@ -130,7 +130,7 @@ fn check_tables<S: Alter>(
 fn are_consecutive(rows: &[Row]) -> bool
     ensures { result ≡ are_consecutive no_place rows.now }
 {
-    // before the first of any domain
+    // A place before the first of any domain.
     let mut last = SourcePlace {
         domain: -1,
         index: -1,
@@ -144,7 +144,7 @@ fn are_consecutive(rows: &[Row]) -> bool
     true
 }
 
-/// Checks the places of the rows of sources. Those of all domains are in memory at once.
+/// Checks the places of the rows of sources. Those of all domains are in memory at once: two numbers a row.
 fn check_places<S: Alter>(conn: &mut Connection<S>, version: SchemaVersion) -> Result<(), OpenError>
     ensures asks { AsksOver S.Store version conn.old conn.new result }
     ensures finds { FindsIn S.Store version conn.old conn.new

@@ -41,6 +41,7 @@ pub(crate) fn run<S: Alter>(
     if steps.is_empty() {
         return Ok(());
     }
+    // For the proof: `transaction` requires that none is under way, which no clause tells here.
     if !conn.is_autocommit() {
         return Err(Failure::Store);
     }
