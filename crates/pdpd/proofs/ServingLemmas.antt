@@ -22,7 +22,7 @@ use Rattle.xa_server.specs.Work.{IsWorkOfRun}
 use Rattle.xa_server.specs.World.{ServerModel}
 use Rattle.xa_server.proofs.ConnectionLemmas.{run_trans, work_trans}
 use Rattle.xa_server.proofs.IsolationLemmas.{isolated}
-use Rattle.pdpd.specs.Connections.{AreIsolated, HasServed, IsConnectionServed}
+use Rattle.pdpd.specs.Connections.{AreIsolated, IsConnectionServed}
 use Rattle.pdpd.specs.declared.fault.Fault.{Fault}
 use Rattle.pdpd.specs.declared.fault.Fault.TheVariants as variant
 use Rattle.pdpd.specs.declared.fault.Fault.TheVariants.{Address, TokenUnread, TokenBad, Store, Shut, Socket, Connection, Clock, Output, Memory}
@@ -184,7 +184,8 @@ served_more count old mid new before (known_before, known_now, is) = more_isolat
 -- from the front of the files
 pub served_from : {R : Type 0} (custody : R → Custody) (count : ℕ) (old new : FrontModel R) → IsOperator old.server.operator → old.server.decisions ≡ nothing_cached
     → old.lines ≡ none_open → Serves count (front_state custody old) (front_state custody new)
-    → HasServed count (front_state custody new)
+    → (from : FrontState) × IsOperator from.server.world.operator × (from.server.decisions ≡ nothing_cached) × (from.lines ≡ none_open)
+    × AreIsolated count from (front_state custody new)
 unfolding Serves
 served_from custody count old new operator decisions none is = (front_state custody old, operator, decisions, none, is)
 

@@ -4,7 +4,6 @@ use Rattle.xa_server.specs.declared.drive_end.DriveEnd.{DriveEnd}
 use Rattle.xa_server.specs.declared.lines.Conn.{Conn}
 use Rattle.xa_server.specs.declared.replies.Reply.{Reply}
 use Rattle.xa_server.specs.Alone.{Event}
-use Rattle.xa_server.specs.Decisions.{nothing_cached}
 use Rattle.xa_server.specs.Driven.{IsDrivenWithin, Known}
 use Rattle.xa_server.specs.Front.{FrontState}
 use Rattle.xa_server.specs.Isolation.{IsIsolatedBesideRefusals}
@@ -12,7 +11,6 @@ use Rattle.xa_server.specs.Lines.{empty_stream, none_open, with_line}
 use Rattle.xa_server.specs.Served.{IsRun}
 use Rattle.xa_server.specs.Work.{IsWorkOfRun}
 use Rattle.pdpd.specs.Fault.{fault_of_end}
-use Rattle.pdpd.specs.Token.{IsOperator}
 
 -- no connection was open. One was opened, of which nothing had come; it was driven to an end after which the next is
 -- served, and closed. `known_old` and `known_new` are what is known of its reader, its writer and the clock
@@ -44,10 +42,3 @@ pub record AreIsolated (count : ℕ) (old new : FrontState) : Type 0 where
   pub is_run : IsRun old.server.world events replies new.server.world
   pub work : IsWorkOfRun old.server.world old.server.decisions events replies new.server.world new.server.decisions
   pub isolated : IsIsolatedBesideRefusals old.server.world new.server.world events replies
-
--- a server began for the operator of a well-formed token, with no decision cached and no connection open. Then `count`
--- connections were served, one after another
-abbrev pub HasServed : ℕ → FrontState → Type 0
-HasServed count new =
-    (old : FrontState) × IsOperator old.server.world.operator × (old.server.decisions ≡ nothing_cached)
-    × (old.lines ≡ none_open) × AreIsolated count old new

@@ -30,10 +30,11 @@ mod store;
 use command_line::{Command, ServeCommand, command_of};
 use exit::Exit;
 use fault::{Fault, FaultLine};
-use serve::{close_front, serve_files};
+use sqlite::{File, FileStore};
 use std::env;
 use std::io::ErrorKind;
 use std::process::ExitCode;
+use store::{StoreInFile, close_records};
 
 /// The words of the command line, the program's name first.
 fn words(rt: &HostRuntime) -> Result<Vec<String>, Exit> {
@@ -65,11 +66,14 @@ fn print(rt: &HostRuntime, text: &str) -> Exit
 }
 
 /// Serves connections, and then closes the file.
-fn serve_and_close(rt: &HostRuntime, serving: &ServeCommand<'_>) -> Result<(), Fault>
+fn serve_and_close<S: StoreInFile>(
+    rt: &HostRuntime,
+    serving: &ServeCommand<'_>,
+) -> Result<(), Fault>
     ensures { IsNoAddress serving.now.address → result ≡ Err Address }
 {
-    let front = serve_files(rt, serving)?;
-    close_front(front)
+    let front = serve::serve::<S>(rt, serving)?;
+    close_records(front.into_server().into_records())
 }
 
 /// Serves connections, and gives the exit. A line on standard error tells of a fault.
@@ -77,7 +81,7 @@ fn exit_of_serving(rt: &HostRuntime, serving: &ServeCommand<'_>) -> Exit
     ensures serving { IsTrue (ends_serving result) }
     ensures address { IsNoAddress serving.now.address → result ≡ Usage }
 {
-    match serve_and_close(rt, serving) {
+    match serve_and_close::<FileStore<File>>(rt, serving) {
         Ok(()) => Exit::Done,
         Err(fault) => {
             let _ = rt.eprintln(FaultLine { serving, fault });

@@ -2,15 +2,12 @@
 ghost use Rattle.std.specs.Prelude.{◌≡◌, ◌↔◌, IfErr, IfOk, MatchResult};
 ghost use Rattle.std.specs.Prelude.{OnOk, Err, None, Some};
 ghost use Rattle.std.specs.Net.Grammar.{IsSocketText, Parses};
-ghost use Rattle.sqlite.specs.Files.{over_files};
 ghost use Rattle.xa_server.specs.Decisions.{nothing_cached};
-ghost use Rattle.xa_server.specs.Front.{front_state};
+ghost use Rattle.xa_server.specs.Front.{FrontState, front_state};
 ghost use Rattle.xa_server.specs.Lines.{none_open};
 ghost use Rattle.xa_store.specs.KeeperReading.{custody_by};
-ghost use Rattle.pdpd.specs.declared.fault.Fault.TheVariants as variant;
 ghost use Rattle.pdpd.specs.declared.fault.Fault.TheVariants.{Address};
-ghost use Rattle.pdpd.specs.declared.fault.StoreFault.TheVariants.{Unclosed};
-ghost use Rattle.pdpd.specs.Connections.{HasServed, IsConnectionServed};
+ghost use Rattle.pdpd.specs.Connections.{AreIsolated, IsConnectionServed};
 ghost use Rattle.pdpd.specs.Fault.{IsNoAddress, IsOfConnections, IsOfFiles, IsOfServing, fault_of_end};
 ghost use Rattle.pdpd.specs.running.Serving.{Serves, ServesOne, WasSound, seen_beside_front};
 ghost use Rattle.pdpd.specs.Token.{IsOperator};
@@ -27,8 +24,7 @@ use crate::serve::listening::Listening;
 use crate::serve::settings::{Settings, front_over};
 use crate::serve::token::operator_of_file;
 use crate::serve::wall_clock::WallClock;
-use crate::store::{FileRecords, StoreInFile, close_records, records_in_file};
-use sqlite::{File, FileStore};
+use crate::store::{StoreInFile, records_in_file};
 use std::net::{SocketAddr, TcpListener};
 use std::rt::HostRuntime;
 use xa_records::Records;
@@ -184,12 +180,14 @@ fn front_of_files<S: StoreInFile>(
 /// the address, PDPD_WORK, PDPD_REPLY, PDPD_READING, PDPD_VIEWS, PDPD_IDLE, the token file, the store, the
 /// socket.
 #[tactic(auto, using(crate::proofs::ServingLemmas::settings_not_address, crate::proofs::ServingLemmas::files_not_address, crate::proofs::ServingLemmas::serving_not_address, crate::proofs::ServingLemmas::address_found))]
-fn serve<S: StoreInFile>(
+pub fn serve<S: StoreInFile>(
     rt: &HostRuntime,
     serving: &ServeCommand<'_>,
 ) -> Result<Front<SqlRecords<S>>, Fault>
     ensures served { IfOk result (λ front. (custody_by S.Store front.server.records).sound
-        → HasServed serving.now.connections (front_state (custody_by S.Store) front)) }
+        → (old : FrontState) × IsOperator old.server.world.operator × (old.server.decisions ≡ nothing_cached)
+        × (old.lines ≡ none_open)
+        × AreIsolated serving.now.connections old (front_state (custody_by S.Store) front)) }
     ensures address { (result ≡ Err Address) ↔ IsNoAddress serving.now.address }
 {
     let address = address_of(serving.address.as_str())?;
@@ -200,23 +198,4 @@ fn serve<S: StoreInFile>(
         Ok(()) => Ok(front),
         Err(fault) => Err(fault),
     }
-}
-
-/// `serve` over the files of SQLite, as the program calls it.
-pub fn serve_files(
-    rt: &HostRuntime,
-    serving: &ServeCommand<'_>,
-) -> Result<Front<FileRecords>, Fault>
-    ensures served { IfOk result (λ front. (custody_by over_files front.server.records).sound
-        → HasServed serving.now.connections (front_state (custody_by over_files) front)) }
-    ensures address { (result ≡ Err Address) ↔ IsNoAddress serving.now.address }
-{
-    serve::<FileStore<File>>(rt, serving)
-}
-
-/// Closes the file of a front's keeper.
-pub fn close_front<S: StoreInFile>(front: Front<SqlRecords<S>>) -> Result<(), Fault>
-    ensures { IfErr result (λ fault. fault ≡ variant.Store Unclosed) }
-{
-    close_records(front.into_server().into_records())
 }

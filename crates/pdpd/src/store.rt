@@ -22,15 +22,12 @@ use std::fs::{self, OpenOptions};
 use std::os::unix::fs::{OpenOptionsExt, PermissionsExt};
 use xa_store::{OpenError, SqlRecords};
 
-/// What keeps domains in a file.
-pub type FileRecords = SqlRecords<FileStore<File>>;
-
 /// What keeps domains in memory.
 pub type MemoryRecords = SqlRecords<MemStore>;
 
-/// A store in a file. There is one, but all functions but two know it by this trait alone: a function in
-/// which a keeper over `FileStore` stands takes the prover twenty seconds and more, whatever else it does.
-/// No contract rests on what the trait's functions give: `SqlRecords::open` checks what it finds.
+/// A store in a file. There is one, but the program knows it by this trait alone: a function in which a
+/// keeper over `FileStore` stands takes the prover twenty seconds and more, whatever else it does. No
+/// contract rests on what the trait's functions give: `SqlRecords::open` checks what it finds.
 pub trait StoreInFile: Alter + Drop {
     /// A connection to the store in the file at the path.
     fn connection_to(rt: &HostRuntime, path: &str) -> Result<Connection<Self>, Error>;
