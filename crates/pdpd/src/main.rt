@@ -30,11 +30,10 @@ mod store;
 use command_line::{Command, ServeCommand, command_of};
 use exit::Exit;
 use fault::{Fault, FaultLine};
-use sqlite::{File, FileStore};
 use std::env;
 use std::io::ErrorKind;
 use std::process::ExitCode;
-use store::{StoreInFile, close_records};
+use store::close_records;
 
 /// The words of the command line, the program's name first.
 fn words(rt: &HostRuntime) -> Result<Vec<String>, Exit> {
@@ -66,13 +65,10 @@ fn print(rt: &HostRuntime, text: &str) -> Exit
 }
 
 /// Serves connections, and then closes the file.
-fn serve_and_close<S: StoreInFile>(
-    rt: &HostRuntime,
-    serving: &ServeCommand<'_>,
-) -> Result<(), Fault>
+fn serve_and_close(rt: &HostRuntime, serving: &ServeCommand<'_>) -> Result<(), Fault>
     ensures { IsNoAddress serving.now.address → result ≡ Err Address }
 {
-    let front = serve::serve::<S>(rt, serving)?;
+    let front = serve::serve(rt, serving)?;
     close_records(front.into_server().into_records())
 }
 
@@ -81,7 +77,7 @@ fn exit_of_serving(rt: &HostRuntime, serving: &ServeCommand<'_>) -> Exit
     ensures serving { IsTrue (ends_serving result) }
     ensures address { IsNoAddress serving.now.address → result ≡ Usage }
 {
-    match serve_and_close::<FileStore<File>>(rt, serving) {
+    match serve_and_close(rt, serving) {
         Ok(()) => Exit::Done,
         Err(fault) => {
             let _ = rt.eprintln(FaultLine { serving, fault });

@@ -2,6 +2,7 @@
 ghost use Rattle.std.specs.Prelude.{◌≡◌, ◌↔◌, IfErr, IfOk, MatchResult};
 ghost use Rattle.std.specs.Prelude.{OnOk, Err, None, Some};
 ghost use Rattle.std.specs.Net.Grammar.{IsSocketText, Parses};
+ghost use Rattle.sqlite.specs.Files.{over_files};
 ghost use Rattle.xa_server.specs.Decisions.{nothing_cached};
 ghost use Rattle.xa_server.specs.Front.{FrontState, front_state};
 ghost use Rattle.xa_server.specs.Lines.{none_open};
@@ -21,15 +22,14 @@ mod wall_clock;
 use crate::command_line::ServeCommand;
 use crate::fault::Fault;
 use crate::serve::listening::Listening;
-use crate::serve::settings::{Settings, front_over};
+use crate::serve::settings::{Settings, front_of_tables};
 use crate::serve::token::operator_of_file;
 use crate::serve::wall_clock::WallClock;
-use crate::store::{StoreInFile, records_in_file};
+use crate::store::{FileRecords, records_in_file};
 use std::net::{SocketAddr, TcpListener};
 use std::rt::HostRuntime;
 use xa_records::Records;
 use xa_server::{Clock, DriveEnd, Front, Reader, Writer, drive};
-use xa_store::SqlRecords;
 
 /// Fails if a connection that ended so ends the program, too. The fault says why.
 fn check_end(end: DriveEnd) -> Result<(), Fault>
@@ -160,19 +160,19 @@ fn address_of(word: &str) -> Result<SocketAddr, Fault>
 
 /// The front of a server over the store in the file, for the operator whose token is the first line
 /// of the token file.
-fn front_of_files<S: StoreInFile>(
+fn front_of_files(
     rt: &HostRuntime,
     serving: &ServeCommand<'_>,
     settings: Settings,
-) -> Result<Front<SqlRecords<S>>, Fault>
+) -> Result<Front<FileRecords>, Fault>
     ensures operator { IfOk result (λ front. IsOperator front.server.operator) }
     ensures decisions { IfOk result (λ front. front.server.decisions ≡ nothing_cached) }
     ensures closed { IfOk result (λ front. front.lines ≡ none_open) }
     ensures err { IfErr result IsOfFiles }
 {
     let operator = operator_of_file(rt, serving.token_file.as_str())?;
-    let records = records_in_file::<S>(rt, serving.database.as_str())?;
-    front_over(rt.alloc(), records, operator, settings)
+    let records = records_in_file(rt, serving.database.as_str())?;
+    front_of_tables(rt.alloc(), records, operator, settings)
 }
 
 /// Serves connections over the store in the file, for the operator whose token is the first line of the
@@ -180,19 +180,16 @@ fn front_of_files<S: StoreInFile>(
 /// the address, PDPD_WORK, PDPD_REPLY, PDPD_READING, PDPD_VIEWS, PDPD_IDLE, the token file, the store, the
 /// socket.
 #[tactic(auto, using(crate::proofs::ServingLemmas::settings_not_address, crate::proofs::ServingLemmas::files_not_address, crate::proofs::ServingLemmas::serving_not_address, crate::proofs::ServingLemmas::address_found))]
-pub fn serve<S: StoreInFile>(
-    rt: &HostRuntime,
-    serving: &ServeCommand<'_>,
-) -> Result<Front<SqlRecords<S>>, Fault>
-    ensures served { IfOk result (λ front. (custody_by S.Store front.server.records).sound
+pub fn serve(rt: &HostRuntime, serving: &ServeCommand<'_>) -> Result<Front<FileRecords>, Fault>
+    ensures served { IfOk result (λ front. (custody_by over_files front.server.records).sound
         → (old : FrontState) × IsOperator old.server.world.operator × (old.server.decisions ≡ nothing_cached)
         × (old.lines ≡ none_open)
-        × AreIsolated serving.now.connections old (front_state (custody_by S.Store) front)) }
+        × AreIsolated serving.now.connections old (front_state (custody_by over_files) front)) }
     ensures address { (result ≡ Err Address) ↔ IsNoAddress serving.now.address }
 {
     let address = address_of(serving.address.as_str())?;
     let settings = Settings::read(rt)?;
-    let mut front = front_of_files::<S>(rt, serving, settings)?;
+    let mut front = front_of_files(rt, serving, settings)?;
     // For the proof: by no `?`, whose exit drops the front; the search for that exit's clause doesn't end.
     match serve_at(rt, &mut front, address, serving, settings.idle) {
         Ok(()) => Ok(front),

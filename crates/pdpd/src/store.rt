@@ -1,6 +1,6 @@
 //! The store of `pdpd serve`, and that of `pdpd replay`.
 ghost use Rattle.std.specs.Prelude.{◌≡◌, ◌≢◌, ◌⊎◌, IfErr, IfOk, IsTrue};
-ghost use Rattle.sqlite.specs.Held.{state};
+ghost use Rattle.sqlite.specs.Files.{file_state, over_files};
 ghost use Rattle.sqlite.specs.Steps.{over_memory};
 ghost use Rattle.xa_records.specs.Kept.{nothing_kept};
 ghost use Rattle.xa_store.specs.Keeper.{IsSound};
@@ -16,35 +16,17 @@ use crate::exit::Exit;
 use crate::fault::{Fault, OneLine, StoreFault};
 use crate::mode::lets_others_read;
 use crate::store::halves::{Halves, halves_at};
-use sqlite::{Alter, Connection, Error, ErrorCode, File, FileStore, MemStore};
+use sqlite::{Connection, Error, ErrorCode, File, FileStore, MemStore};
 use std::alloc::Global;
 use std::fs::{self, OpenOptions};
 use std::os::unix::fs::{OpenOptionsExt, PermissionsExt};
 use xa_store::{OpenError, SqlRecords};
 
+/// What keeps domains in a file.
+pub type FileRecords = SqlRecords<FileStore<File>>;
+
 /// What keeps domains in memory.
 pub type MemoryRecords = SqlRecords<MemStore>;
-
-/// A store in a file. There is one, but the program knows it by this trait alone: a function in which a
-/// keeper over `FileStore` stands takes the prover twenty seconds and more, whatever else it does. No
-/// contract rests on what the trait's functions give: `SqlRecords::open` checks what it finds.
-pub trait StoreInFile: Alter + Drop {
-    /// A connection to the store in the file at the path.
-    fn connection_to(rt: &HostRuntime, path: &str) -> Result<Connection<Self>, Error>;
-
-    /// Closes the connection. Its log is written back into the file.
-    fn close_connection(conn: Connection<Self>) -> Result<(), Error>;
-}
-
-impl StoreInFile for FileStore<File> {
-    fn connection_to(rt: &HostRuntime, path: &str) -> Result<Connection<FileStore<File>>, Error> {
-        Connection::open(rt, path)
-    }
-
-    fn close_connection(conn: Connection<FileStore<File>>) -> Result<(), Error> {
-        conn.close()
-    }
-}
 
 /// Why the file can't be opened.
 fn fault_of_file(error: Error) -> Fault
@@ -151,15 +133,15 @@ fn make_file(rt: &HostRuntime, path: &str) {
 
 /// The keeper over the file, which is made if it isn't there. Lines on standard error warn of tables
 /// of which nothing is proved, of a log that isn't there, and of a file that others can read.
-pub fn records_in_file<S: StoreInFile>(rt: &HostRuntime, path: &str) -> Result<SqlRecords<S>, Fault>
+pub fn records_in_file(rt: &HostRuntime, path: &str) -> Result<FileRecords, Fault>
     ensures sound { IfOk result (λ records.
-        IsTrue records.ours → IsTrue (state S.Store records.conn).is_open → IsSound S.Store records) }
+        IsTrue records.ours → IsTrue (file_state records.conn).is_open → IsSound over_files records) }
     ensures err { IfErr result IsOfStore }
 {
     look_at_halves(rt, path)?;
     make_file(rt, path);
     warn_of_readers(rt, path);
-    let conn = match S::connection_to(rt, path) {
+    let conn = match Connection::open(rt, path) {
         Ok(conn) => conn,
         Err(error) => return Err(fault_at(rt, path, fault_of_file(error))),
     };
@@ -176,10 +158,10 @@ pub fn records_in_file<S: StoreInFile>(rt: &HostRuntime, path: &str) -> Result<S
 
 /// Closes the file of a keeper. Its log is written back into it, so that the store is this one file,
 /// and a log without commits.
-pub fn close_records<S: StoreInFile>(records: SqlRecords<S>) -> Result<(), Fault>
+pub fn close_records(records: FileRecords) -> Result<(), Fault>
     ensures { IfErr result (λ e. e ≡ fault.Store Unclosed) }
 {
-    let closed = S::close_connection(records.into_connection());
+    let closed = records.into_connection().close();
     closed.map_err(|_| Fault::Store(StoreFault::Unclosed))
 }
 

@@ -7,9 +7,11 @@ ghost use Rattle.pdpd.specs.running.Serving.{IsOfSettings};
 
 use crate::fault::Fault;
 use crate::serve::setting::Setting;
+use sqlite::Alter;
 use std::alloc::Global;
 use xa_records::{Digest, Records};
 use xa_server::{Front, Server};
+use xa_store::SqlRecords;
 
 /// What an operator has set: the limits of a message, each 0 for none; the room for cached views; and how
 /// long a connection is waited for.
@@ -51,7 +53,7 @@ fn limit_of(set: usize) -> u64 {
 }
 
 /// The front of a server over the keeper, for that operator and by these settings. No connection is open.
-pub fn front_over<R: Records + Drop>(
+fn front_over<R: Records + Drop>(
     alloc: Global,
     records: R,
     operator: Digest,
@@ -70,4 +72,20 @@ pub fn front_over<R: Records + Drop>(
         .with_reading_limit(limit_of(settings.reading))
         .with_view_bytes(settings.views);
     Ok(Front::new(alloc, server)?)
+}
+
+/// `front_over` a keeper of tables in any store. That a server may be over such a keeper is proved here, of
+/// every store at once: of a certain store that proof is long.
+pub fn front_of_tables<S: Alter + Drop>(
+    alloc: Global,
+    records: SqlRecords<S>,
+    operator: Digest,
+    settings: Settings,
+) -> Result<Front<SqlRecords<S>>, Fault>
+    ensures operator { IfOk result (λ front. front.server.operator ≡ operator) }
+    ensures decisions { IfOk result (λ front. front.server.decisions ≡ nothing_cached) }
+    ensures closed { IfOk result (λ front. front.lines ≡ none_open) }
+    ensures err { IfErr result (λ fault. fault ≡ Memory) }
+{
+    front_over(alloc, records, operator, settings)
 }
