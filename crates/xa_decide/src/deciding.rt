@@ -1,10 +1,9 @@
 //! How the individual requests of a request are decided, one after another, and how that is paid for.
 ghost use Rattle.std.specs.Prelude.{◌≡◌, true, [], ◌∷◌, map, IfOk};
 ghost use Rattle.xa_policy.specs.Evaluation.{as_asked};
-ghost use Rattle.xa_profile.specs.declared.individuals.Individual.TheVariants.{Places};
 ghost use Rattle.xa_decide.specs.Decision.{decided, evaluated_by_tree, objects_at};
 ghost use Rattle.xa_decide.specs.Decision.{result_of, result_without_objects};
-ghost use Rattle.xa_decide.specs.Timeless.{is_timeless_request, is_timeless_tree};
+ghost use Rattle.xa_decide.specs.Timeless.{is_timeless_request};
 
 use crate::context::IndividualContext;
 use crate::indexed_object::IndexedObject;
@@ -66,31 +65,25 @@ impl<'a> Deciding<'a> {
         IndividualContext::new(alloc, self.objects, places, source, self.moment, self.work)
     }
 
-    /// The result of the individual request that has the objects at these places, which is paid for
-    /// before it is written.
+    /// The result of an individual request, which is paid for before it is written.
     #[tactic(auto, unfolding(crate::specs::Decision::decision))]
-    fn result_at(&self, alloc: Global, places: Items<usize>) -> Result<ResultObject, AllocError>
+    fn result_of(&self, alloc: Global, individual: Individual) -> Result<ResultObject, AllocError>
         ensures { IfOk result (λ r. r ≡ result_of self.now.view.now self.now.names_policies
-            self.now.objects.now self.now.moment (Places places)) }
+            self.now.objects.now self.now.moment individual) }
     {
+        self.work.spend(STEP)?;
+        let places = match individual {
+            Individual::Places(places) => places,
+            Individual::BadReference => {
+                return Ok(result_without_objects(alloc, Fault::SyntaxError));
+            }
+        };
         let chosen = places.as_slice();
         let context = self.context_at(alloc, chosen)?;
         let evaluated = evaluated_by_tree(alloc, self.view.tree(), &context, self.names_policies)?;
         self.work
             .spend_on_result(cost_of_result(self.objects, chosen, &evaluated))?;
         Ok(ResultObject { evaluated, places })
-    }
-
-    /// The result of an individual request.
-    fn result_of(&self, alloc: Global, individual: Individual) -> Result<ResultObject, AllocError>
-        ensures { IfOk result (λ r. r ≡ result_of self.now.view.now self.now.names_policies
-            self.now.objects.now self.now.moment individual) }
-    {
-        self.work.spend(STEP)?;
-        match individual {
-            Individual::Places(places) => self.result_at(alloc, places),
-            Individual::BadReference => Ok(result_without_objects(alloc, Fault::SyntaxError)),
-        }
     }
 
     /// The results of individual requests.
@@ -174,19 +167,25 @@ fn indexed_objects<'a>(
     Ok(indexed)
 }
 
-/// What comes of the individual requests of the request. Each object is put in order once for all of them.
-fn outcome_of_individuals<'x>(
+/// What comes of the request, with this work. Each of its objects is put in order once for all individual
+/// requests.
+#[tactic(auto, unfolding(crate::specs::Decision::decided, crate::specs::Timeless::is_timeless_request))]
+pub(crate) fn outcome_of_request(
     alloc: Global,
-    view: &'x View,
+    view: &View,
     request: &Request,
     moment: Moment,
-    work: &'x Work,
-    individuals: Items<Individual>,
+    work: &Work,
 ) -> Result<Outcome, AllocError>
-    ensures results { IfOk result (λ outcome. outcome.results
-        ≡ map (result_of view.now request.now.return_policy_id_list request.now.objects moment) individuals) }
-    ensures timeless { IfOk result (λ outcome. outcome.timeless ≡ is_timeless_tree view.now.tree) }
+    ensures results { IfOk result (λ outcome. outcome.results ≡ decided view.now request.now moment) }
+    ensures timeless { IfOk result (λ outcome. outcome.timeless ≡ is_timeless_request view.now request.now) }
 {
+    if request.combined_decision {
+        return one_outcome(alloc, Fault::ProcessingError);
+    }
+    let Ok(individuals) = individuals_of(alloc, request)? else {
+        return one_outcome(alloc, Fault::ProcessingError);
+    };
     let indexed = indexed_objects(alloc, work, request.objects.as_slice())?;
     let deciding = Deciding {
         view,
@@ -200,46 +199,4 @@ fn outcome_of_individuals<'x>(
         results,
         timeless: view.is_timeless(),
     })
-}
-
-/// What comes of the request, with this work.
-#[tactic(auto, unfolding(crate::specs::Decision::decided, crate::specs::Timeless::is_timeless_request))]
-fn outcome_by(
-    alloc: Global,
-    view: &View,
-    request: &Request,
-    moment: Moment,
-    work: &Work,
-) -> Result<Outcome, AllocError>
-    ensures results { IfOk result (λ outcome. outcome.results ≡ decided view.now request.now moment) }
-    ensures timeless { IfOk result (λ outcome. outcome.timeless ≡ is_timeless_request view.now request.now) }
-{
-    if request.combined_decision {
-        return one_outcome(alloc, Fault::ProcessingError);
-    }
-    match individuals_of(alloc, request)? {
-        Ok(individuals) => outcome_of_individuals(alloc, view, request, moment, work, individuals),
-        Err(_) => one_outcome(alloc, Fault::ProcessingError),
-    }
-}
-
-/// What comes of the request. If its large bags are searched so often that it takes no longer to put
-/// their values in order, that is done, and the request is decided again from the start, with what is
-/// left of the work.
-pub(crate) fn outcome_of_request(
-    alloc: Global,
-    view: &View,
-    request: &Request,
-    moment: Moment,
-) -> Result<Outcome, AllocError>
-    ensures results { IfOk result (λ outcome. outcome.results ≡ decided view.now request.now moment) }
-    ensures timeless { IfOk result (λ outcome. outcome.timeless ≡ is_timeless_request view.now request.now) }
-{
-    let work = Work::new(view, request.objects.as_slice());
-    match outcome_by(alloc, view, request, moment, &work) {
-        Err(_) if work.wants_order() => {
-            outcome_by(alloc, view, request, moment, &work.into_ordered())
-        },
-        outcome => outcome,
-    }
 }

@@ -10,6 +10,7 @@ ghost use Rattle.xa_decide.specs.Timeless.{is_timeless_answer, is_timeless_reque
 use crate::deciding::{one_result, outcome_of_request};
 use crate::request_body::RequestBody;
 use crate::view::View;
+use crate::work::Work;
 use std::alloc::{AllocError, Global};
 use xa_expr::Fault;
 use xa_profile::{Request, RequestError, Response};
@@ -36,7 +37,9 @@ pub struct Responded {
 /// The response to the request at the moment (XACML 3.0, core, sections 7.17 and 7.19; Multiple Decision
 /// Profile): a result for each of its individual requests, by the tree that the view's root stands for,
 /// or one result if these aren't decided. Want of memory is the only error; it is also what comes if one
-/// of the view's limits is reached.
+/// of the view's limits is reached. If the request's large bags are searched so often that it takes no longer
+/// to put their values in order, that is done, and the request is decided again from the start, with what is
+/// left of the work.
 pub fn decide<'a>(
     alloc: Global,
     view: &View,
@@ -47,7 +50,13 @@ pub fn decide<'a>(
     ensures results { IfOk result (λ d. d.response.results ≡ decided view.now request.now moment) }
     ensures timeless { IfOk result (λ d. d.timeless ≡ is_timeless_request view.now request.now) }
 {
-    let outcome = outcome_of_request(alloc, view, request, moment)?;
+    let work = Work::new(view, request.objects.as_slice());
+    let outcome = match outcome_of_request(alloc, view, request, moment, &work) {
+        Err(_) if work.wants_order() => {
+            outcome_of_request(alloc, view, request, moment, &work.into_ordered())?
+        }
+        outcome => outcome?,
+    };
     Ok(Decided {
         response: Response {
             objects: request.objects.as_slice(),
@@ -88,22 +97,6 @@ fn respond_to_no_request(alloc: Global, view: &View) -> Result<Responded, AllocE
     respond_with(alloc, view, &response, true)
 }
 
-/// What is responded to the request.
-fn respond_to_request(
-    alloc: Global,
-    view: &View,
-    request: &Request,
-    moment: Moment,
-) -> Result<Responded, AllocError>
-    ensures body { IfOk result (λ sent.
-        sent.body ≡ response_body request.now.objects (decided view.now request.now moment)) }
-    ensures timeless { IfOk result (λ sent.
-        sent.timeless ≡ is_timeless_request view.now request.now) }
-{
-    let decided = decide(alloc, view, request, moment)?;
-    respond_with(alloc, view, &decided.response, decided.timeless)
-}
-
 /// The body of the response to the body of a request, at the moment, and whether it is the same at every
 /// moment; none, if the body of the request is no JSON. JSON that is no request of the JSON Profile
 /// has a response, of the status syntax-error.
@@ -120,7 +113,11 @@ pub fn respond(
         IfSome sent (λ r. r.timeless ≡ is_timeless_answer view.now body.now)) }
 {
     match body.request() {
-        Ok(request) => Ok(Some(respond_to_request(alloc, view, request, moment)?)),
+        Ok(request) => {
+            let decided = decide(alloc, view, request, moment)?;
+            let responded = respond_with(alloc, view, &decided.response, decided.timeless)?;
+            Ok(Some(responded))
+        }
         Err(RequestError::NotJson) => Ok(None),
         Err(RequestError::NotProfile) => Ok(Some(respond_to_no_request(alloc, view)?)),
     }
