@@ -5,9 +5,9 @@ ghost use Rattle.xa_server.specs.handling.Views.{added, bytes_of_tree, bytes_of_
 use crate::revision::Revision;
 use xa_decide::View;
 
-/// The bytes that any view takes at least. They are room for the texts of its rows of attributes, which came
-/// in one body of at most 524,288 bytes, and for the boxes of its tree's sets: of 1,000 at most, in some
-/// 50,000 bytes. For both there is room unless that body is nearly all texts.
+/// What any view takes at least, in bytes: room for the texts of its rows of attributes, which came in one
+/// body of at most 524,288 bytes, and for the boxes of its tree's sets (1,000 at most, some 50,000 bytes).
+/// Both fit unless that body is nearly all texts.
 const VIEW_BYTES: usize = 524_288;
 
 /// The bytes that a row of attributes takes beside its texts.

@@ -157,7 +157,8 @@ fn reply_on_domain_route<R: Records>(
 }
 
 /// The reply to a message to the path of a document. Once it is let in and names a key, the domain's gate
-/// is forgotten: a change may make it wrong, and a reading isn't told apart from a change.
+/// is forgotten: a change may make it wrong. As in `reply_on_domain_route`, a reading isn't told apart from
+/// a change.
 #[tactic(auto, using(crate::proofs::GateLemmas::changed_stands))]
 fn reply_on_document_route<R: Records>(
     alloc: Global,
