@@ -17,9 +17,9 @@ use crate::changes::{
     set_source, upload,
 };
 use crate::document_key::key_of_parts;
+use crate::domain_name::name_if;
 use crate::error_code::{ABSENT, ErrorCode};
 use crate::handling_error::HandlingError;
-use crate::name::name_if;
 use crate::readings::{list_documents, list_domains, show_document, show_source};
 use crate::received_message::ReceivedMessage;
 use crate::resources::Resources;

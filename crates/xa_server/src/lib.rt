@@ -1,7 +1,7 @@
 //! The decision server: one message after another, each answered by the machine of its own domain.
 //!
 //! Files in the order of a message: `server` makes a `received_message`, with what else its answer depends
-//! on, and `dispatch` answers it. That reads the domain and the document from the path (`name`,
+//! on, and `dispatch` answers it. That reads the domain and the document from the path (`domain_name`,
 //! `document_key`), asks `admission` whether the message is let in, and goes on to `changes`, `readings` or
 //! `asks`.
 //! `admission` asks `authorization` and `gates`; `asks` asks `decisions`, `views`, `view` and `oversized`. A
@@ -26,6 +26,7 @@ mod clock;
 mod decisions;
 mod dispatch;
 mod document_key;
+mod domain_name;
 mod drive_end;
 mod driving;
 mod error_code;
@@ -38,7 +39,6 @@ mod interruption;
 mod limits;
 mod lines;
 mod multiplexer;
-mod name;
 mod oversized;
 mod reader;
 mod readings;
