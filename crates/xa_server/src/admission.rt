@@ -4,7 +4,7 @@ ghost use Rattle.xa_notation.specs.declared.token.Role.TheVariants.{Admin, Ask};
 ghost use Rattle.xa_records.specs.Kept.{state_of};
 ghost use Rattle.xa_records.specs.Readings.{gate_of};
 ghost use Rattle.xa_server.specs.handling.Gates.{revision_of};
-ghost use Rattle.xa_server.specs.handling.Replying.{OnlyReads, Opens, Tells};
+ghost use Rattle.xa_server.specs.handling.Replying.{OnlyReads, Opens, ShowsIfSound};
 ghost use Rattle.xa_server.specs.Machine.{admitted, admitted_by, by_operator, digest_shown, permitted};
 ghost use Rattle.xa_server.specs.Resources.{AllStand};
 
@@ -76,7 +76,7 @@ pub(crate) fn admit<R: Records>(
     name: &Text,
     message: &Message,
 ) -> Result<(), HandlingError>
-    ensures tells { Tells (R.custody records.old) (R.custody records.new) result
+    ensures tells { ShowsIfSound (R.custody records.old) (R.custody records.new) result
         (admitted Admin (state_of name.now (R.custody records.old).kept) message.now) }
     ensures keeper { OnlyReads (R.custody records.old) (R.custody records.new) result }
 {

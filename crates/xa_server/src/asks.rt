@@ -22,7 +22,7 @@ ghost use Rattle.xa_server.specs.declared.error_code.ErrorCode.TheVariants.{Keep
 ghost use Rattle.xa_server.specs.handling.Asking.{FreshReply, HasItsKey, IfLetIn, IsAsked, IsFresh};
 ghost use Rattle.xa_server.specs.handling.Asking.{IsResponseReply, MakesReady, evaluated_asked, key_asked};
 ghost use Rattle.xa_server.specs.handling.Asking.{key_within, reply_asked, response_asked};
-ghost use Rattle.xa_server.specs.handling.Replying.{Answers, OnlyReads, Tells};
+ghost use Rattle.xa_server.specs.handling.Replying.{Answers, OnlyReads, ShowsIfSound};
 ghost use Rattle.xa_server.specs.Machine.{response_to, told};
 ghost use Rattle.xa_server.specs.Resources.{AllStand};
 ghost use Rattle.xa_server.specs.handling.Viewing.{AreKeyed, nothing_viewed};
@@ -78,7 +78,7 @@ fn kept_view<R: Records>(
     records: &mut R,
     name: &Text,
 ) -> Result<KeptView, HandlingError>
-    ensures tells { Tells (R.custody records.old) (R.custody records.new) result
+    ensures tells { ShowsIfSound (R.custody records.old) (R.custody records.new) result
         (ok_or (kept_view_of name.now (R.custody records.old).kept) (Keeper Absent)) }
     ensures keyed { (R.custody records.new).sound → IfOk result (λ kept. AreKeyed kept.texts) }
     ensures keeper { OnlyReads (R.custody records.old) (R.custody records.new) result }
@@ -167,7 +167,7 @@ fn reply_by_new_view<R: Records>(
     read: ReadAsk<'_>,
 ) -> Result<Items<u8>, HandlingError>
     requires { HasItsKey read }
-    ensures tells { Tells (R.custody records.old) (R.custody records.new) result
+    ensures tells { ShowsIfSound (R.custody records.old) (R.custody records.new) result
         (reply_asked (R.custody records.old).kept read.entry.ask.now read.entry.body) }
     ensures works { (R.custody records.new).sound
         → IsFresh (key_asked read.entry.ask.now read.entry.body)

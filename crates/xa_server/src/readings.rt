@@ -5,7 +5,7 @@ ghost use Rattle.xa_decide.specs.Rows.{rows_body};
 ghost use Rattle.xa_records.specs.Kept.{names_of};
 ghost use Rattle.xa_records.specs.Listing.{listing_body, names_body};
 ghost use Rattle.xa_records.specs.Readings.{listing_of_state};
-ghost use Rattle.xa_server.specs.handling.Replying.{HandlesReading, OnlyReads, Tells};
+ghost use Rattle.xa_server.specs.handling.Replying.{HandlesReading, OnlyReads, ShowsIfSound};
 ghost use Rattle.xa_server.specs.Machine.{by_document_command, told};
 ghost use Rattle.xa_server.specs.Replies.{json_reply};
 
@@ -69,7 +69,7 @@ pub(crate) fn list_domains<R: Records>(
     alloc: Global,
     records: &mut R,
 ) -> Result<Items<u8>, HandlingError>
-    ensures tells { Tells (R.custody records.old) (R.custody records.new) result
+    ensures tells { ShowsIfSound (R.custody records.old) (R.custody records.new) result
         (Ok (json_reply (names_body (names_of (R.custody records.old).kept)))) }
     ensures keeper { OnlyReads (R.custody records.old) (R.custody records.new) result }
 {

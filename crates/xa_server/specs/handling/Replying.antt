@@ -39,8 +39,8 @@ Shows old new (Err (Error code)) meant = (meant ≡ Err code) × (new ≡ old)
 Shows old new (Err (Failed failure)) meant = new ≡ old
 
 -- `Shows`, if the keeper is sound
-abbrev pub Tells : {X : Type 0} → Custody → Custody → Result X HandlingError → Result X ErrorCode → Type 0
-Tells old new result meant = new.sound → Shows old.kept new.kept result meant
+abbrev pub ShowsIfSound : {X : Type 0} → Custody → Custody → Result X HandlingError → Result X ErrorCode → Type 0
+ShowsIfSound old new result meant = new.sound → Shows old.kept new.kept result meant
 
 -- a message was let in: then the result is what is there, by the gate of a domain; or it wasn't, or it failed; and
 -- nothing has changed
