@@ -4,9 +4,9 @@ ghost use Rattle.std.specs.Prelude.{IsTrue};
 ghost use Rattle.xa_http.specs.declared.route.Route.TheVariants as to;
 ghost use Rattle.xa_records.specs.DomainName.{is_domain_name};
 ghost use Rattle.xa_server.specs.handling.Asking.{SharesMessage, SharesRoute};
-ghost use Rattle.xa_server.specs.handling.Replying.{ChangesRoute, HandlesChange, KeepsMessage, KeepsRoute};
-ghost use Rattle.xa_server.specs.handling.Replying.{OnlyForgets, OnlyReads, TellsMessage, TellsRoute};
-ghost use Rattle.xa_server.specs.handling.Replying.{domain_named};
+ghost use Rattle.xa_server.specs.handling.Replying.{AnswersMessageIfSound, AnswersRouteIfSound, ChangesRoute};
+ghost use Rattle.xa_server.specs.handling.Replying.{HandlesChange, KeepsMessage, KeepsRoute, OnlyForgets};
+ghost use Rattle.xa_server.specs.handling.Replying.{OnlyReads, domain_named};
 ghost use Rattle.xa_server.specs.Machine.{by_document_command, by_domain_command, by_operator_command};
 ghost use Rattle.xa_server.specs.Owner.{name_if};
 
@@ -118,7 +118,7 @@ fn reply_on_decision_route<R: Records>(
     received: &ReceivedMessage<'_>,
     domain: Items<u8>,
 ) -> Result<Items<u8>, HandlingError>
-    ensures answers { TellsRoute (R.custody records.old) (R.custody records.new) received.now
+    ensures answers { AnswersRouteIfSound (R.custody records.old) (R.custody records.new) received.now
         resources.old (name_if domain) (to.Decide domain) result }
     ensures shared { SharesRoute (R.custody records.old) (R.custody records.new) received.now
         (to.Decide domain) resources.old resources.new result }
@@ -188,7 +188,7 @@ fn reply_to_route<R: Records>(
     received: &ReceivedMessage<'_>,
     route: Route,
 ) -> Result<Items<u8>, HandlingError>
-    ensures answers { TellsRoute (R.custody records.old) (R.custody records.new) received.now
+    ensures answers { AnswersRouteIfSound (R.custody records.old) (R.custody records.new) received.now
         resources.old (domain_named route) route result }
     ensures shared { SharesRoute (R.custody records.old) (R.custody records.new) received.now route
         resources.old resources.new result }
@@ -224,7 +224,7 @@ pub(crate) fn reply_to_message<R: Records>(
     records: &mut R,
     received: &ReceivedMessage<'_>,
 ) -> Result<Items<u8>, HandlingError>
-    ensures answers { TellsMessage (R.custody records.old) (R.custody records.new) received.now
+    ensures answers { AnswersMessageIfSound (R.custody records.old) (R.custody records.new) received.now
         resources.old result }
     ensures shared { SharesMessage (R.custody records.old) (R.custody records.new) received.now
         resources.old resources.new result }

@@ -70,14 +70,15 @@ AnswersMessage received old new (Some name) result =
     Answers old new name result (answer received.operator (state_of name old) received.message.now received.moment)
 
 -- `AnswersRoute`, if all that the server shares stood before and the keeper is sound after
-abbrev pub TellsRoute : Custody → Custody → ReceivedMessage → ResourcesModel → Option (List ℕ) → Route
+abbrev pub AnswersRouteIfSound : Custody → Custody → ReceivedMessage → ResourcesModel → Option (List ℕ) → Route
     → Result (List ℕ) HandlingError → Type 0
-TellsRoute old new received before name route result =
+AnswersRouteIfSound old new received before name route result =
     AllStand old.kept before → new.sound → AnswersRoute received old.kept new.kept name route result
 
 -- `AnswersMessage`, if all that the server shares stood before and the keeper is sound after
-abbrev pub TellsMessage : Custody → Custody → ReceivedMessage → ResourcesModel → Result (List ℕ) HandlingError → Type 0
-TellsMessage old new received before result =
+abbrev pub AnswersMessageIfSound : Custody → Custody → ReceivedMessage → ResourcesModel → Result (List ℕ) HandlingError
+    → Type 0
+AnswersMessageIfSound old new received before result =
     AllStand old.kept before → new.sound
     → AnswersMessage received old.kept new.kept (owner received.message.now) result
 
