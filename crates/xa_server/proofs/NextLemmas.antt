@@ -10,7 +10,7 @@ use Rattle.xa_http.specs.Messages.{IsLook, IsNext}
 use Rattle.xa_http.specs.Stream.{Stream}
 use Rattle.xa_http.proofs.LawLemmas.{answers_messages}
 use Rattle.xa_records.specs.Keeper.{Custody}
-use Rattle.xa_server.specs.handling.Answering.{AnswersIn, AnswersNext, IsFaultGiven, IsHandedOn}
+use Rattle.xa_server.specs.handling.Answering.{AnswersIfOpen, AnswersNext, IsFaultGiven, IsHandedOn}
 use Rattle.xa_server.specs.Crash.{IfSent}
 use Rattle.xa_server.specs.declared.event.Answer.{Answer}
 use Rattle.xa_server.specs.declared.front_error.FrontError.{FrontError}
@@ -73,7 +73,7 @@ put_same conn old new line after at put same =
 
 -- what was answered to a line is what its connection is answered
 pub answered : (conn : Conn) (moment : ℤ) (old new : FrontState) (line after : Option Stream) (result : Result (Option Answer) FrontError)
-    → line ≡ line_at conn old.lines → new.lines ≡ with_line conn after old.lines → AnswersIn moment old.server new.server line after result
+    → line ≡ line_at conn old.lines → new.lines ≡ with_line conn after old.lines → AnswersIfOpen moment old.server new.server line after result
     → AnswersLine conn moment old new result
 answered conn moment old new line after (Ok answer) at put (stream, rest, there, (given, is, gives), left) =
     (Some given, (stream, rest, sym at ∙ there, is, gives, put ∙ ap (λ l. with_line conn l old.lines) left))

@@ -5,7 +5,7 @@
 //! 2. `Front::outcome`: which call is it? It opens a connection, takes a piece, answers or closes
 //!    (`DoesEvent`).
 //! 3. `Front::answer`: is that connection one of the 64? No other changes (`AnswersLine`).
-//! 4. `answer_line`: is the connection open? (`AnswersIn`)
+//! 4. `answer_line`: is the connection open? (`AnswersIfOpen`)
 //! 5. `answer_next`: what stands at the front of its stream? By a look, which keeps the head that it has
 //!    read (`AnswersNext`).
 //! 6. `answer_message` and `answer_fault`: the message is cut off and served, or the session ends by the
@@ -13,7 +13,8 @@
 ghost use Rattle.std.specs.Prelude.{◌≡◌, IfOk, OnErr, MatchResult, Some};
 ghost use Rattle.xa_http.specs.declared.session.Look.TheVariants as look;
 ghost use Rattle.xa_http.specs.Messages.{IsLook};
-ghost use Rattle.xa_server.specs.handling.Answering.{AnswersIn, AnswersNext, HandsOn, IsFaultGiven, TakesIn};
+ghost use Rattle.xa_server.specs.handling.Answering.{AnswersIfOpen, AnswersNext, HandsOn, IsFaultGiven};
+ghost use Rattle.xa_server.specs.handling.Answering.{TakesIn};
 ghost use Rattle.xa_server.specs.Front.{IsPlayed, front_state, server_state};
 ghost use Rattle.xa_server.specs.FrontLaws.{LinesAreStreams};
 ghost use Rattle.xa_server.specs.Fronting.{AnswersLine, CountsAnswer, CountsOutcome, CountsOutcomes};
@@ -285,7 +286,7 @@ fn answer_line<R: Records>(
     moment: Moment,
 ) -> Result<Option<Answer>, FrontError>
     ensures answered { (R.custody server.new.records).sound
-        → AnswersIn moment
+        → AnswersIfOpen moment
         (server_state R.custody server.old) (server_state R.custody server.new) line.old line.new result }
     ensures line { TakesIn line.old line.new result }
     ensures err { OnErr result ((server.new ≡ server.old) × (line.new ≡ line.old)) }

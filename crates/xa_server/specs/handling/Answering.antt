@@ -28,15 +28,15 @@ AnswersNext moment old new stream after (Err error) =
     (error ≡ Memory) × (stream.ended ≡ false) × (after ≡ stream) × (new ≡ old)
 
 -- the next of a stream that may not be there was answered, or nothing was done
-abbrev pub AnswersIn : ℤ → ServerState → ServerState → Option Stream → Option Stream → Result (Option Answer) FrontError
-    → Type 0
-AnswersIn moment old new line after (Ok answer) =
+abbrev pub AnswersIfOpen : ℤ → ServerState → ServerState → Option Stream → Option Stream
+    → Result (Option Answer) FrontError → Type 0
+AnswersIfOpen moment old new line after (Ok answer) =
     (stream rest : Stream) × (line ≡ Some stream) × AnswersNext moment old new stream rest (Ok answer)
     × (after ≡ Some rest)
-AnswersIn moment old new line after (Err NoSuchConnection) = (line ≡ None) × (after ≡ line) × (new ≡ old)
-AnswersIn moment old new line after (Err Memory) =
+AnswersIfOpen moment old new line after (Err NoSuchConnection) = (line ≡ None) × (after ≡ line) × (new ≡ old)
+AnswersIfOpen moment old new line after (Err Memory) =
     (stream : Stream) × (line ≡ Some stream) × (stream.ended ≡ false) × (after ≡ line) × (new ≡ old)
-AnswersIn moment old new line after (Err _) = ⊥
+AnswersIfOpen moment old new line after (Err _) = ⊥
 
 -- what becomes of a stream that may not be there by an answer, whatever the server does
 abbrev pub TakesIn : Option Stream → Option Stream → Result (Option Answer) FrontError → Type 0
