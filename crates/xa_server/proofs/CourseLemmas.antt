@@ -18,7 +18,7 @@ use Rattle.xa_server.specs.declared.drive_end.DriveEnd.TheVariants.{Ended, ReadF
 use Rattle.xa_server.specs.declared.front_error.FrontError.{FrontError}
 use Rattle.xa_server.specs.declared.lines.Conn.{Conn}
 use Rattle.xa_server.specs.Driven.{AreMade, AreSent, AreWritten, HadMemory, HasTold, HaveMemory, HaveRead, HaveSaid, IsConnection, IsDriven, IsDrivenWithin, Known, StopsAfter}
-use Rattle.xa_server.specs.handling.Driving.{FeedsOne, HasRead, IsHeldAnswered, IsRead, IsTurn, IsWaiting, StaysOpenAfter}
+use Rattle.xa_server.specs.handling.Driving.{HasRead, IsHeldAnswered, IsRead, IsTurn, IsWaiting, PlaysPiece, StaysOpenAfter}
 use Rattle.xa_server.specs.Front.{FrontState, ServerState}
 use Rattle.xa_server.specs.Replies.{bytes_of}
 use Rattle.xa_server.specs.Lines.{IsOpen, held_at, line_at, with_line}
@@ -192,7 +192,7 @@ ended_read result count conn a s room f l m r q c w k o opens waits is none spac
 -- a piece came to the connection
 pub fed_read : (conn : Conn) (a b : FrontState) (s : Stream) (room : ℕ) (piece : List ℕ) (f g : Option (List Bool)) (l m : Option (List ℕ)) (r q : Option (List ReadEnd))
     (c : Option (List ℕ)) (w : Option (List WriteEnd)) (k : Option (List (Option ℤ))) (o p : Option (List Bool)) → IsOpen conn a.lines s → room ≡ 65_536 → 0 < length piece → length piece ≤ room
-    → Consumes l m piece → Grows r q (gave room piece ∷ []) → p ≡ o → FeedsOne conn piece a b f g (Ok tt) → StaysOpenAfter 1 conn a b s (fed s piece) (known f l r c w k o) (known g m q c w k p)
+    → Consumes l m piece → Grows r q (gave room piece ∷ []) → p ≡ o → PlaysPiece conn piece a b f g (Ok tt) → StaysOpenAfter 1 conn a b s (fed s piece) (known f l r c w k o) (known g m q c w k p)
 fed_read conn a b s room piece f g l m r q c w k o p opens full some few consumes grows saying fed' =
     subst (λ (z : Option (List Bool)). StaysOpenAfter 1 conn a b s (fed s piece) (known f l r c w k o) (known g m q c w k z)) (sym saying) (goes_read conn a b s (fed s piece) (true ∷ []) (gave room piece) (known f l r c w k o) (known g m q c w k o)
     (made_read (true ∷ []) (gave room piece) f g l m r q c w k o fed'.4 (subst (λ (bs : List ℕ). Consumes l m bs) (sym (append-nil piece)) consumes) grows)
@@ -213,7 +213,7 @@ piece_answered (Some end) conn a b c s t x y z first is =
 -- there was no memory for it
 pub not_fed : (error : FrontError) (conn : Conn) (a b : FrontState) (s : Stream) (room : ℕ) (piece : List ℕ) (f g : Option (List Bool)) (l m : Option (List ℕ)) (r q : Option (List ReadEnd))
     (c : Option (List ℕ)) (w : Option (List WriteEnd)) (k : Option (List (Option ℤ))) (o p : Option (List Bool)) → IsOpen conn a.lines s → IsWaiting s → room ≡ 65_536 → 0 < length piece → length piece ≤ room
-    → Consumes l m piece → Grows r q (gave room piece ∷ []) → p ≡ o → FeedsOne conn piece a b f g (Err error) → IsRead (Some Memory) conn a b s (known f l r c w k o) (known g m q c w k p)
+    → Consumes l m piece → Grows r q (gave room piece ∷ []) → p ≡ o → PlaysPiece conn piece a b f g (Err error) → IsRead (Some Memory) conn a b s (known f l r c w k o) (known g m q c w k p)
 not_fed error conn a b s room piece f g l m r q c w k o p opens waits full some few consumes grows saying (inl is) =
     subst (λ (z : Option (List Bool)). IsRead (Some Memory) conn a b s (known f l r c w k o) (known g m q c w k z)) (sym saying) (ends_read Memory conn a b s (fed s piece) (false ∷ []) (gave room piece) (known f l r c w k o) (known g m q c w k o)
     (made_read (false ∷ []) (gave room piece) f g l m r q c w k o is.1 (subst (λ (bs : List ℕ). Consumes l m bs) (sym (append-nil piece)) consumes) grows)

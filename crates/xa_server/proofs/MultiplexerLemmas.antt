@@ -15,7 +15,7 @@ use Rattle.xa_server.specs.declared.event.Outcome.TheVariants.{Begun, Held, Answ
 use Rattle.xa_server.specs.declared.front_error.FrontError.{FrontError}
 use Rattle.xa_server.specs.declared.front_error.FrontError.TheVariants.{Memory, NoSuchConnection, TooManyConnections, Full}
 use Rattle.xa_server.specs.declared.lines.Conn.{Conn}
-use Rattle.xa_server.specs.handling.Driving.{AnswersOne, FeedsOne, PlaysOne}
+use Rattle.xa_server.specs.handling.Driving.{PlaysAnswer, PlaysOne, PlaysPiece}
 use Rattle.xa_server.specs.Front.{Does, FrontState, IsPlayed, Plays}
 use Rattle.xa_server.specs.Fronting.{DoesEvent}
 use Rattle.xa_server.specs.Lines.{IsHeld, IsLooked, IsOpen, Lines, line_at, with_line}
@@ -86,7 +86,7 @@ played_one event old new memory_old memory_new outcomes rest outcome same played
 
 -- what an answer that was played alone came to
 answered_as : (conn : Conn) (moment : ℤ) (old new : FrontState) (memory_old memory_new : Option (List Bool)) (given : Option Next) (result : Result (Option Answer) FrontError)
-    → Does (event.Answer conn moment) old given (Answered result) new → Grows memory_old memory_new (outcome_found_memory (Answered result) ∷ []) → AnswersOne conn moment old new memory_old memory_new result
+    → Does (event.Answer conn moment) old given (Answered result) new → Grows memory_old memory_new (outcome_found_memory (Answered result) ∷ []) → PlaysAnswer conn moment old new memory_old memory_new result
 answered_as conn moment old new memory_old memory_new (Some given) (Ok answer) is grows = (given, is, grows)
 answered_as conn moment old new memory_old memory_new None (Err Memory) is grows = inl (is.3, grows)
 answered_as conn moment old new memory_old memory_new None (Err NoSuchConnection) is grows = inr is.0
@@ -99,7 +99,7 @@ answered_as conn moment old new memory_old memory_new (Some given) (Err TooManyC
 answered_as conn moment old new memory_old memory_new (Some given) (Err Full) none grows = absurd none
 
 pub answered_one : (conn : Conn) (moment : ℤ) (old new : FrontState) (memory_old memory_new : Option (List Bool)) (outcome : Outcome) (result : Result (Option Answer) FrontError)
-    → outcome ≡ Answered result → PlaysOne {E = Unit {0}} (event.Answer conn moment) old new memory_old memory_new (Ok outcome) → AnswersOne conn moment old new memory_old memory_new result
+    → outcome ≡ Answered result → PlaysOne {E = Unit {0}} (event.Answer conn moment) old new memory_old memory_new (Ok outcome) → PlaysAnswer conn moment old new memory_old memory_new result
 answered_one conn moment old new memory_old memory_new outcome result is played =
     let one : PlaysOne {E = Unit {0}} (event.Answer conn moment) old new memory_old memory_new (Ok (Answered result)) =
     subst (λ (o : Outcome). PlaysOne {E = Unit {0}} (event.Answer conn moment) old new memory_old memory_new (Ok o)) is played in
@@ -108,7 +108,7 @@ answered_one conn moment old new memory_old memory_new outcome result is played 
 -- and what a piece did
 held_as : (conn : Conn) (piece : List ℕ) (old new : FrontState) (memory_old memory_new : Option (List Bool)) (result : Result (Unit {0}) FrontError)
     → IsHeld conn piece old.lines result new.lines → new.server ≡ old.server → Grows memory_old memory_new (outcome_found_memory (Held result) ∷ [])
-    → FeedsOne conn piece old new memory_old memory_new result
+    → PlaysPiece conn piece old new memory_old memory_new result
 held_as conn piece old new memory_old memory_new (Ok done) is server grows = (is.0, is.1, is.3, server, grows)
 held_as conn piece old new memory_old memory_new (Err Memory) is server grows =
     let same : new ≡ old = λ i. record { server = server i; lines = is.3 i } in inl (same, grows)
@@ -117,12 +117,12 @@ held_as conn piece old new memory_old memory_new (Err Full) is server grows = in
 held_as conn piece old new memory_old memory_new (Err TooManyConnections) none server grows = absurd none
 
 held_by : (conn : Conn) (piece : Bor (List ℕ)) (old new : FrontState) (memory_old memory_new : Option (List Bool)) (given : Option Next) (result : Result (Unit {0}) FrontError)
-    → Does (event.Piece conn piece) old given (Held result) new → Grows memory_old memory_new (outcome_found_memory (Held result) ∷ []) → FeedsOne conn piece.now old new memory_old memory_new result
+    → Does (event.Piece conn piece) old given (Held result) new → Grows memory_old memory_new (outcome_found_memory (Held result) ∷ []) → PlaysPiece conn piece.now old new memory_old memory_new result
 held_by conn piece old new memory_old memory_new None result does grows = held_as conn piece.now old new memory_old memory_new result does.0 does.1 grows
 held_by conn piece old new memory_old memory_new (Some given) result none grows = absurd none
 
 pub held_one : (conn : Conn) (piece : Bor (List ℕ)) (old new : FrontState) (memory_old memory_new : Option (List Bool)) (outcome : Outcome) (result : Result (Unit {0}) FrontError)
-    → outcome ≡ Held result → PlaysOne {E = Unit {0}} (event.Piece conn piece) old new memory_old memory_new (Ok outcome) → FeedsOne conn piece.now old new memory_old memory_new result
+    → outcome ≡ Held result → PlaysOne {E = Unit {0}} (event.Piece conn piece) old new memory_old memory_new (Ok outcome) → PlaysPiece conn piece.now old new memory_old memory_new result
 held_one conn piece old new memory_old memory_new outcome result is played =
     let one : PlaysOne {E = Unit {0}} (event.Piece conn piece) old new memory_old memory_new (Ok (Held result)) =
     subst (λ (o : Outcome). PlaysOne {E = Unit {0}} (event.Piece conn piece) old new memory_old memory_new (Ok o)) is played in

@@ -15,7 +15,7 @@ use Rattle.xa_server.specs.declared.lines.Conn.{Conn}
 use Rattle.xa_server.specs.declared.replies.Reply.{Reply}
 use Rattle.xa_server.specs.declared.replies.Reply.TheVariants.{Refused, Sent}
 use Rattle.xa_server.specs.Driven.{HaveSaid, said_open_after}
-use Rattle.xa_server.specs.handling.Driving.{AnswersOne, IsAnsweredAt, IsAskedAfter, IsSentAs}
+use Rattle.xa_server.specs.handling.Driving.{IsAskedAfter, IsSentAs, IsTurnAt, PlaysAnswer}
 use Rattle.xa_server.specs.Front.{FrontState, IsAnswered}
 use Rattle.xa_server.specs.Transfers.{Grows, WriteEnd}
 use Rattle.xa_server.proofs.TransferLemmas.{grows_none, known}
@@ -89,8 +89,8 @@ said_after drive_end.Memory fault rs qs bs cs first said = said_on rs qs bs cs f
 
 -- it was given, and then sent
 pub answered_with : (turn : Turn) (answer : Option Answer) (conn : Conn) (moment : ℤ) (old mid new : FrontState) (f g h : Option (List Bool)) (c d : Option (List ℕ))
-    (w v : Option (List WriteEnd)) (o n p : Option (List Bool)) → AnswersOne conn moment old mid f g (Ok answer) → n ≡ o → new ≡ mid → h ≡ g
-    → IsSentAs turn answer c d w v n p → IsAnsweredAt turn conn moment old new (known f None None c w None o) (known h None None d v None p)
+    (w v : Option (List WriteEnd)) (o n p : Option (List Bool)) → PlaysAnswer conn moment old mid f g (Ok answer) → n ≡ o → new ≡ mid → h ≡ g
+    → IsSentAs turn answer c d w v n p → IsTurnAt turn conn moment old new (known f None None c w None o) (known h None None d v None p)
 answered_with turn answer conn moment old mid new f g h c d w v o n p (given, is, grows) saying same memory sent = inl (
   answer,
   given,
@@ -101,7 +101,7 @@ answered_with turn answer conn moment old mid new f g h c d w v o n p (given, is
 
 -- it wasn't, for want of memory
 pub answered_without : (error : FrontError) (conn : Conn) (moment : ℤ) (old new : FrontState) (f g : Option (List Bool)) (c : Option (List ℕ)) (w : Option (List WriteEnd))
-    (o p : Option (List Bool)) → AnswersOne conn moment old new f g (Err error) → p ≡ o
-    → IsAnsweredAt (Ends drive_end.Memory) conn moment old new (known f None None c w None o) (known g None None c w None p)
+    (o p : Option (List Bool)) → PlaysAnswer conn moment old new f g (Err error) → p ≡ o
+    → IsTurnAt (Ends drive_end.Memory) conn moment old new (known f None None c w None o) (known g None None c w None p)
 answered_without error conn moment old new f g c w o p (inl is) saying = inr (inl (refl, is.0, is.1, refl, refl, saying))
 answered_without error conn moment old new f g c w o p (inr closed) saying = inr (inr closed)

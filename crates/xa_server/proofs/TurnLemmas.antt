@@ -24,7 +24,7 @@ use Rattle.xa_server.specs.declared.front_error.FrontError.TheVariants as error
 use Rattle.xa_server.specs.declared.lines.Conn.{Conn}
 use Rattle.xa_server.specs.declared.replies.Reply.{Reply}
 use Rattle.xa_server.specs.Driven.{AreWritten, HadMemory, HasTold, said_open_after}
-use Rattle.xa_server.specs.handling.Driving.{IsAnsweredAt, IsAnsweredNow, IsAskedAfter, IsSentAs, IsTurn, turn_after}
+use Rattle.xa_server.specs.handling.Driving.{IsAskedAfter, IsMessageTurn, IsSentAs, IsTurn, IsTurnAt, turn_after}
 use Rattle.xa_server.specs.ErrorCode.{code_of_session_fault, error_reply}
 use Rattle.xa_server.specs.Front.{FrontState, IsGiven}
 use Rattle.xa_server.specs.Lines.{IsLooked, IsOpen, with_line}
@@ -172,7 +172,7 @@ message_given turn (Some answer) conn old new s rest after moment message given 
 
 message_at : (turn : Turn) (conn : Conn) (old new : FrontState) (s rest : Stream) (moment : ℤ) (message : Message)
     (f g h : Option (List Bool)) (l : Option (List ℕ)) (r : Option (List ReadEnd)) (c d : Option (List ℕ)) (w v : Option (List WriteEnd)) (k j : Option (List (Option ℤ))) (o p : Option (List Bool))
-    → IsOpen conn old.lines s → IsFirst s message rest → Grows f g (true ∷ []) → Grows k j (Some moment ∷ []) → IsAnsweredAt turn conn moment old new (known g None None c w k o) (known h None None d v j p)
+    → IsOpen conn old.lines s → IsFirst s message rest → Grows f g (true ∷ []) → Grows k j (Some moment ∷ []) → IsTurnAt turn conn moment old new (known g None None c w k o) (known h None None d v j p)
     → IsTurn turn conn old new s (known f l r c w k o) (known h l r d v j p)
 message_at turn conn old new s rest moment message f g h l r c d w v k j o p opens first looks tells (inl (answer, given, is, finds, sent)) =
     message_given turn answer conn old new s rest is.1 moment message given f g h l r c d w v k j o p opens first
@@ -184,7 +184,7 @@ message_at turn conn old new s rest moment message f g h l r c d w v k j o p ope
 
 message_now : (turn : Turn) (conn : Conn) (old new : FrontState) (s rest : Stream) (message : Message)
     (f g h : Option (List Bool)) (l : Option (List ℕ)) (r : Option (List ReadEnd)) (c d : Option (List ℕ)) (w v : Option (List WriteEnd)) (k j : Option (List (Option ℤ))) (o p : Option (List Bool))
-    → IsOpen conn old.lines s → IsFirst s message rest → Grows f g (true ∷ []) → IsAnsweredNow turn conn old new (known g None None c w k o) (known h None None d v j p)
+    → IsOpen conn old.lines s → IsFirst s message rest → Grows f g (true ∷ []) → IsMessageTurn turn conn old new (known g None None c w k o) (known h None None d v j p)
     → IsTurn turn conn old new s (known f l r c w k o) (known h l r d v j p)
 message_now turn conn old new s rest message f g h l r c d w v k j o p opens first looks (inl (moment, tells, is)) =
     message_at turn conn old new s rest moment message f g h l r c d w v k j o p opens first looks tells is
@@ -222,7 +222,7 @@ fault_given turn answer conn old new s after moment fault next.Ended f g h l r c
 
 fault_at : (turn : Turn) (conn : Conn) (old new : FrontState) (s : Stream) (moment : ℤ) (fault : SessionFault)
     (f g h : Option (List Bool)) (l : Option (List ℕ)) (r : Option (List ReadEnd)) (c d : Option (List ℕ)) (w v : Option (List WriteEnd)) (k : Option (List (Option ℤ))) (o p : Option (List Bool))
-    → IsOpen conn old.lines s → s.ended ≡ false → IsFaulty s.held fault → Grows f g (true ∷ []) → IsAnsweredAt turn conn moment old new (known g None None c w None o) (known h None None d v None p)
+    → IsOpen conn old.lines s → s.ended ≡ false → IsFaulty s.held fault → Grows f g (true ∷ []) → IsTurnAt turn conn moment old new (known g None None c w None o) (known h None None d v None p)
     → IsTurn turn conn old new s (known f l r c w k o) (known h l r d v k p)
 fault_at turn conn old new s moment fault f g h l r c d w v k o p opens on faulty looks (inl (answer, given, is, finds, sent)) =
     fault_given turn answer conn old new s is.1 moment fault given f g h l r c d w v k o p opens on faulty
@@ -237,23 +237,23 @@ fault_at turn conn old new s moment fault f g h l r c d w v k o p opens on fault
 pub message_turn : (turn : Turn) (conn : Conn) (old mid new : FrontState) (s : Stream)
     (f g h : Option (List Bool)) (l : Option (List ℕ)) (r : Option (List ReadEnd)) (c d : Option (List ℕ)) (w v : Option (List WriteEnd)) (k j : Option (List (Option ℤ))) (n o p : Option (List Bool))
     → IsOpen conn old.lines s → IsLooked conn old.lines (Ok look.Message) → mid ≡ old → o ≡ n → Grows f g (true ∷ [])
-    → IsAnsweredNow turn conn mid new (known g None None c w k o) (known h None None d v j p) → IsTurn turn conn old new s (known f l r c w k n) (known h l r d v j p)
+    → IsMessageTurn turn conn mid new (known g None None c w k o) (known h None None d v j p) → IsTurn turn conn old new s (known f l r c w k n) (known h l r d v j p)
 message_turn turn conn old mid new s f g h l r c d w v k j n o p opens looks same saying finds is =
     let seen = looked conn old.lines s look.Message opens looks in
     let message : Message = seen.1.0 in
     subst (λ (z : Option (List Bool)). IsTurn turn conn old new s (known f l r c w k z) (known h l r d v j p)) saying
     (message_now turn conn old new s (record { held = seen.1.1; ended = message.close }) message f g h l r c d w v k j o p opens (seen.0, seen.1.2, refl) finds
-    (subst (λ (m : FrontState). IsAnsweredNow turn conn m new (known g None None c w k o) (known h None None d v j p)) same is))
+    (subst (λ (m : FrontState). IsMessageTurn turn conn m new (known g None None c w k o) (known h None None d v j p)) same is))
 
 pub fault_turn : (turn : Turn) (conn : Conn) (moment : ℤ) (old mid new : FrontState) (s : Stream) (fault : SessionFault)
     (f g h : Option (List Bool)) (l : Option (List ℕ)) (r : Option (List ReadEnd)) (c d : Option (List ℕ)) (w v : Option (List WriteEnd)) (k : Option (List (Option ℤ))) (n o p : Option (List Bool))
     → IsOpen conn old.lines s → IsLooked conn old.lines (Ok (look.Fault fault)) → mid ≡ old → o ≡ n → Grows f g (true ∷ [])
-    → IsAnsweredAt turn conn moment mid new (known g None None c w None o) (known h None None d v None p) → IsTurn turn conn old new s (known f l r c w k n) (known h l r d v k p)
+    → IsTurnAt turn conn moment mid new (known g None None c w None o) (known h None None d v None p) → IsTurn turn conn old new s (known f l r c w k n) (known h l r d v k p)
 fault_turn turn conn moment old mid new s fault f g h l r c d w v k n o p opens looks same saying finds is =
     let seen = looked conn old.lines s (look.Fault fault) opens looks in
     subst (λ (z : Option (List Bool)). IsTurn turn conn old new s (known f l r c w k z) (known h l r d v k p)) saying
     (fault_at turn conn old new s moment fault f g h l r c d w v k o p opens seen.0 seen.1 finds
-    (subst (λ (m : FrontState). IsAnsweredAt turn conn moment m new (known g None None c w None o) (known h None None d v None p)) same is))
+    (subst (λ (m : FrontState). IsTurnAt turn conn moment m new (known g None None c w None o) (known h None None d v None p)) same is))
 
 pub more_turn : (conn : Conn) (old new : FrontState) (s : Stream) (f g : Option (List Bool)) (l : Option (List ℕ)) (r : Option (List ReadEnd)) (c : Option (List ℕ))
     (w : Option (List WriteEnd)) (k : Option (List (Option ℤ))) (o p : Option (List Bool)) → IsOpen conn old.lines s → IsLooked conn old.lines (Ok look.More) → new ≡ old → p ≡ o → Grows f g (true ∷ [])

@@ -3,7 +3,7 @@ ghost use Rattle.std.specs.Prelude.{◌≡◌, ◌≤◌, false, List, Option, S
 ghost use Rattle.xa_http.specs.Stream.{Stream};
 ghost use Rattle.xa_server.specs.Driven.{IsConnection, KeepsOpen, seen_by};
 ghost use Rattle.xa_server.specs.declared.drive_end.DriveEnd.TheVariants as drive_end;
-ghost use Rattle.xa_server.specs.handling.Driving.{FeedsOne, IsRead, IsWaiting, KeepsFront};
+ghost use Rattle.xa_server.specs.handling.Driving.{IsRead, IsWaiting, KeepsFront, PlaysPiece};
 ghost use Rattle.xa_server.specs.Lines.{IsOpen, line_at};
 
 use crate::clock::Clock;
@@ -30,7 +30,7 @@ const MAX_READS: u32 = 1_000_000;
 #[tactic(auto, using(crate::proofs::OpenLemmas::open_kept))]
 fn play_piece<F: Multiplexer>(front: &mut F, conn: Conn, piece: &[u8]) -> Result<(), FrontError>
     ensures fed { F.is_sound front.new
-        → FeedsOne conn piece.now (F.state front.old) (F.state front.new)
+        → PlaysPiece conn piece.now (F.state front.old) (F.state front.new)
         (F.had_memory front.old) (F.had_memory front.new) result }
     ensures keeps { KeepsFront F.Multiplexer conn front.old front.new }
     ensures said_open { F.said_open front.new ≡ F.said_open front.old }

@@ -5,16 +5,16 @@
 //!    (`IsHeldAnswered`).
 //! 2. `next_turn`: what stands at the front of the stream? By a look, without a clock (`IsTurn`).
 //! 3. `message_turn` and `fault_turn`: at which moment? A message is answered at the clock's
-//!    (`IsAnsweredNow`), a fault at any.
-//! 4. `turn_at`: is there an answer? `play_answer` asks the front for one, by `play_one` (`IsAnsweredAt`).
+//!    (`IsMessageTurn`), a fault at any.
+//! 4. `turn_at`: is there an answer? `play_answer` asks the front for one, by `play_one` (`IsTurnAt`).
 //! 5. `send_answer`: is the reply sent whole, and does the connection go on? `keeper_is_shut` asks the front
 //!    after a refusal for want of storage (`IsSentAs`).
 ghost use Rattle.std.specs.Prelude.{◌≡◌, ℕ, false, true, IsTrue, List, MatchResult, Option, Some, pos};
 ghost use Rattle.xa_http.specs.Stream.{Stream};
 ghost use Rattle.xa_server.specs.declared.turns.Turn.TheVariants as turn;
 ghost use Rattle.xa_server.specs.declared.drive_end.DriveEnd.TheVariants as drive_end;
-ghost use Rattle.xa_server.specs.handling.Driving.{AnswersOne, IsAnsweredAt, IsAnsweredNow, IsAskedAfter};
-ghost use Rattle.xa_server.specs.handling.Driving.{IsHeldAnswered, IsSentAs, IsTurn, KeepsFront, PlaysOne};
+ghost use Rattle.xa_server.specs.handling.Driving.{IsAskedAfter, IsHeldAnswered, IsMessageTurn, IsSentAs};
+ghost use Rattle.xa_server.specs.handling.Driving.{IsTurn, IsTurnAt, KeepsFront, PlaysAnswer, PlaysOne};
 ghost use Rattle.xa_server.specs.handling.Driving.{seen_by_front_and_writer, seen_without_reader};
 ghost use Rattle.xa_server.specs.Fronting.{DoesLines};
 ghost use Rattle.xa_server.specs.Lines.{IsOpen, line_at};
@@ -74,7 +74,7 @@ fn play_answer<F: Multiplexer>(
     moment: Moment,
 ) -> Result<Option<Answer>, FrontError>
     ensures answered { F.is_sound front.new
-        → AnswersOne conn moment (F.state front.old) (F.state front.new)
+        → PlaysAnswer conn moment (F.state front.old) (F.state front.new)
         (F.had_memory front.old) (F.had_memory front.new) result }
     ensures keeps { KeepsFront F.Multiplexer conn front.old front.new }
     ensures said_open { F.said_open front.new ≡ F.said_open front.old }
@@ -133,7 +133,7 @@ fn turn_at<F: Multiplexer, W: Writer>(
 ) -> Turn
     ensures answered { let seen = seen_by_front_and_writer F.Multiplexer W.Writer in
         F.is_sound front.new
-        → IsAnsweredAt result conn moment (F.state front.old) (F.state front.new)
+        → IsTurnAt result conn moment (F.state front.old) (F.state front.new)
         (seen front.old writer.old) (seen front.new writer.new) }
     ensures keeps { KeepsFront F.Multiplexer conn front.old front.new }
     ensures shut { result ≡ turn.Ends drive_end.Shut → F.keeper_is_open front.new ≡ false }
@@ -155,7 +155,7 @@ fn message_turn<F: Multiplexer, W: Writer, C: Clock>(
 ) -> Turn
     ensures answered { let seen = seen_without_reader F.Multiplexer W.Writer C.Clock in
         F.is_sound front.new
-        → IsAnsweredNow result conn (F.state front.old) (F.state front.new)
+        → IsMessageTurn result conn (F.state front.old) (F.state front.new)
         (seen front.old writer.old clock.old) (seen front.new writer.new clock.new) }
     ensures keeps { KeepsFront F.Multiplexer conn front.old front.new }
     ensures shut { result ≡ turn.Ends drive_end.Shut → F.keeper_is_open front.new ≡ false }
@@ -171,7 +171,7 @@ fn message_turn<F: Multiplexer, W: Writer, C: Clock>(
 fn fault_turn<F: Multiplexer, W: Writer>(front: &mut F, conn: Conn, writer: &mut W) -> Turn
     ensures answered { let seen = seen_by_front_and_writer F.Multiplexer W.Writer in
         F.is_sound front.new
-        → IsAnsweredAt result conn (pos 0) (F.state front.old) (F.state front.new)
+        → IsTurnAt result conn (pos 0) (F.state front.old) (F.state front.new)
         (seen front.old writer.old) (seen front.new writer.new) }
     ensures keeps { KeepsFront F.Multiplexer conn front.old front.new }
     ensures shut { result ≡ turn.Ends drive_end.Shut → F.keeper_is_open front.new ≡ false }

@@ -72,21 +72,21 @@ PlaysOne event old new memory_old memory_new (Ok outcome) =
 PlaysOne event old new memory_old memory_new (Err _) = (new ≡ old) × Grows memory_old memory_new (false ∷ [])
 
 -- the next of an open connection was answered, or there was no memory; of a connection that isn't open nothing is said
-abbrev pub AnswersOne : Conn → ℤ → FrontState → FrontState → Option (List Bool) → Option (List Bool)
+abbrev pub PlaysAnswer : Conn → ℤ → FrontState → FrontState → Option (List Bool) → Option (List Bool)
     → Result (Option Answer) FrontError → Type 0
-AnswersOne conn moment old new memory_old memory_new (Ok answer) =
+PlaysAnswer conn moment old new memory_old memory_new (Ok answer) =
     (given : Next) × IsAnswered conn moment old (Some given) (Ok answer) new × Grows memory_old memory_new (true ∷ [])
-AnswersOne conn moment old new memory_old memory_new (Err _) =
+PlaysAnswer conn moment old new memory_old memory_new (Err _) =
     ((new ≡ old) × Grows memory_old memory_new (false ∷ [])) ⊎ (line_at conn old.lines ≡ None)
 
 -- a piece came to an open connection, or there was no memory; of a connection that isn't open, or would hold too many
 -- bytes, nothing is said
-abbrev pub FeedsOne : Conn → List ℕ → FrontState → FrontState → Option (List Bool) → Option (List Bool)
+abbrev pub PlaysPiece : Conn → List ℕ → FrontState → FrontState → Option (List Bool) → Option (List Bool)
     → Result (Unit {0}) FrontError → Type 0
-FeedsOne conn piece old new memory_old memory_new (Ok _) =
+PlaysPiece conn piece old new memory_old memory_new (Ok _) =
     (stream : Stream) × IsOpen conn old.lines stream × (new.lines ≡ with_line conn (Some (fed stream piece)) old.lines)
     × (new.server ≡ old.server) × Grows memory_old memory_new (true ∷ [])
-FeedsOne conn piece old new memory_old memory_new (Err _) =
+PlaysPiece conn piece old new memory_old memory_new (Err _) =
     ((new ≡ old) × Grows memory_old memory_new (false ∷ []))
     ⊎ ((line_at conn old.lines ≡ None)
     ⊎ ((stream : Stream) × IsOpen conn old.lines stream × (1_048_576 < length stream.held + length piece)))
@@ -121,8 +121,8 @@ IsSentAs turn None contents_old contents_new writes_old writes_new said_old said
 
 -- the next of a connection was answered at that moment, and the reply was written; or there was no memory. Nothing is
 -- said of the reads and the clock, nor of a connection that isn't open
-abbrev pub IsAnsweredAt : Turn → Conn → ℤ → FrontState → FrontState → Known → Known → Type 0
-IsAnsweredAt turn conn moment old new known_old known_new =
+abbrev pub IsTurnAt : Turn → Conn → ℤ → FrontState → FrontState → Known → Known → Type 0
+IsTurnAt turn conn moment old new known_old known_new =
     ((answer : Option Answer) × (given : Next) × IsAnswered conn moment old (Some given) (Ok answer) new
     × Grows known_old.memory known_new.memory (true ∷ [])
     × IsSentAs turn answer known_old.contents known_new.contents known_old.writes known_new.writes known_old.said_open
@@ -132,11 +132,11 @@ IsAnsweredAt turn conn moment old new known_old known_new =
     × (known_new.said_open ≡ known_old.said_open))
     ⊎ (line_at conn old.lines ≡ None))
 
--- `IsAnsweredAt` the clock's moment, if there was one
-abbrev pub IsAnsweredNow : Turn → Conn → FrontState → FrontState → Known → Known → Type 0
-IsAnsweredNow turn conn old new known_old known_new =
+-- `IsTurnAt` the clock's moment, if there was one
+abbrev pub IsMessageTurn : Turn → Conn → FrontState → FrontState → Known → Known → Type 0
+IsMessageTurn turn conn old new known_old known_new =
     ((moment : ℤ) × Grows known_old.told known_new.told (Some moment ∷ [])
-    × IsAnsweredAt turn conn moment old new known_old known_new)
+    × IsTurnAt turn conn moment old new known_old known_new)
     ⊎ ((turn ≡ Ends drive_end.NoClock) × Grows known_old.told known_new.told (None ∷ []) × (new ≡ old)
     × (known_new.memory ≡ known_old.memory) × (known_new.contents ≡ known_old.contents)
     × (known_new.writes ≡ known_old.writes) × (known_new.said_open ≡ known_old.said_open))
