@@ -14,7 +14,7 @@ use Rattle.xa_server.specs.declared.replies.Reply.{Reply}
 use Rattle.xa_server.specs.declared.handling_error.HandlingError.{HandlingError}
 use Rattle.xa_server.specs.declared.handling_error.HandlingError.TheVariants.{Error, Failed}
 use Rattle.xa_server.specs.handling.Replying.{Counts, IfTold, IsAnswerMade, IsReplyOf, LeavesMessage, LeavesNoMore, LeavesRoute}
-use Rattle.xa_server.specs.Machine.{Answer, answer, reply_and_state, step}
+use Rattle.xa_server.specs.Machine.{MachineAnswer, answer, reply_and_state, step}
 use Rattle.xa_server.specs.Served.{state}
 use Rattle.xa_server.specs.handling.HandlingError.{error_of_route}
 use Rattle.xa_server.specs.World.{World}
@@ -38,7 +38,7 @@ module _ (before after : Kept → Type 0) where
   asked_left received old (Some name) route asks leaves = rw asks leaves
 
 -- what the answer changes is the machine's step
-step_made : (old : World) (left : Kept) (name : List ℕ) (message : Message) (moment : ℤ) (meant : Answer) → answer old.operator (state name old) message moment ≡ meant
+step_made : (old : World) (left : Kept) (name : List ℕ) (message : Message) (moment : ℤ) (meant : MachineAnswer) → answer old.operator (state name old) message moment ≡ meant
     → IsAnswerMade old.kept left name meant → IsStepMade old left moment message (Some name)
 unfolding step
 step_made old left name message moment (Ok (bytes, after)) is made = subst (IsChanged old.kept left name) (sym (ap (λ a. (reply_and_state (state name old) a).1) is)) made

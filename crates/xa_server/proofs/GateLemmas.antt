@@ -21,7 +21,7 @@ use Rattle.xa_server.specs.declared.handling_error.HandlingError.{HandlingError}
 use Rattle.xa_server.specs.declared.handling_error.HandlingError.TheVariants.{Error, Failed}
 use Rattle.xa_server.specs.handling.Gates.{forgetting, remembering, revision_by, revision_in, revision_of, revision_with, role_in, using_gate, without_gate}
 use Rattle.xa_server.specs.handling.Replying.{Answers}
-use Rattle.xa_server.specs.Machine.{Answer, admitted, admitted_by, digest_shown, permitted}
+use Rattle.xa_server.specs.Machine.{MachineAnswer, admitted, admitted_by, digest_shown, permitted}
 use Rattle.xa_server.specs.Resources.{AllStand, AreGates, IsGate, ResourcesModel}
 use Rattle.xa_server.proofs.AdmissionLemmas.{role_is}
 use Rattle.xa_server.proofs.GrowthLemmas.{grows}
@@ -110,7 +110,7 @@ gates_left old new name others (entry ∷ gates) none are = (elim (bytes_eq name
 ]) refl
 
 -- after a message of that domain, whose gate was forgotten first
-pub changed_stands : (old new : Kept) (name : List ℕ) (result : Result (List ℕ) HandlingError) (meant : Answer) (resources : ResourcesModel) → Answers old new name result meant → AllStand old resources
+pub changed_stands : (old new : Kept) (name : List ℕ) (result : Result (List ℕ) HandlingError) (meant : MachineAnswer) (resources : ResourcesModel) → Answers old new name result meant → AllStand old resources
     → lookup (bytes_eq name) (without_gate name resources.gates) ≡ None → AllStand new (forgetting name resources)
 changed_stands old new name (Ok bytes) meant resources (after, is, changed) stand none = record {
   decisions = valid_grown old new (grows old new name after changed) resources.decisions.cached stand.decisions;

@@ -7,7 +7,7 @@ use Rattle.xa_records.specs.Kept.{Becomes, DecidesAlike, Domain, IsChanged, IsNe
 use Rattle.xa_records.proofs.FinMapLemmas.{different, here_or_elsewhere}
 use Rattle.xa_records.proofs.OrderLemmas.{bytes_exact, bytes_total}
 use Rattle.xa_server.specs.handling.Replying.{Answers}
-use Rattle.xa_server.specs.Machine.{Answer}
+use Rattle.xa_server.specs.Machine.{MachineAnswer}
 
 -- a domain has gone on: its number stays, its epoch doesn't fall, and while it stays nothing that decides changes
 pub record HasGoneOn (before after : Domain) : Type 0 where
@@ -90,5 +90,5 @@ pub stays : (old new : Kept) (name : List ℕ) → new ≡ old → IsChanged old
 stays old new name same = subst (λ k. IsChanged old k name (state_of name old)) (sym same) (unchanged old name)
 
 -- what is read is answered so, and nothing has changed
-pub reads : (old new : Kept) (name bytes : List ℕ) (meant : Answer) → meant ≡ Ok (bytes, state_of name old) → new ≡ old → Answers old new name (Ok bytes) meant
+pub reads : (old new : Kept) (name bytes : List ℕ) (meant : MachineAnswer) → meant ≡ Ok (bytes, state_of name old) → new ≡ old → Answers old new name (Ok bytes) meant
 reads old new name bytes meant is same = (state_of name old, is, stays old new name same)

@@ -11,7 +11,7 @@ use Rattle.xa_server.specs.declared.handling_error.HandlingError.{HandlingError}
 use Rattle.xa_server.specs.declared.handling_error.HandlingError.TheVariants.{Error, Failed}
 use Rattle.xa_server.specs.ErrorCode.{error_reply}
 use Rattle.xa_server.specs.handling.Replying.{AnswersMessage, Counts, IsReplyOf}
-use Rattle.xa_server.specs.Machine.{Answer, general_reply, reply_and_state, reply_or_error, step}
+use Rattle.xa_server.specs.Machine.{MachineAnswer, general_reply, reply_and_state, reply_or_error, step}
 use Rattle.xa_server.specs.Owner.{owner}
 use Rattle.xa_server.specs.Served.{CountsReply, IsRun, IsSent, IsServed}
 use Rattle.xa_server.specs.World.{World}
@@ -37,7 +37,7 @@ sent received old new None bytes answered operator =
 sent received old new (Some name) bytes (after, meant, changed) operator = record {
   reply = sym (ap (λ a. (reply_and_state (state_of name old) a).0) meant);
   next = subst (IsChanged old new.kept name) (sym (ap (λ a. (reply_and_state (state_of name old) a).1) meant)) changed;
-  error_answer = subst (λ (a : Answer). OnErr a (new ≡ world_of received old)) (sym meant) tt;
+  error_answer = subst (λ (a : MachineAnswer). OnErr a (new ≡ world_of received old)) (sym meant) tt;
   operator = operator;
 }
 
@@ -51,7 +51,7 @@ turned_away received old new None code answered operator =
 turned_away received old new (Some name) code answered operator = record {
   reply = sym (ap (λ a. (reply_and_state (state_of name old) a).0) answered.0);
   next = subst (IsChanged old new.kept name) (sym (ap (λ a. (reply_and_state (state_of name old) a).1) answered.0)) (stays old new.kept name answered.1);
-  error_answer = subst (λ (a : Answer). OnErr a (new ≡ world_of received old)) (sym answered.0) (unmoved (world_of received old) new answered.1 operator);
+  error_answer = subst (λ (a : MachineAnswer). OnErr a (new ≡ world_of received old)) (sym answered.0) (unmoved (world_of received old) new answered.1 operator);
   operator = operator;
 }
 

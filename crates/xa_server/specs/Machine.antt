@@ -45,8 +45,8 @@ use Rattle.xa_server.specs.Replies.{created_reply, decision_reply, done_reply, j
 use Rattle.xa_server.specs.View.{view_of}
 
 -- an answer: the reply and the domain's state after it, or an error answer, which leaves the state
-abbrev pub Answer : Type 0
-Answer = Result (List ℕ × Option DomainState) ErrorCode
+abbrev pub MachineAnswer : Type 0
+MachineAnswer = Result (List ℕ × Option DomainState) ErrorCode
 
 -- ---- 404, 405 and 415
 
@@ -99,11 +99,11 @@ or_refusal (Ok x) = Ok x
 or_refusal (Err refusal) = Err (Keeper refusal)
 
 -- a change is made, and that is the reply
-abbrev pub changed : List ℕ → Change → Option DomainState → Answer
+abbrev pub changed : List ℕ → Change → Option DomainState → MachineAnswer
 changed reply change state = or_refusal (change state) >>= (λ after. Ok (reply, after))
 
 -- the reply is read off the domain, which stays as it is
-abbrev pub told : (DomainState → Result (List ℕ) ErrorCode) → Option DomainState → Answer
+abbrev pub told : (DomainState → Result (List ℕ) ErrorCode) → Option DomainState → MachineAnswer
 told reply state = do
   domain ← ok_or state (Keeper Absent)
   bytes ← reply domain
@@ -111,7 +111,7 @@ told reply state = do
 
 -- ---- what the operator asks for of one domain
 
-abbrev pub by_operator_command : OperatorCommand → List ℕ → Option DomainState → Answer
+abbrev pub by_operator_command : OperatorCommand → List ℕ → Option DomainState → MachineAnswer
 by_operator_command operator.Create body state = changed created_reply created state
 by_operator_command operator.Remove body state = changed done_reply removed state
 by_operator_command operator.PutToken body state =
@@ -136,7 +136,7 @@ abbrev pub upload_reply : Upload → List ℕ
 upload_reply New = created_reply
 upload_reply Same = done_reply
 
-abbrev pub by_domain_command : DomainCommand → List ℕ → Option DomainState → Answer
+abbrev pub by_domain_command : DomainCommand → List ℕ → Option DomainState → MachineAnswer
 by_domain_command domain.Upload body state =
     or_body_fault (document_of body)
     >>= (λ parsed.
@@ -155,7 +155,7 @@ by_domain_command domain.ShowSource body state = told (λ kept. Ok (json_reply (
 abbrev pub text_reply : DocumentKey → DomainState → Result (List ℕ) ErrorCode
 text_reply key kept = ok_or (text_in key kept) (Keeper Absent) >>= (λ text. Ok (json_reply text))
 
-abbrev pub by_document_command : DocumentCommand → DocumentKey → Option DomainState → Answer
+abbrev pub by_document_command : DocumentCommand → DocumentKey → Option DomainState → MachineAnswer
 by_document_command document.Show key state = told (text_reply key) state
 by_document_command document.Delete key state = changed done_reply (within (deleted key)) state
 by_document_command document.Activate key state = changed done_reply (within (activity_set key true)) state
@@ -164,7 +164,7 @@ by_document_command document.Deactivate key state = changed done_reply (within (
 -- ---- the order of answers: the first question that is not passed decides
 
 -- the list of all domains is of no domain
-abbrev pub by_route : List ℕ → Option DomainState → Message → ℤ → Route → Answer
+abbrev pub by_route : List ℕ → Option DomainState → Message → ℤ → Route → MachineAnswer
 by_route operator state message moment to.Domains = Err NoRoute
 by_route operator state message moment (to.Operator name command) = do
   _ ← by_operator operator message
@@ -181,11 +181,11 @@ by_route operator state message moment (to.Document name parts command) = do
   by_document_command command key state
 
 -- the answer to a message whose path names the domain
-unfoldable pub answer : List ℕ → Option DomainState → Message → ℤ → Answer
+unfoldable pub answer : List ℕ → Option DomainState → Message → ℤ → MachineAnswer
 answer operator state message moment = route_or_error (route_of message) >>= by_route operator state message moment
 
 -- the reply and the state after it
-abbrev pub reply_and_state : Option DomainState → Answer → List ℕ × Option DomainState
+abbrev pub reply_and_state : Option DomainState → MachineAnswer → List ℕ × Option DomainState
 reply_and_state state (Ok (bytes, after)) = (bytes, after)
 reply_and_state state (Err code) = (error_reply code, state)
 

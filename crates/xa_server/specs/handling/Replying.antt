@@ -16,17 +16,17 @@ use Rattle.xa_server.specs.declared.replies.Reply.{Reply}
 use Rattle.xa_server.specs.declared.replies.Reply.TheVariants.{Sent, Refused}
 use Rattle.xa_server.specs.ErrorCode.{error_reply}
 use Rattle.xa_server.specs.Owner.{name_if, owner}
-use Rattle.xa_server.specs.Machine.{Answer, answer, by_route, general_answer, general_by_route, or_body_fault}
+use Rattle.xa_server.specs.Machine.{MachineAnswer, answer, by_route, general_answer, general_by_route, or_body_fault}
 use Rattle.xa_server.specs.Resources.{AllStand, ResourcesModel}
 
 -- what is made of what a body says, or its fault
-abbrev pub by_body : {X : Type 0} → (X → Option DomainState → Answer) → Result X NotationError → Option DomainState
-    → Answer
+abbrev pub by_body : {X : Type 0} → (X → Option DomainState → MachineAnswer) → Result X NotationError
+    → Option DomainState → MachineAnswer
 by_body answer given state = or_body_fault given >>= (λ x. answer x state)
 
 -- a message of the domain of that name was answered as its machine answers it, or it failed; nothing has changed but
 -- by a reply
-abbrev pub Answers : Kept → Kept → List ℕ → Result (List ℕ) HandlingError → Answer → Type 0
+abbrev pub Answers : Kept → Kept → List ℕ → Result (List ℕ) HandlingError → MachineAnswer → Type 0
 Answers old new name (Ok bytes) meant =
     (after : Option DomainState) × (meant ≡ Ok (bytes, after)) × IsChanged old new name after
 Answers old new name (Err (Error code)) meant = (meant ≡ Err code) × (new ≡ old)
@@ -109,13 +109,13 @@ LeavesNoMore before after = (left : Kept) → after left → before left
 
 -- the change of a machine's answer was made: the domain of that name has gone over into its state, and no other has
 -- changed
-abbrev pub IsAnswerMade : Kept → Kept → List ℕ → Answer → Type 0
+abbrev pub IsAnswerMade : Kept → Kept → List ℕ → MachineAnswer → Type 0
 IsAnswerMade old left name (Ok (bytes, after)) = IsChanged old left name after
 IsAnswerMade old left name (Err code) = ⊥
 
 -- what a crash may leave after a message of the domain of that name: what it might have left before, or all with the
 -- change made
-abbrev pub LeavesAnswer : (Kept → Type 0) → (Kept → Type 0) → Kept → List ℕ → Answer → Type 0
+abbrev pub LeavesAnswer : (Kept → Type 0) → (Kept → Type 0) → Kept → List ℕ → MachineAnswer → Type 0
 LeavesAnswer before after old name meant = (left : Kept) → after left → before left ⊎ IsAnswerMade old left name meant
 
 -- what a crash may leave after a message of a route
@@ -190,14 +190,14 @@ pub record ChangesRoute (old new : Custody) (received : ReceivedMessage) (route 
 
 -- `Handles` as a machine of the domain of that name answers
 abbrev pub HandlesChange : Custody → Custody → List ℕ → Result (List ℕ) HandlingError
-    → (Option DomainState → Answer) → Type 0
+    → (Option DomainState → MachineAnswer) → Type 0
 HandlesChange old new name result machine =
     Handles old new result (Answers old.kept new.kept name result (machine (state_of name old.kept)))
     (LeavesAnswer old.may_leave new.may_leave old.kept name (machine (state_of name old.kept)))
 
 -- `Handles` as a machine of the domain of that name answers, which changes nothing
 abbrev pub HandlesReading : Custody → Custody → List ℕ → Result (List ℕ) HandlingError
-    → (Option DomainState → Answer) → Type 0
+    → (Option DomainState → MachineAnswer) → Type 0
 HandlesReading old new name result machine =
     Handles old new result (Answers old.kept new.kept name result (machine (state_of name old.kept)))
     (LeavesNoMore old.may_leave new.may_leave)
