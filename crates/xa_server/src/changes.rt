@@ -2,16 +2,15 @@
 //! the change itself is the last thing that can fail.
 ghost use Rattle.std.specs.Prelude.{◌≡◌, IsTrue};
 ghost use Rattle.xa_http.specs.declared.command.DocumentCommand.TheVariants as document;
+ghost use Rattle.xa_http.specs.declared.command.DomainCommand.TheVariants as domain;
 ghost use Rattle.xa_http.specs.declared.command.OperatorCommand.TheVariants as operator;
-ghost use Rattle.xa_notation.specs.Bodies.{root_of};
 ghost use Rattle.xa_notation.specs.Document.{document_of};
-ghost use Rattle.xa_decide.specs.Rows.{rows_of};
-ghost use Rattle.xa_records.specs.Changes.{activity_set, created, removed, root_set};
-ghost use Rattle.xa_records.specs.Changes.{source_set, upload_of, uploaded, within};
+ghost use Rattle.xa_records.specs.Changes.{activity_set, created, removed, upload_of, uploaded, within};
 ghost use Rattle.xa_records.specs.DomainName.{is_domain_name};
 ghost use Rattle.xa_records.specs.DomainState.{key_of};
 ghost use Rattle.xa_server.specs.handling.Replying.{HandlesChange, by_body};
-ghost use Rattle.xa_server.specs.Machine.{by_document_command, by_operator_command, changed, upload_reply};
+ghost use Rattle.xa_server.specs.Machine.{by_document_command, by_domain_command, by_operator_command};
+ghost use Rattle.xa_server.specs.Machine.{changed, upload_reply};
 ghost use Rattle.xa_server.specs.Replies.{created_reply, done_reply};
 
 use crate::handling_error::HandlingError;
@@ -115,7 +114,7 @@ pub(crate) fn set_root<R: Records>(
     body: &[u8],
 ) -> Result<Items<u8>, HandlingError>
     ensures { HandlesChange (R.custody records.old) (R.custody records.new) name.now result
-        (by_body (λ root. changed done_reply (within (root_set root))) (root_of body.now)) }
+        (by_domain_command domain.SetRoot body.now) }
 {
     let root = read_root(alloc, body)?;
     let reply = done_reply(alloc)?;
@@ -131,7 +130,7 @@ pub(crate) fn set_source<R: Records>(
     body: &[u8],
 ) -> Result<Items<u8>, HandlingError>
     ensures { HandlesChange (R.custody records.old) (R.custody records.new) name.now result
-        (by_body (λ rows. changed done_reply (within (source_set rows))) (rows_of body.now)) }
+        (by_domain_command domain.SetSource body.now) }
 {
     let rows = read_rows(alloc, body)?;
     let reply = done_reply(alloc)?;
