@@ -4,13 +4,11 @@ ghost use Rattle.std.specs.Prelude.{◌≡◌, IsTrue};
 ghost use Rattle.xa_http.specs.declared.command.DocumentCommand.TheVariants as document;
 ghost use Rattle.xa_http.specs.declared.command.DomainCommand.TheVariants as domain;
 ghost use Rattle.xa_http.specs.declared.command.OperatorCommand.TheVariants as operator;
-ghost use Rattle.xa_notation.specs.Document.{document_of};
-ghost use Rattle.xa_records.specs.Changes.{activity_set, created, removed, upload_of, uploaded, within};
+ghost use Rattle.xa_records.specs.Changes.{activity_set, created, removed, within};
 ghost use Rattle.xa_records.specs.DomainName.{is_domain_name};
-ghost use Rattle.xa_records.specs.DomainState.{key_of};
-ghost use Rattle.xa_server.specs.handling.Replying.{HandlesChange, by_body};
+ghost use Rattle.xa_server.specs.handling.Replying.{HandlesChange};
 ghost use Rattle.xa_server.specs.Machine.{by_document_command, by_domain_command, by_operator_command};
-ghost use Rattle.xa_server.specs.Machine.{changed, upload_reply};
+ghost use Rattle.xa_server.specs.Machine.{changed};
 ghost use Rattle.xa_server.specs.Replies.{created_reply, done_reply};
 
 use crate::handling_error::HandlingError;
@@ -93,8 +91,7 @@ pub(crate) fn upload<R: Records>(
     body: &[u8],
 ) -> Result<Items<u8>, HandlingError>
     ensures { HandlesChange (R.custody records.old) (R.custody records.new) name.now result
-        (by_body (λ parsed state. changed (upload_reply (upload_of (key_of parsed) state))
-        (within (uploaded (key_of parsed) body.now)) state) (document_of body.now)) }
+        (by_domain_command domain.Upload body.now) }
 {
     let parsed = Parsed::read(alloc, body)?;
     let key = parsed.key()?;

@@ -1,7 +1,5 @@
 -- How a message is answered, and what is told of the keeper after a part of it.
 use Rattle.std.specs.Prelude.{◌≡◌, ◌⊎◌, ℕ, List, OnErr, Option, Some, None, option_and_then, Result, Ok, Err}
-use Rattle.xa_value.specs.Gives.{◌>>=◌}
-use Rattle.xa_notation.specs.declared.notation_error.NotationError.{NotationError}
 use Rattle.xa_http.specs.declared.route.Route.{Route}
 use Rattle.xa_http.specs.Routes.{named_by}
 use Rattle.xa_records.specs.declared.refusal.Failure.TheVariants.{Memory, Store}
@@ -16,13 +14,8 @@ use Rattle.xa_server.specs.declared.replies.Reply.{Reply}
 use Rattle.xa_server.specs.declared.replies.Reply.TheVariants.{Sent, Refused}
 use Rattle.xa_server.specs.ErrorCode.{error_reply}
 use Rattle.xa_server.specs.Owner.{name_if, owner}
-use Rattle.xa_server.specs.Machine.{MachineAnswer, answer, by_route, general_answer, general_by_route, or_body_fault}
+use Rattle.xa_server.specs.Machine.{MachineAnswer, answer, by_route, general_answer, general_by_route}
 use Rattle.xa_server.specs.Resources.{AllStand, ResourcesModel}
-
--- what is made of what a body says, or its fault
-abbrev pub by_body : {X : Type 0} → (X → Option DomainState → MachineAnswer) → Result X NotationError
-    → Option DomainState → MachineAnswer
-by_body answer given state = or_body_fault given >>= (λ x. answer x state)
 
 -- a message of the domain of that name was answered as its machine answers it, or it failed; nothing has changed but
 -- by a reply
