@@ -47,6 +47,10 @@ pub record FrontState : Type 0 where
 abbrev pub front_state : {R : Type 0} → (R → Custody) → FrontModel R → FrontState
 front_state custody front = record { server = server_state custody front.server; lines = front.lines }
 
+-- a front is sound if its keeper is
+abbrev pub front_is_sound : {R : Type 0} → (R → Custody) → FrontModel R → Type 0
+front_is_sound custody front = (custody front.server.records).sound
+
 -- what a connection is answered, by what its session gives next: a message is served, and a fault has its reply;
 -- `after` is the rest of its stream
 abbrev pub IsGiven : ℤ → ServerState → Next → Stream → Option Answer → ServerState → Type 0

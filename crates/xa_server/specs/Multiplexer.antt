@@ -7,10 +7,6 @@ use Rattle.xa_server.specs.declared.front_error.FrontError.{FrontError}
 use Rattle.xa_server.specs.declared.front_error.FrontError.TheVariants.{Memory}
 use Rattle.xa_server.specs.Front.{FrontModel}
 
--- a front is sound if its keeper is
-abbrev pub front_is_sound : {R : Type 0} → (R → Custody) → FrontModel R → Type 0
-front_is_sound custody front = (custody front.server.records).sound
-
 -- a front's keeper is open: it can go on
 abbrev pub front_keeper_is_open : {R : Type 0} → (R → Custody) → FrontModel R → Bool
 front_keeper_is_open custody front = (custody front.server.records).is_open

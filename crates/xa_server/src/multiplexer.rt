@@ -1,11 +1,10 @@
 //! What a connection is driven on.
 ghost use Rattle.std.specs.Prelude.{◌≡◌, [], ◌∷◌, Bool, false, List, map};
 ghost use Rattle.std.specs.Prelude.{MatchResult, None, OnErr, IfOk, Option};
-ghost use Rattle.xa_server.specs.Front.{FrontState, IsPlayed, front_state};
+ghost use Rattle.xa_server.specs.Front.{FrontState, IsPlayed, front_is_sound, front_state};
 ghost use Rattle.xa_server.specs.Fronting.{PlaysLines};
 ghost use Rattle.xa_server.specs.Lines.{IsLooked, held_at};
-ghost use Rattle.xa_server.specs.Multiplexer.{front_is_sound, front_keeper_is_open};
-ghost use Rattle.xa_server.specs.Multiplexer.{found_memory, outcome_found_memory};
+ghost use Rattle.xa_server.specs.Multiplexer.{found_memory, front_keeper_is_open, outcome_found_memory};
 ghost use Rattle.xa_server.specs.Transfers.{Grows};
 
 use crate::event::{Event, Outcome};
