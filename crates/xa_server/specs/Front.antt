@@ -51,6 +51,10 @@ front_state custody front = record { server = server_state custody front.server;
 abbrev pub front_is_sound : {R : Type 0} → (R → Custody) → FrontModel R → Type 0
 front_is_sound custody front = (custody front.server.records).sound
 
+-- a front is clean if its keeper is: if the disk has given back what was written
+abbrev pub front_is_clean : {R : Type 0} → (R → Custody) → FrontModel R → Type 0
+front_is_clean custody front = (custody front.server.records).clean
+
 -- what a connection is answered, by what its session gives next: a message is served, and a fault has its reply;
 -- `after` is the rest of its stream
 abbrev pub IsGiven : ℤ → ServerState → Next → Stream → Option Answer → ServerState → Type 0

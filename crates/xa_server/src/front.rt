@@ -15,7 +15,7 @@ ghost use Rattle.xa_http.specs.declared.session.Look.TheVariants as look;
 ghost use Rattle.xa_http.specs.Messages.{IsLook};
 ghost use Rattle.xa_server.specs.handling.Answering.{AnswersIfOpen, AnswersNext, HandsOn, IsFaultGiven};
 ghost use Rattle.xa_server.specs.handling.Answering.{TakesIn};
-ghost use Rattle.xa_server.specs.Front.{IsPlayed, front_state, server_state};
+ghost use Rattle.xa_server.specs.Front.{IsPlayed, front_is_clean, front_is_sound, front_state, server_state};
 ghost use Rattle.xa_server.specs.FrontLaws.{LinesAreStreams};
 ghost use Rattle.xa_server.specs.Fronting.{AnswersLine, CountsAnswer, CountsOutcome, CountsOutcomes};
 ghost use Rattle.xa_server.specs.Fronting.{DoesEvent, DoesLines, IfAllSent, IfAnswerSent, IfOutcomeSent};
@@ -106,18 +106,15 @@ impl<R: Records> Front<R> {
     /// the same at every moment. Fails with `NoSuchConnection`, if it isn't open; else with `Memory`
     /// alone.
     pub fn answer(&mut self, conn: Conn, moment: Moment) -> Result<Option<Answer>, FrontError>
-        ensures answered { (R.custody self.new.server.records).sound
-            → AnswersLine conn moment
+        ensures answered { front_is_sound R.custody self.new → AnswersLine conn moment
             (front_state R.custody self.old) (front_state R.custody self.new) result }
         ensures line { TakesLine conn self.old.lines self.new.lines result }
         ensures err { OnErr result (self.new ≡ self.old) }
-        ensures sound { (R.custody self.new.server.records).sound
-            → (R.custody self.old.server.records).sound }
-        ensures clean { (R.custody self.new.server.records).clean
-            → (R.custody self.old.server.records).clean }
-        ensures stays { (R.custody self.new.server.records).clean → (R.custody self.old.server.records).sound
-            → IfAnswerSent result (R.custody self.new.server.records).sound }
-        ensures crash { (R.custody self.new.server.records).clean → (R.custody self.old.server.records).sound
+        ensures sound { front_is_sound R.custody self.new → front_is_sound R.custody self.old }
+        ensures clean { front_is_clean R.custody self.new → front_is_clean R.custody self.old }
+        ensures stays { front_is_clean R.custody self.new → front_is_sound R.custody self.old
+            → IfAnswerSent result (front_is_sound R.custody self.new) }
+        ensures crash { front_is_clean R.custody self.new → front_is_sound R.custody self.old
             → LeavesNext
             (R.custody self.old.server.records).may_leave (R.custody self.new.server.records).may_leave
             (world R.custody self.old.server) moment (line_at conn self.old.lines) }
@@ -144,18 +141,16 @@ impl<R: Records> Front<R> {
     /// refused messages had never come. What becomes of the connections doesn't depend on the keeper.
     /// Room for all outcomes is taken first, and without it nothing is done.
     pub fn play(&mut self, events: &[Event<'_>]) -> Result<Vec<Outcome>, AllocError>
-        ensures played { IfOk result (λ outcomes. (R.custody self.new.server.records).sound
+        ensures played { IfOk result (λ outcomes. front_is_sound R.custody self.new
             → IsPlayed (front_state R.custody self.old) (front_state R.custody self.new)
             events.now outcomes.items) }
         ensures lines { IfOk result (λ outcomes.
             PlaysLines events.now outcomes.items self.old.lines self.new.lines) }
-        ensures sound { (R.custody self.new.server.records).sound
-            → (R.custody self.old.server.records).sound }
-        ensures clean { (R.custody self.new.server.records).clean
-            → (R.custody self.old.server.records).clean }
+        ensures sound { front_is_sound R.custody self.new → front_is_sound R.custody self.old }
+        ensures clean { front_is_clean R.custody self.new → front_is_clean R.custody self.old }
         ensures stays { IfOk result (λ outcomes.
-            (R.custody self.new.server.records).clean → (R.custody self.old.server.records).sound
-            → IfAllSent outcomes.items (R.custody self.new.server.records).sound) }
+            front_is_clean R.custody self.new → front_is_sound R.custody self.old
+            → IfAllSent outcomes.items (front_is_sound R.custody self.new)) }
         ensures counts { IfOk result (λ outcomes. CountsOutcomes (R.custody self.old.server.records).faults
             (R.custody self.new.server.records).faults outcomes.items) }
         ensures err { OnErr result (self.new ≡ self.old) }
@@ -194,15 +189,13 @@ impl<R: Records> Front<R> {
 
     /// Makes one call.
     fn outcome(&mut self, event: &Event<'_>) -> Outcome
-        ensures does { (R.custody self.new.server.records).sound
+        ensures does { front_is_sound R.custody self.new
             → DoesEvent event.now (front_state R.custody self.old) result (front_state R.custody self.new) }
         ensures lines { DoesLines event.now self.old.lines result self.new.lines }
-        ensures sound { (R.custody self.new.server.records).sound
-            → (R.custody self.old.server.records).sound }
-        ensures clean { (R.custody self.new.server.records).clean
-            → (R.custody self.old.server.records).clean }
-        ensures stays { (R.custody self.new.server.records).clean → (R.custody self.old.server.records).sound
-            → IfOutcomeSent result (R.custody self.new.server.records).sound }
+        ensures sound { front_is_sound R.custody self.new → front_is_sound R.custody self.old }
+        ensures clean { front_is_clean R.custody self.new → front_is_clean R.custody self.old }
+        ensures stays { front_is_clean R.custody self.new → front_is_sound R.custody self.old
+            → IfOutcomeSent result (front_is_sound R.custody self.new) }
         ensures counts { CountsOutcome
             (R.custody self.old.server.records).faults (R.custody self.new.server.records).faults result }
     {
