@@ -2,8 +2,8 @@
 
 Each second each shard is asked for a decision through HAProxy, before all others in its queue: so the
 question waits for the message that is being answered, and for no other. Stuck is a program that takes
-connections and gives no reply for five seconds, which is more than a decision may take under the limit of
-work that is set by default. Its process is killed; what it has answered is kept. A shard that takes no
+connections and gives no reply for five seconds, which is more than a decision request may take under the
+limit of work that is set by default. Its process is killed; what it has answered is kept. A shard that takes no
 connections is down, or still opening its file: its supervisor's affair. So is one that has begun to take
 them meanwhile.
 """

@@ -5,10 +5,10 @@ use Rattle.xa_value.specs.Digits.{number_up_to}
 use Rattle.pdpd.specs.declared.serve.setting.Setting.{Setting}
 use Rattle.pdpd.specs.declared.serve.setting.Setting.TheVariants.{Work, Reply, Reading, Views, Idle}
 
--- what each setting is if its variable isn't set: the limit of work for one message, 0 for none; how many bytes the
--- body of a response may have, and how many bytes of policies may be read for one message, 0 for any number; how many
--- bytes of memory cached views of domains may take, 0 to cache none; for how many seconds a connection may give
--- nothing, or take nothing, 0 for ever
+-- what each setting is if its variable isn't set: the limit of work for one decision request, 0 for none; how many
+-- bytes the body of a response may have, and how many bytes of policies may be read for one decision request, 0 for any
+-- number; how many bytes of memory cached views of domains may take, 0 to cache none; for how many seconds a connection
+-- may give nothing, or take nothing, 0 for ever
 abbrev pub default_of : Setting → ℕ
 default_of Work = 150_000_000
 default_of Reply = 16_777_216

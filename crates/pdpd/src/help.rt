@@ -11,8 +11,8 @@ pub const HELP: &str = "pdpd: policy administration and decisions (XACML 3.0), o
       DATABASE, which is made if it isn't there. ADDRESS: an IP address, `:` and a port.
       TOKEN-FILE: its first line is the operator's token, 8 to 64 visible ASCII characters.
       It prints `listening ADDRESS` once connections are taken.
-      PDPD_WORK in the environment limits the work for one decision, PDPD_REPLY the bytes of its
-      response, and PDPD_READING the bytes of policies that are read for it. PDPD_IDLE ends a
+      PDPD_WORK in the environment limits the work for a decision request, PDPD_REPLY the bytes of
+      its response, and PDPD_READING the bytes of policies that are read for it. PDPD_IDLE ends a
       connection that gives or takes nothing for so many seconds. For each of these 0 is no limit.
       PDPD_VIEWS limits the memory for cached views of domains, in bytes (0: none is cached).
   pdpd replay OPERATOR-TOKEN

@@ -1,10 +1,11 @@
-//! What a decision may cost.
+//! What a decision request may cost.
 ghost use Rattle.std.specs.Prelude.{◌≡◌};
 
 use xa_decide::View;
 
-/// What the decision on one message may cost. Nothing is used up: each message begins anew, whatever
-/// others have asked. A message over a limit is refused as for want of memory, as any message may be.
+/// What one decision request may cost, with all its decisions. Nothing is used up: each message begins
+/// anew, whatever others have asked. A message over a limit is refused as for want of memory, as any
+/// message may be.
 #[derive(Clone, Copy)]
 pub(crate) struct Limits {
     /// The work, in units.

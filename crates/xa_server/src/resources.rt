@@ -57,7 +57,7 @@ impl Model for Resources {
 }
 
 impl Resources {
-    /// Nothing is cached yet, and a decision may cost anything.
+    /// Nothing is cached yet, and a decision request may cost anything.
     pub(crate) fn new(alloc: Global, operator: Digest) -> Result<Resources, AllocError>
         ensures { IfOk result (λ r. r ≡ empty_resources) }
     {

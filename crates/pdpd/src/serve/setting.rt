@@ -7,16 +7,16 @@ use crate::fault::Fault;
 use std::env::{self, VarError};
 use xa_value::number_up_to;
 
-/// The limit of work for one decision if PDPD_WORK isn't set: at most a quarter of a second, in which others
-/// wait. The dearest honest ask measured takes 3,500,000.
+/// The limit of work for one decision request if PDPD_WORK isn't set: at most a quarter of a second, in which
+/// others wait. The dearest honest ask measured takes 3,500,000.
 const DEFAULT_WORK: usize = 150_000_000;
 
 /// How many bytes the body of a response may have if PDPD_REPLY isn't set: 16 MiB. The limit of work
 /// alone leaves room for hundreds of megabytes.
 const DEFAULT_REPLY: usize = 16_777_216;
 
-/// How many bytes of policies may be read for one decision if PDPD_READING isn't set. To read them takes
-/// some 0.3 seconds, too.
+/// How many bytes of policies may be read for one decision request if PDPD_READING isn't set. To read them
+/// takes some 0.3 seconds, too.
 const DEFAULT_READING: usize = 16_000_000;
 
 /// How many bytes of memory cached views may take if PDPD_VIEWS isn't set: 256 MiB. The view of a domain
@@ -30,11 +30,11 @@ const DEFAULT_IDLE: usize = 30;
 /// A setting that the environment gives.
 #[derive(Clone, Copy)]
 pub enum Setting {
-    /// The limit of work for one message; 0 for none.
+    /// The limit of work for one decision request; 0 for none.
     Work,
     /// How many bytes the body of a response may have; 0 for any number.
     Reply,
-    /// How many bytes of policies may be read for one message; 0 for any number.
+    /// How many bytes of policies may be read for one decision request; 0 for any number.
     Reading,
     /// How many bytes of memory cached views of domains may take; with 0 none is cached.
     Views,
