@@ -15,7 +15,7 @@ use Rattle.xa_policy.specs.Evaluation.{ends}
 use Rattle.xa_policy.specs.Policy.{AreTypedRules, IsTypedRule}
 use Rattle.xa_policy.specs.Rule.{undecided}
 use Rattle.xa_policy.specs.Status.{EvaluatedChild}
-use Rattle.xa_policy.specs.Walk.{decided, walked, with_next}
+use Rattle.xa_policy.specs.walking.Walk.{decided, walked, with_next}
 use Rattle.xa_policy.proofs.OnlyOneLemmas as only
 use Rattle.xa_policy.proofs.WalkLemmas.{walked_ended, walked_next}
 

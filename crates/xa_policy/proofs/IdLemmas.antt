@@ -21,7 +21,7 @@ use Rattle.xa_policy.specs.Duties.{effect_of}
 use Rattle.xa_policy.specs.Evaluation.{Element, as_asked, element, element_step, ends, evaluated, linked_step, named_by, named_by_elements, only, set_value, up_to, with_ids}
 use Rattle.xa_policy.specs.Policy.{SetParts}
 use Rattle.xa_policy.specs.Status.{EvaluatedChild}
-use Rattle.xa_policy.specs.Walk.{IsByDecisions, Named, first_named, kept_by, named_up_to, with_named}
+use Rattle.xa_policy.specs.walking.Walk.{IsByDecisions, Named, first_named, kept_by, named_up_to, with_named}
 use Rattle.xa_policy.proofs.EvaluationLemmas.{judged}
 use Rattle.xa_policy.proofs.PastLemmas.{goes_on, layer_past, linked_past}
 

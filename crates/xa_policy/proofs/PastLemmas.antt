@@ -21,7 +21,7 @@ use Rattle.xa_policy.specs.Combining.{deny_overrides, permit_overrides}
 use Rattle.xa_policy.specs.Evaluation.{ends, evaluated, linked_step, rule_child}
 use Rattle.xa_policy.specs.Mirror.{mirrored}
 use Rattle.xa_policy.specs.Status.{EvaluatedChild}
-use Rattle.xa_policy.specs.Walk.{joined_decision, walked}
+use Rattle.xa_policy.specs.walking.Walk.{joined_decision, walked}
 use Rattle.xa_policy.proofs.MirrorLemmas.{mirrored_twice, permit_overrides_mirrors}
 
 -- it ends nothing

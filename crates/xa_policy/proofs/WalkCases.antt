@@ -15,7 +15,7 @@ use Rattle.xa_policy.specs.Evaluation.{ends}
 use Rattle.xa_policy.specs.Effect.{decision_with}
 use Rattle.xa_policy.specs.Overriding.{overrides}
 use Rattle.xa_policy.specs.Status.{first_fault, status_of}
-use Rattle.xa_policy.specs.Walk.{IsByDecisions, decision_of_none, joined_decision, ending_decision}
+use Rattle.xa_policy.specs.walking.Walk.{IsByDecisions, decision_of_none, joined_decision, ending_decision}
 use Rattle.xa_policy.proofs.FirstApplicableLemmas.{first_applicable_settled, first_applicable_passed, first_applicable_none}
 use Rattle.xa_policy.proofs.OverridingLemmas.{otherwise, overrides_joined, overrides_single, otherwise_passed, otherwise_none}
 

@@ -13,7 +13,7 @@ use Rattle.xa_policy.specs.Combining.{combined_decision, decision_of, deny_overr
 use Rattle.xa_policy.specs.Duties.{DutyLists, and_then, effect_of, no_duties}
 use Rattle.xa_policy.specs.Evaluation.{child_of, combination, duties_of_all, ends, up_to}
 use Rattle.xa_policy.specs.Status.{EvaluatedChild, fault_of, status_of}
-use Rattle.xa_policy.specs.Walk.{IsByDecisions, decided, decision_of_none, ended, ending_decision, fault_in, joined, joined_decision, of_none, walked, walked_decision, with_next}
+use Rattle.xa_policy.specs.walking.Walk.{IsByDecisions, decided, decision_of_none, ended, ending_decision, fault_in, joined, joined_decision, of_none, walked, walked_decision, with_next}
 use Rattle.xa_policy.proofs.DutyLemmas.{and_then_none, and_then_assoc}
 use Rattle.xa_policy.proofs.WalkCases.{IsOpen, decision_with_ending, decision_with_more, decision_with_next, decision_with_no_more, ending_same, ending_status, first_fault_joined, is_itself, is_not_other, is_the_effect, next_open, none_open, open_not_ended}
 

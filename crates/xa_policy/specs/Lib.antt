@@ -14,4 +14,4 @@ pub mod Room
 pub mod Rule
 pub mod Status
 pub mod Version
-pub mod Walk
+pub mod walking

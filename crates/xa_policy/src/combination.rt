@@ -1,7 +1,7 @@
 //! What the children of a policy or a policy set decide, as they are evaluated one after another.
 ghost use Rattle.std.specs.Prelude.{◌≡◌, IfOk, OnOk};
 ghost use Rattle.xa_policy.specs.Evaluation.{ends};
-ghost use Rattle.xa_policy.specs.Walk.{decided, fault_in, of_none, with_next};
+ghost use Rattle.xa_policy.specs.walking.Walk.{decided, fault_in, of_none, with_next};
 
 use crate::combining::Alg;
 use crate::decision::Decision;

@@ -6,7 +6,8 @@ ghost use Rattle.xa_policy.specs.Combining.{deny_overrides, first_applicable, ma
 ghost use Rattle.xa_policy.specs.Combining.{only_one_applicable, permit_overrides};
 ghost use Rattle.xa_policy.specs.Evaluation.{ends};
 ghost use Rattle.xa_policy.specs.Overriding.{overrides};
-ghost use Rattle.xa_policy.specs.Walk.{decision_of_none, ending_decision, joined_decision, walked_decision};
+ghost use Rattle.xa_policy.specs.walking.Walk.{decision_of_none, ending_decision, joined_decision};
+ghost use Rattle.xa_policy.specs.walking.Walk.{walked_decision};
 
 use crate::decision::{Decision, Effect};
 use xa_expr::Matching;

@@ -10,7 +10,7 @@ ghost use Rattle.xa_policy.specs.declared.combining.Alg.TheVariants.{OnlyOneAppl
 ghost use Rattle.xa_policy.specs.Evaluation.{as_asked, combination, element, evaluated, evaluation, named_by};
 ghost use Rattle.xa_policy.specs.Evaluation.{named_by_elements, policy_value, rule_child, set_value, verdict};
 ghost use Rattle.xa_policy.specs.Policy.{AreTypedRules, IsTypedRule};
-ghost use Rattle.xa_policy.specs.Walk.{named_up_to, of_none, walked, with_named};
+ghost use Rattle.xa_policy.specs.walking.Walk.{named_up_to, of_none, walked, with_named};
 
 use crate::combination::Combination;
 use crate::combining::Alg;

@@ -1,7 +1,7 @@
 //! The policies and policy sets that are named, as a tree is evaluated.
 ghost use Rattle.std.specs.Prelude.{◌≡◌, [], ◌∷◌, length, OnOk};
 ghost use Rattle.xa_policy.specs.Evaluation.{named_by};
-ghost use Rattle.xa_policy.specs.Walk.{kept_by, with_named};
+ghost use Rattle.xa_policy.specs.walking.Walk.{kept_by, with_named};
 
 use crate::decision::Decision;
 use crate::document_key::DocumentKey;
@@ -23,7 +23,7 @@ pub(crate) struct Identifiers {
 
 impl Model for Identifiers {
     ghost use Rattle.std.specs.Coded.{codes};
-    ghost use Rattle.xa_policy.specs.Walk.{Named};
+    ghost use Rattle.xa_policy.specs.walking.Walk.{Named};
 
     ghost Value = { Named };
 

@@ -1,6 +1,6 @@
 use Rattle.std.proofs.Common.{◌≡◌, map, drop}
 use Rattle.xa_policy.specs.Combining.{decision_of}
-use Rattle.xa_policy.specs.Walk.{decision_of_none, walked_decision}
+use Rattle.xa_policy.specs.walking.Walk.{decision_of_none, walked_decision}
 use Rattle.xa_policy.proofs.combining.combine_decisions.Given as goal
 
 -- the decision so far comes with the rest to what all come to

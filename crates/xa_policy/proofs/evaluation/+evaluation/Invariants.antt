@@ -1,7 +1,7 @@
 use Rattle.std.proofs.Common.{◌≡◌, ◌+◌, ◌*◌, ◌∷◌, map, drop}
 use denote.Param.Weighed.{most}
 use Rattle.xa_policy.specs.Evaluation as spec
-use Rattle.xa_policy.specs.Walk.{named_up_to, of_none, walked, with_named}
+use Rattle.xa_policy.specs.walking.Walk.{named_up_to, of_none, walked, with_named}
 use Rattle.xa_policy.proofs.IdLemmas.{of_the_one}
 use Rattle.xa_policy.proofs.OnlyOneLemmas.{evaluated}
 use Rattle.xa_policy.proofs.linked.Linked.TheLaws.{the_size}

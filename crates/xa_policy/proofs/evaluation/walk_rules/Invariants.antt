@@ -1,6 +1,6 @@
 use Rattle.std.proofs.Common.{◌≡◌, map, drop}
 use Rattle.xa_policy.specs.Evaluation.{rule_child}
-use Rattle.xa_policy.specs.Walk.{of_none, walked}
+use Rattle.xa_policy.specs.walking.Walk.{of_none, walked}
 use Rattle.xa_policy.proofs.evaluation.walk_rules.Given as goal
 
 -- what the rules so far come to decides with the rest as all rules do

@@ -1,5 +1,4 @@
--- What the children so far come to, as they are evaluated one after another (cited by contracts of private functions
--- alone).
+-- What the children so far come to, as they are evaluated one after another.
 use Rattle.std.specs.Prelude.{ℕ, Bool, if◌then◌else◌, List, [], ◌∷◌, ◌++◌, take, Option, Some, None, is_some, unwrap_or}
 use Rattle.std.specs.List.{flat_map}
 use Rattle.std.specs.Option.{option_or}
