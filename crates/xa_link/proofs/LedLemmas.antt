@@ -17,8 +17,8 @@ use Rattle.xa_link.specs.declared.placed.Placed.TheFolds.{fold-roll-Placed}
 use Rattle.xa_link.specs.declared.placed.Placed.TheOpen.{Placed-F}
 use Rattle.xa_link.specs.declared.placed.Placed.TheVariants as part
 use Rattle.xa_link.specs.Linking.{document_at, unless_circular}
-use Rattle.xa_link.specs.Placed.{placed, placed_at, placed_step}
-use Rattle.xa_link.specs.Progress.{Progress, Reads, Refuses, is_read, led_at, led_from, led_from_all, led_to_within, some_place, some_place_step}
+use Rattle.xa_link.specs.placing.Placed.{placed, placed_at, placed_step}
+use Rattle.xa_link.specs.placing.Progress.{Progress, Reads, Refuses, is_read, led_at, led_from, led_from_all, led_to_within, some_place, some_place_step}
 use Rattle.xa_link.specs.Reading.{bytes_at, is_at_or_below, leads_to, leads_within, reading, some_reference, some_reference_in, some_step}
 use Rattle.xa_link.specs.Resolution.{resolve}
 use Rattle.xa_link.proofs.ReadingLemmas.{bytes_of_none, bytes_same, or_false}

@@ -14,9 +14,9 @@ use Rattle.xa_link.specs.declared.placed.Placed.{Placed}
 use Rattle.xa_link.specs.declared.placed.Placed.TheVariants as part
 use Rattle.xa_link.proofs.placed.Placed.TheLaws.{the_size}
 use Rattle.xa_link.specs.Linking.{document_at, if_read, link, replaced_in, tree_at, tree_within, unless_circular}
-use Rattle.xa_link.specs.Placed.{led_within, linked, placed, placed_at}
+use Rattle.xa_link.specs.placing.Placed.{led_within, linked, placed, placed_at}
 use Rattle.xa_link.specs.Resolution.{resolve}
-use Rattle.xa_link.specs.Room.{fitted, policy_fitted, set_fitted}
+use Rattle.xa_link.specs.placing.Room.{fitted, policy_fitted, set_fitted}
 use Rattle.xa_link.proofs.PlacedLemmas.{document_is, led_is, linked_policy, linked_set, linked_reference}
 use Rattle.xa_link.proofs.RoomLemmas.{link_is, policy_fits, set_fits}
 

@@ -16,7 +16,7 @@ use Rattle.std.proofs.lemmas.Map.Views.{Contains-from_any}
 use Rattle.std.proofs.lemmas.Option.{slice_get-get_or, slice_get_within}
 use Rattle.xa_policy.specs.declared.reference.Reference.{Reference}
 use Rattle.xa_link.specs.declared.active.Active.{Active}
-use Rattle.xa_link.specs.Order.{IsFalling, IsOrder, compare_documents, compare_names, compare_places, fits_at, fits_found, name_of, standing}
+use Rattle.xa_link.specs.placing.Order.{IsFalling, IsOrder, compare_documents, compare_names, compare_places, fits_at, fits_found, name_of, standing}
 use Rattle.xa_link.specs.Resolution.{fits, resolve}
 use Rattle.xa_link.proofs.ResolutionLemmas.{IsResolved, resolved}
 use Rattle.xa_link.proofs.StandingLemmas.{fits_among, first_at_most, fitting, found_up, greater_up, less_down, names_total, places_total}

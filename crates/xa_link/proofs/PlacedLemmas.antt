@@ -23,7 +23,7 @@ use Rattle.xa_link.specs.declared.placed.Placed.TheVariants as part
 use Rattle.xa_link.specs.declared.resolved.Finding.{Finding}
 use Rattle.xa_link.specs.declared.resolved.Finding.TheVariants.{NotLooked, Looked}
 use Rattle.xa_link.specs.Linking.{document_at, replaced, replaced_step, tree_within}
-use Rattle.xa_link.specs.Placed.{AreRight, HasPlaced, SamePlaced, held, led_within, linked, linked_step, placed, placed_at, placed_step}
+use Rattle.xa_link.specs.placing.Placed.{AreRight, HasPlaced, SamePlaced, held, led_within, linked, linked_step, placed, placed_at, placed_step}
 use Rattle.xa_link.specs.Resolution.{resolve}
 
 -- ---- trees of documents with places

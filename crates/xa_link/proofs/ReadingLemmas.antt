@@ -8,8 +8,8 @@ use Rattle.xa_link.specs.declared.active.Active.{Active}
 use Rattle.xa_link.specs.declared.placed.Placed.{Placed}
 use Rattle.xa_link.specs.declared.resolved.Finding.{Finding}
 use Rattle.xa_link.specs.declared.resolved.Finding.TheVariants.{NotLooked, Looked}
-use Rattle.xa_link.specs.Placed.{HasPlaced, SamePlaced, held}
-use Rattle.xa_link.specs.Progress.{Counted, Progress, Reads, Refuses, allowed, is_looked, is_read, length_at, marks}
+use Rattle.xa_link.specs.placing.Placed.{HasPlaced, SamePlaced, held}
+use Rattle.xa_link.specs.placing.Progress.{Counted, Progress, Reads, Refuses, allowed, is_looked, is_read, length_at, marks}
 use Rattle.xa_link.specs.Reading.{bytes_at}
 
 -- ---- tests

@@ -18,7 +18,7 @@ use Rattle.xa_link.specs.declared.link_error.LinkError.{LinkError}
 use Rattle.xa_link.specs.declared.link_error.LinkError.TheVariants.{TooLarge}
 use Rattle.xa_link.specs.declared.room.Fitted.{Fitted}
 use Rattle.xa_link.specs.Linking.{size, size_step, tree, link}
-use Rattle.xa_link.specs.Room.{all_fitted, fitted, fitted_behind, policy_fitted, set_fitted}
+use Rattle.xa_link.specs.placing.Room.{all_fitted, fitted, fitted_behind, policy_fitted, set_fitted}
 
 -- what needs so much room, and the room that it leaves
 abbrev pub with_room : {X : Type 0} → ℕ → ℕ → X → Result (Fitted X) LinkError

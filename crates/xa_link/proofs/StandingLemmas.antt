@@ -18,7 +18,7 @@ use Rattle.xa_policy.specs.declared.reference.Reference.{Reference}
 use Rattle.xa_link.specs.declared.active.Active.{Active}
 use Rattle.xa_policy.specs.DocumentKey.{place_of_kind, same_kind}
 use Rattle.xa_policy.specs.Version.{is_before}
-use Rattle.xa_link.specs.Order.{Name, by_pattern, by_version, compare_documents, compare_names, compare_places, is_after_pattern, is_before_pattern, is_too_early, is_too_late, name, name_of, standing, standing_of}
+use Rattle.xa_link.specs.placing.Order.{Name, by_pattern, by_version, compare_documents, compare_names, compare_places, is_after_pattern, is_before_pattern, is_too_early, is_too_late, name, name_of, standing, standing_of}
 use Rattle.xa_link.specs.Resolution.{fits, fits_pattern, matches, not_after, not_before}
 
 -- ---- total orders

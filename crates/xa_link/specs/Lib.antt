@@ -1,7 +1,4 @@
 pub mod Linking
-pub mod Order
-pub mod Placed
-pub mod Progress
+pub mod placing
 pub mod Reading
 pub mod Resolution
-pub mod Room

@@ -1,6 +1,6 @@
 //! The active documents, among which is found the one that a reference stands for.
 ghost use Rattle.std.specs.Prelude.{◌≡◌, find, IfOk, slice_get};
-ghost use Rattle.xa_link.specs.Order.{IsOrder, IsOrderIfAny, IsFalling, fits_at};
+ghost use Rattle.xa_link.specs.placing.Order.{IsOrder, IsOrderIfAny, IsFalling, fits_at};
 ghost use Rattle.xa_link.specs.Resolution.{resolve};
 
 use crate::active::Active;
@@ -35,7 +35,7 @@ pub(crate) struct Index<'a> {
 impl<'a> Model for Index<'a> {
     ghost use Rattle.std.specs.Prelude.{List};
     ghost use Rattle.xa_link.specs.declared.active.Active.{Active as Document};
-    ghost use Rattle.xa_link.specs.Order.{IsOrderIfAny};
+    ghost use Rattle.xa_link.specs.placing.Order.{IsOrderIfAny};
 
     ghost Value = { List Document };
 

@@ -5,11 +5,11 @@ ghost use Rattle.xa_value.specs.Gives.{Gives, answered};
 ghost use Rattle.xa_policy.specs.declared.linked.Linked.TheVariants.{Unresolved};
 ghost use Rattle.xa_link.specs.declared.active.Active.{Active as Document};
 ghost use Rattle.xa_link.specs.Linking.{document_at, link, replaced_in, tree_within, unless_circular};
-ghost use Rattle.xa_link.specs.Placed.{led_within, linked};
-ghost use Rattle.xa_link.specs.Progress.{Counted, led_at, led_from, led_from_all, led_to_within};
+ghost use Rattle.xa_link.specs.placing.Placed.{led_within, linked};
+ghost use Rattle.xa_link.specs.placing.Progress.{Counted, led_at, led_from, led_from_all, led_to_within};
 ghost use Rattle.xa_link.specs.Reading.{reading};
 ghost use Rattle.xa_link.specs.Resolution.{resolve};
-ghost use Rattle.xa_link.specs.Room.{all_fitted, fitted, policy_fitted, set_fitted};
+ghost use Rattle.xa_link.specs.placing.Room.{all_fitted, fitted, policy_fitted, set_fitted};
 
 use crate::active::Active;
 use crate::link_error::LinkError;
@@ -93,7 +93,7 @@ fn leaf(room: usize) -> Fitted<Linked>
 }
 
 /// The policy, shared with its document.
-#[tactic(auto, unfolding(crate::specs::Room::policy_fitted))]
+#[tactic(auto, unfolding(crate::specs::placing::Room::policy_fitted))]
 fn linked_policy(
     policy: &Shared<Policy>,
     room: usize,
@@ -190,7 +190,7 @@ fn linked_document(
 
 /// The policy set, shared with its document, and its children.
 #[cycle(linking)]
-#[tactic(auto, unfolding(crate::specs::Room::set_fitted))]
+#[tactic(auto, unfolding(crate::specs::placing::Room::set_fitted))]
 fn linked_set(
     resolved: &mut Resolved<'_>,
     reader: &mut TextReader<'_>,

@@ -1,9 +1,10 @@
 //! The order in which documents are looked for: those of one kind and id together, the newest of them first.
 ghost use Rattle.std.specs.Prelude.{◌≡◌, slice_get, IfOk};
 ghost use Rattle.std.specs.Option.{option_cmp};
-ghost use Rattle.xa_link.specs.Order.{IsOrder, by_pattern, by_version, compare_documents, compare_names};
-ghost use Rattle.xa_link.specs.Order.{compare_places, is_after_pattern, is_before_pattern};
-ghost use Rattle.xa_link.specs.Order.{is_too_early, is_too_late, name, name_of, standing, standing_of};
+ghost use Rattle.xa_link.specs.placing.Order.{IsOrder, by_pattern, by_version, compare_documents};
+ghost use Rattle.xa_link.specs.placing.Order.{compare_names, compare_places, is_after_pattern};
+ghost use Rattle.xa_link.specs.placing.Order.{is_before_pattern, is_too_early, is_too_late};
+ghost use Rattle.xa_link.specs.placing.Order.{name, name_of, standing, standing_of};
 
 use crate::active::Active;
 use crate::resolution::{not_after, not_before};

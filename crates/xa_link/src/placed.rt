@@ -1,6 +1,6 @@
 //! Documents whose references have given way to the places of the documents for which they stand.
 ghost use Rattle.std.specs.Prelude.{◌≡◌, map, IfOk};
-ghost use Rattle.xa_link.specs.Placed.{placed};
+ghost use Rattle.xa_link.specs.placing.Placed.{placed};
 ghost use Rattle.xa_link.specs.Resolution.{resolve};
 
 use crate::index::Index;

@@ -5,8 +5,8 @@ ghost use Rattle.std.specs.Prelude.{option_map, Some, None, IfOk, OnErr};
 ghost use Rattle.xa_notation.specs.Document.{document_of};
 ghost use Rattle.xa_shelf.specs.Allowance.{asked};
 ghost use Rattle.xa_link.specs.Linking.{document_at, if_read};
-ghost use Rattle.xa_link.specs.Placed.{AreRight, HasPlaced, SamePlaced, held, placed_at};
-ghost use Rattle.xa_link.specs.Progress.{Counted, length_at};
+ghost use Rattle.xa_link.specs.placing.Placed.{AreRight, HasPlaced, SamePlaced, held, placed_at};
+ghost use Rattle.xa_link.specs.placing.Progress.{Counted, length_at};
 ghost use Rattle.xa_link.specs.Resolution.{resolve};
 
 use crate::active::Active;
@@ -39,8 +39,8 @@ pub(crate) struct Resolved<'a> {
 }
 
 impl<'a> Model for Resolved<'a> {
-    ghost use Rattle.xa_link.specs.Placed.{AreRight};
-    ghost use Rattle.xa_link.specs.Progress.{Progress, marks};
+    ghost use Rattle.xa_link.specs.placing.Placed.{AreRight};
+    ghost use Rattle.xa_link.specs.placing.Progress.{Progress, marks};
 
     ghost Value = { Progress };
 

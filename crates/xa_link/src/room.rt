@@ -1,6 +1,6 @@
 //! How many more policies and policy sets a tree may have.
 ghost use Rattle.std.specs.Prelude.{◌≡◌};
-ghost use Rattle.xa_link.specs.Room.{less_one};
+ghost use Rattle.xa_link.specs.placing.Room.{less_one};
 
 use crate::link_error::LinkError;
 

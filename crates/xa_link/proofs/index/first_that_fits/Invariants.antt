@@ -1,6 +1,6 @@
 use Rattle.std.proofs.Common.{◌≡◌, drop}
 use Rattle.std.specs.Prelude.{find}
-use Rattle.xa_link.specs.Order.{fits_at}
+use Rattle.xa_link.specs.placing.Order.{fits_at}
 use Rattle.xa_link.proofs.index.first_that_fits.Given as goal
 
 -- the first that fits is the first of those that are left

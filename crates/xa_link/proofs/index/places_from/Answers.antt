@@ -1,7 +1,7 @@
 use Rattle.std.proofs.Common.{ap, sym, subst, ◌∙◌, rules, find, slice_get}
 use Rattle.std.specs.Ordering.{is_lt, ordering_index}
 use Rattle.std.proofs.lemmas.List.Sorted.{IsPartitionPoint-from_clause, IsNonDecreasingBy-drop}
-use Rattle.xa_link.specs.Order.{IsFalling, fits_at, standing}
+use Rattle.xa_link.specs.placing.Order.{IsFalling, fits_at, standing}
 use Rattle.xa_link.proofs.OrderLemmas.{falling, find_resolves, found_behind, none_fits_before, parted}
 use Rattle.xa_link.proofs.index.places_from.Goals as goal
 

@@ -4,10 +4,10 @@ use Rattle.xa_value.specs.declared.or_memory.OrMemory.TheVariants.{Memory}
 use Rattle.xa_value.specs.Gives.{Gives}
 use Rattle.xa_policy.specs.declared.linked.Linked.TheVariants.{Unresolved}
 use Rattle.xa_link.specs.Linking.{unless_circular}
-use Rattle.xa_link.specs.Placed.{led_within, linked, placed_at}
+use Rattle.xa_link.specs.placing.Placed.{led_within, linked, placed_at}
 use Rattle.xa_shelf.specs.Allowance.{Allowance}
-use Rattle.xa_link.specs.Progress.{Progress, Reads, Refuses, led_at, led_from, led_from_all, led_to_within}
-use Rattle.xa_link.specs.Room.{all_fitted, fitted, fitted_behind}
+use Rattle.xa_link.specs.placing.Progress.{Progress, Reads, Refuses, led_at, led_from, led_from_all, led_to_within}
+use Rattle.xa_link.specs.placing.Room.{all_fitted, fitted, fitted_behind}
 use Rattle.xa_link.proofs.placed.Placed.TheLaws.{the_size}
 use Rattle.xa_link.proofs.LedLemmas.{led_document, led_further, led_here, led_one_more, led_set, led_taken}
 use Rattle.xa_link.proofs.ReadingLemmas.{counted_err, counted_same, counted_then, or_false, reads_none, reads_then, refuses_then, refuses_up}

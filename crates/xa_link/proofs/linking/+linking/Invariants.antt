@@ -1,9 +1,9 @@
 use Rattle.std.proofs.Common.{◌≡◌, ◌+◌, ◌-◌, ◌*◌, map, drop, take}
 use denote.Param.Weighed.{most}
 use Rattle.xa_link.proofs.placed.Placed.TheLaws.{the_size}
-use Rattle.xa_link.specs.Placed.{led_within, linked}
-use Rattle.xa_link.specs.Progress.{Reads, led_from_all}
-use Rattle.xa_link.specs.Room.{all_fitted, fitted_behind}
+use Rattle.xa_link.specs.placing.Placed.{led_within, linked}
+use Rattle.xa_link.specs.placing.Progress.{Reads, led_from_all}
+use Rattle.xa_link.specs.placing.Room.{all_fitted, fitted_behind}
 use Rattle.xa_link.proofs.LinkingLemmas.{further, greatest_depth}
 use Rattle.xa_link.proofs.linking.+linking.Given as goal
 

@@ -10,7 +10,7 @@ use Rattle.std.proofs.lemmas.List.FromFn.{length-range_with_len, get_or-range_wi
 use Rattle.std.proofs.lemmas.List.MinMax.{ranks_by}
 use Rattle.std.proofs.lemmas.List.Sorted.{Contains-permutation}
 use Rattle.std.proofs.lemmas.Map.Views.{list_any-from_Contains}
-use Rattle.xa_link.specs.Order.{compare_places}
+use Rattle.xa_link.specs.placing.Order.{compare_places}
 use Rattle.xa_link.proofs.StandingLemmas.{places_total}
 use Rattle.xa_link.proofs.order.places_in_order.Goals as goal
 

@@ -1,7 +1,7 @@
 use Rattle.std.proofs.Common.{◌≡◌, List, [], ◌∷◌, ◌++◌, ◌+◌, suc, map, drop, drop-cons, add-one, append_assoc, sym, ap, ◌∙◌}
 use Rattle.xa_notation.specs.declared.document.Document.{Document}
 use Rattle.xa_link.specs.declared.placed.Placed.{Placed}
-use Rattle.xa_link.specs.Placed.{placed}
+use Rattle.xa_link.specs.placing.Placed.{placed}
 use Rattle.xa_link.specs.Resolution.{resolve}
 use Rattle.xa_link.proofs.placed.+places.Goals as goal
 

@@ -1,5 +1,5 @@
 use Rattle.std.proofs.Common.{◌≡◌, ◌++◌, map, drop}
-use Rattle.xa_link.specs.Placed.{placed}
+use Rattle.xa_link.specs.placing.Placed.{placed}
 use Rattle.xa_link.specs.Resolution.{resolve}
 use Rattle.xa_link.proofs.placed.+places.Given as goal
 

@@ -1,5 +1,5 @@
 use Rattle.std.proofs.Common.{◌+◌, ◌-◌, length}
-use Rattle.xa_link.specs.Placed.{SamePlaced}
+use Rattle.xa_link.specs.placing.Placed.{SamePlaced}
 use Rattle.xa_link.proofs.resolved.make_room.Given as goal
 
 abbrev pub invariant-loop-documents : goal.invariant-loop-documents

@@ -1,5 +1,4 @@
--- The steps of linking: a tree has to fit into the room that is left, which is a number of policies and policy sets
--- (cited by contracts of private functions alone).
+-- The steps of linking: a tree has to fit into the room that is left, which is a number of policies and policy sets.
 use Rattle.std.specs.Prelude.{ℕ, zero, suc, ◌-◌, nat_lt, if◌then◌else◌, List, [], ◌∷◌, ◌++◌, Result, Ok, Err}
 use Rattle.xa_value.specs.Gives.{◌>>=◌}
 use Rattle.xa_policy.specs.declared.linked.Linked.{Linked}

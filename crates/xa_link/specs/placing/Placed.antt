@@ -1,5 +1,4 @@
--- Documents whose references have given way to places, and the trees that they are linked to (cited by contracts of
--- private functions alone).
+-- Documents whose references have given way to places, and the trees that they are linked to.
 use Rattle.std.specs.Prelude.{◌≡◌, ℕ, zero, suc, ◌==◌, if◌then◌else◌, List}
 use Rattle.std.specs.Prelude.{◌∷◌, Option, Some, None, option_map, slice_get}
 use Rattle.xa_policy.specs.declared.linked.Linked.{Linked}
