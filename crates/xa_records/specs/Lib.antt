@@ -7,3 +7,4 @@ pub mod Keeper
 pub mod Keyed
 pub mod Listing
 pub mod Plain
+pub mod PlainCustody

@@ -5,7 +5,7 @@ ghost use Rattle.xa_records.specs.declared.refusal.Failure.TheVariants.{Store};
 ghost use Rattle.xa_records.specs.Changes.{activity_set, created, deleted, removed, root_set, source_set};
 ghost use Rattle.xa_records.specs.Changes.{token_dropped, token_put, upload_of, uploaded, within};
 ghost use Rattle.xa_records.specs.DomainState.{IsDocumentOf};
-ghost use Rattle.xa_records.specs.Keeper.{Changing, Reading, in_memory};
+ghost use Rattle.xa_records.specs.Keeper.{Changing, Reading};
 ghost use Rattle.xa_records.specs.Kept.{CantRaise, IsGreatest, IsNumbered};
 ghost use Rattle.xa_records.specs.Kept.{names_of, nothing_kept, one_kept, state_of};
 ghost use Rattle.xa_records.specs.Keyed.{KeepsDocuments};
@@ -73,7 +73,9 @@ impl PlainRecords {
 }
 
 impl Records for PlainRecords {
-    ghost custody = { λ r. in_memory r.domains r.faults };
+    ghost use Rattle.xa_records.specs.PlainCustody.{plain_custody};
+
+    ghost custody = { plain_custody };
 
     fn faults(&self) -> u64 {
         self.faults
@@ -84,16 +86,16 @@ impl Records for PlainRecords {
     }
 
     fn gate(&mut self, alloc: Global, name: &Text) -> Result<Option<Gate>, Failure>
-        ensures reads { Reading (in_memory self.old.domains self.old.faults)
-            (in_memory self.new.domains self.new.faults) result (gate_of name.now self.old.domains) }
+        ensures reads { Reading (plain_custody self.old) (plain_custody self.new) result
+            (gate_of name.now self.old.domains) }
         ensures store { ¬ IsErrOf result Store }
     {
         Ok(self.domains.gate(alloc, name)?)
     }
 
     fn view(&mut self, alloc: Global, name: &Text) -> Result<Option<KeptView>, Failure>
-        ensures reads { Reading (in_memory self.old.domains self.old.faults)
-            (in_memory self.new.domains self.new.faults) result (kept_view_of name.now self.old.domains) }
+        ensures reads { Reading (plain_custody self.old) (plain_custody self.new) result
+            (kept_view_of name.now self.old.domains) }
         ensures store { ¬ IsErrOf result Store }
     {
         Ok(self.domains.view(alloc, name)?)
@@ -105,32 +107,31 @@ impl Records for PlainRecords {
         name: &Text,
         key: &DocumentKey,
     ) -> Result<Option<Items<u8>>, Failure>
-        ensures reads { Reading (in_memory self.old.domains self.old.faults)
-            (in_memory self.new.domains self.new.faults) result (text_of name.now key.now self.old.domains) }
+        ensures reads { Reading (plain_custody self.old) (plain_custody self.new) result
+            (text_of name.now key.now self.old.domains) }
         ensures store { ¬ IsErrOf result Store }
     {
         Ok(self.domains.document(alloc, name, key)?)
     }
 
     fn list(&mut self, alloc: Global, name: &Text) -> Result<Option<Items<Listed>>, Failure>
-        ensures reads { Reading (in_memory self.old.domains self.old.faults)
-            (in_memory self.new.domains self.new.faults) result (listing_of name.now self.old.domains) }
+        ensures reads { Reading (plain_custody self.old) (plain_custody self.new) result
+            (listing_of name.now self.old.domains) }
         ensures store { ¬ IsErrOf result Store }
     {
         Ok(self.domains.list(alloc, name)?)
     }
 
     fn domains(&mut self, alloc: Global) -> Result<Items<Text>, Failure>
-        ensures reads { Reading (in_memory self.old.domains self.old.faults)
-            (in_memory self.new.domains self.new.faults) result (names_of self.old.domains) }
+        ensures reads { Reading (plain_custody self.old) (plain_custody self.new) result
+            (names_of self.old.domains) }
         ensures store { ¬ IsErrOf result Store }
     {
         Ok(self.domains.names(alloc)?)
     }
 
     fn create(&mut self, alloc: Global, name: &Text) -> Result<(), ChangeError>
-        ensures does { Changing (in_memory self.old.domains self.old.faults)
-            (in_memory self.new.domains self.new.faults) result name.now created }
+        ensures does { Changing (plain_custody self.old) (plain_custody self.new) result name.now created }
         ensures store { IsErrOf result (Failed Store) → CantRaise created name.now self.old.domains }
     {
         let done = self.domains.create(alloc, name);
@@ -139,8 +140,7 @@ impl Records for PlainRecords {
     }
 
     fn remove(&mut self, _alloc: Global, name: &Text) -> Result<(), ChangeError>
-        ensures does { Changing (in_memory self.old.domains self.old.faults)
-            (in_memory self.new.domains self.new.faults) result name.now removed }
+        ensures does { Changing (plain_custody self.old) (plain_custody self.new) result name.now removed }
         ensures store { ¬ IsErrOf result (Failed Store) }
     {
         let done = self.domains.remove(name);
@@ -155,8 +155,8 @@ impl Records for PlainRecords {
         digest: Digest,
         role: Role,
     ) -> Result<(), ChangeError>
-        ensures does { Changing (in_memory self.old.domains self.old.faults)
-            (in_memory self.new.domains self.new.faults) result name.now (within (token_put digest role)) }
+        ensures does { Changing (plain_custody self.old) (plain_custody self.new) result
+            name.now (within (token_put digest role)) }
         ensures store { ¬ IsErrOf result (Failed Store) }
     {
         let done = self.domains.put_token(name, digest, role);
@@ -165,8 +165,8 @@ impl Records for PlainRecords {
     }
 
     fn drop_token(&mut self, _alloc: Global, name: &Text, digest: Digest) -> Result<(), ChangeError>
-        ensures does { Changing (in_memory self.old.domains self.old.faults)
-            (in_memory self.new.domains self.new.faults) result name.now (within (token_dropped digest)) }
+        ensures does { Changing (plain_custody self.old) (plain_custody self.new) result
+            name.now (within (token_dropped digest)) }
         ensures store { ¬ IsErrOf result (Failed Store) }
     {
         let done = self.domains.drop_token(name, digest);
@@ -182,8 +182,8 @@ impl Records for PlainRecords {
         text: &[u8],
     ) -> Result<Upload, ChangeError>
         requires { IsDocumentOf key text.now }
-        ensures does { Changing (in_memory self.old.domains self.old.faults)
-            (in_memory self.new.domains self.new.faults) result name.now (within (uploaded key text.now)) }
+        ensures does { Changing (plain_custody self.old) (plain_custody self.new) result
+            name.now (within (uploaded key text.now)) }
         ensures which { IfOk result (λ u. u ≡ upload_of key (state_of name.now self.old.domains)) }
         ensures store { IsErrOf result (Failed Store)
             → CantRaise (within (uploaded key text.now)) name.now self.old.domains }
@@ -200,8 +200,7 @@ impl Records for PlainRecords {
         key: &DocumentKey,
         active: bool,
     ) -> Result<(), ChangeError>
-        ensures does { Changing
-            (in_memory self.old.domains self.old.faults) (in_memory self.new.domains self.new.faults) result
+        ensures does { Changing (plain_custody self.old) (plain_custody self.new) result
             name.now (within (activity_set key.now active)) }
         ensures store { IsErrOf result (Failed Store)
             → CantRaise (within (activity_set key.now active)) name.now self.old.domains }
@@ -212,8 +211,8 @@ impl Records for PlainRecords {
     }
 
     fn delete(&mut self, _alloc: Global, name: &Text, key: &DocumentKey) -> Result<(), ChangeError>
-        ensures does { Changing (in_memory self.old.domains self.old.faults)
-            (in_memory self.new.domains self.new.faults) result name.now (within (deleted key.now)) }
+        ensures does { Changing (plain_custody self.old) (plain_custody self.new) result
+            name.now (within (deleted key.now)) }
         ensures store { IsErrOf result (Failed Store)
             → CantRaise (within (deleted key.now)) name.now self.old.domains }
     {
@@ -228,8 +227,8 @@ impl Records for PlainRecords {
         name: &Text,
         root: Option<Reference>,
     ) -> Result<(), ChangeError>
-        ensures does { Changing (in_memory self.old.domains self.old.faults)
-            (in_memory self.new.domains self.new.faults) result name.now (within (root_set root)) }
+        ensures does { Changing (plain_custody self.old) (plain_custody self.new) result
+            name.now (within (root_set root)) }
         ensures store { IsErrOf result (Failed Store)
             → CantRaise (within (root_set root)) name.now self.old.domains }
     {
@@ -244,8 +243,8 @@ impl Records for PlainRecords {
         name: &Text,
         rows: Items<SourceRow>,
     ) -> Result<(), ChangeError>
-        ensures does { Changing (in_memory self.old.domains self.old.faults)
-            (in_memory self.new.domains self.new.faults) result name.now (within (source_set rows)) }
+        ensures does { Changing (plain_custody self.old) (plain_custody self.new) result
+            name.now (within (source_set rows)) }
         ensures store { IsErrOf result (Failed Store)
             → CantRaise (within (source_set rows)) name.now self.old.domains }
     {
