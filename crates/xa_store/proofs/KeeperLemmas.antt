@@ -1,6 +1,6 @@
 -- From what a change does to a connection to what it does to the keeper.
 use Rattle.std.proofs.Common.{◌≡◌, inl, inr, ℕ, Bool, false, List, Result, Ok, Err, IfOk, IsTrue, sym, subst}
-use Rattle.xa_store.proofs.Common.{Database, Held, state, HasCleanDisk, Ghosts, Trees, clean_if_open, ChangeError, Change, Changes, IfAnswered, Leaves, Kept, IsMade, IsSoundStore, LeavesWorld, Ours, SameNow, world_of}
+use Rattle.xa_store.proofs.Common.{Database, Held, state, HasCleanDisk, Ghosts, Trees, clean_if_open, ChangeError, Change, Changes, IfAnswered, Leaves, Kept, IsMade, IsSoundStore, LeavesKept, Ours, SameNow, kept_in}
 use Rattle.xa_records.specs.declared.refusal.ChangeError.TheVariants.{Failed, Refused}
 use Rattle.xa_records.specs.Keeper.{Changing}
 use Rattle.xa_store.specs.Keeper.{Keeper, IsKeeper, IsSound}
@@ -65,16 +65,16 @@ module _ {S : Type 0} (g : Ghosts S) (shut : (s : S) → (g.view s).is_clean ≡
   sound_after : IsTrue ours → IsTrue (state g new).is_open → IsSoundStore (state g new)
   sound_after own up = sound_store (state g new) up (ours_new own up) (λ db may. settled new.store db up may)
 
-  does_so : IsTrue ours → IsTrue (state g new).is_open → Changes (world_of (state g old).now.trees) (world_of (state g new).now.trees) told name change
+  does_so : IsTrue ours → IsTrue (state g new).is_open → Changes (kept_in (state g old).now.trees) (kept_in (state g new).now.trees) told name change
   does_so own up =
-      subst (λ (d : Database). Changes (world_of (state g old).now.trees) (world_of d.trees) told name change) (sym (same_after own up).now)
-      (answered_changes (world_of (state g old).now.trees) (world_of (state g middle).now.trees) name change before done told (was.1 (open_before up)) tells.answers
+      subst (λ (d : Database). Changes (kept_in (state g old).now.trees) (kept_in d.trees) told name change) (sym (same_after own up).now)
+      (answered_changes (kept_in (state g old).now.trees) (kept_in (state g middle).now.trees) name change before done told (was.1 (open_before up)) tells.answers
       (turns.does (clean_middle up) (ours_before own up) (tells.looks.was_open up)))
 
-  leaves_made : HasCleanDisk (state g new) → IsSoundStore (state g old) → Leaves (LeavesWorld (state g old)) (LeavesWorld (state g new)) (world_of (state g old).now.trees) name change
+  leaves_made : HasCleanDisk (state g new) → IsSoundStore (state g old) → Leaves (LeavesKept (state g old)) (LeavesKept (state g new)) (kept_in (state g old).now.trees) name change
   leaves_made clean sound left it = elim (turns.leaves (tells.looks.clean clean) sound.ours it.0 (tells.looks.crash clean it.0 it.1)) [
     | inl may ↦ inl (it.0, may, it.2)
-    | inr made ↦ inr (subst (λ (w : Kept). IsMade change name (world_of (state g old).now.trees) w) (sym (it.2 made.0)) made.1)
+    | inr made ↦ inr (subst (λ (w : Kept). IsMade change name (kept_in (state g old).now.trees) w) (sym (it.2 made.0)) made.1)
   ]
 
   pub is_changing : IsChanging g (record { conn = old; ours = ours; is_open = before; faults = faults }) (record { conn = new; ours = ours; is_open = after; faults = next }) told name change
@@ -99,8 +99,8 @@ module _ {S : Type 0} (g : Ghosts S) (shut : (s : S) → (g.view s).is_clean ≡
 
   -- what else the change says of what was answered, by what was kept
   pub said_of : (k : Keeper S) → ◌≡◌ {A = Keeper S} (record { conn = old; ours = ours; is_open = before; faults = faults }) k → (Says : Kept → X → Type 0)
-      → (HasCleanDisk (state g middle) → Ours (state g old) → IfOk done (Says (world_of (state g old).now.trees)))
+      → (HasCleanDisk (state g middle) → Ours (state g old) → IfOk done (Says (kept_in (state g old).now.trees)))
       → IsSound g (record { conn = new; ours = ours; is_open = after; faults = next }) → IfOk told (Says (kept_by g k))
   said_of k at Says says sound =
       subst (λ (k : Keeper S). IfOk told (Says (kept_by g k))) at
-      (let up = sound.1.is_open in answered_ok (Says (world_of (state g old).now.trees)) before done told tells.answers (says (clean_middle up) (ours_before sound.0 up)))
+      (let up = sound.1.is_open in answered_ok (Says (kept_in (state g old).now.trees)) before done told tells.answers (says (clean_middle up) (ours_before sound.0 up)))

@@ -1,6 +1,6 @@
 -- From what a query does to a connection to what a reading does to the keeper.
 use Rattle.std.proofs.Common.{◌≡◌, ℕ, Bool, false, Result, Ok, Err, IsTrue, IfOk, OnOk, sym, ap, subst, ◌∙◌}
-use Rattle.xa_store.proofs.Common.{Database, Held, state, State, HasCleanDisk, Ghosts, Trees, clean_if_open, Failure, Reads, Kept, AreOurs, IsSoundStore, Ours, SameNow, world_of}
+use Rattle.xa_store.proofs.Common.{Database, Held, state, State, HasCleanDisk, Ghosts, Trees, clean_if_open, Failure, Reads, Kept, AreOurs, IsSoundStore, Ours, SameNow, kept_in}
 use Rattle.xa_records.specs.Keeper.{Reading}
 use Rattle.xa_store.specs.Keeper.{Keeper, IsKeeper}
 use Rattle.xa_store.specs.KeeperReading.{custody_by, kept_by}
@@ -20,7 +20,7 @@ sound_store s up ours law = record {
   ours = ours;
   settled = λ db may.
       let held : db ≡ s.now.trees = law db may ∙ sym (ap (λ (d : Database). d.trees) ours.rests.settled) in
-      (subst AreOurs (sym held) (are_ours s ours), ap world_of held);
+      (subst AreOurs (sym held) (are_ours s ours), ap kept_in held);
 }
 
 was_read : {X : Type 0} (old new : Kept) (r : Result X Failure) (there : X) → IfOk r (λ x. x ≡ there) → new ≡ old → Reads old new r there
@@ -69,15 +69,15 @@ module _ {S : Type 0} (g : Ghosts S) (shut : (s : S) → (g.view s).is_clean ≡
   sound_after own up = sound_store (state g new) up (ours_new own up) (λ db may. settled new.store db up may)
 
   pub is_reading : (there : Kept → X) → (HasCleanDisk (state g middle) → OnOk read (IsTrue (state g middle).is_open))
-      → (HasCleanDisk (state g middle) → Ours (state g old) → IfOk read (λ x. x ≡ there (world_of (state g old).now.trees)))
+      → (HasCleanDisk (state g middle) → Ours (state g old) → IfOk read (λ x. x ≡ there (kept_in (state g old).now.trees)))
       → IsReading g (record { conn = old; ours = ours; is_open = before; faults = faults }) (record { conn = new; ours = ours; is_open = after; faults = next }) told there
   is_reading there opens reads = record {
     reads = λ sound.
         let up = sound.1.is_open in
-        let it = there (world_of (state g old).now.trees) in
-        was_read (world_of (state g old).now.trees) (world_of (state g new).now.trees) told it
+        let it = there (kept_in (state g old).now.trees) in
+        was_read (kept_in (state g old).now.trees) (kept_in (state g new).now.trees) told it
         (told_ok (λ x. x ≡ it) read told tells.answers (reads (tells.looks.clean (clean_up up)) (was.0 sound.0 (open_before up))))
-        (ap (λ (d : Database). world_of d.trees) ((same_after sound.0 up).now ∙ (same_middle sound.0 up).now));
+        (ap (λ (d : Database). kept_in d.trees) ((same_after sound.0 up).now ∙ (same_middle sound.0 up).now));
     sound = λ sound. (sound.0, sound_before sound.0 sound.1.is_open);
     clean = λ clean. quiet.clean (tells.looks.clean clean);
     stays = λ clean sound.
@@ -92,7 +92,7 @@ module _ {S : Type 0} (g : Ghosts S) (shut : (s : S) → (g.view s).is_clean ≡
   -- of a keeper that is this one
   pub is_reading_of : (k : Keeper S) → ◌≡◌ {A = Keeper S} (record { conn = old; ours = ours; is_open = before; faults = faults }) k → (there : Kept → X)
       → (HasCleanDisk (state g middle) → OnOk read (IsTrue (state g middle).is_open))
-      → (HasCleanDisk (state g middle) → Ours (state g old) → IfOk read (λ x. x ≡ there (world_of (state g old).now.trees)))
+      → (HasCleanDisk (state g middle) → Ours (state g old) → IfOk read (λ x. x ≡ there (kept_in (state g old).now.trees)))
       → IsReading g k (record { conn = new; ours = ours; is_open = after; faults = next }) told there
   is_reading_of k at there opens reads =
       subst (λ (k : Keeper S). IsReading g k (record { conn = new; ours = ours; is_open = after; faults = next }) told there) at (is_reading there opens reads)

@@ -1,6 +1,6 @@
 -- Tables that were brought into schema 2 are sound, and mean what those of schema 1 meant.
 use Rattle.std.proofs.Common.{◌≡◌, ℕ, ◌+◌, ◌<◌, ℤ, pos, true, ◌&&◌, cond, List, [], ◌∷◌, map, filter, int_cmp, int_eq, int_lt, Ok, Err, refl, sym, ap, subst, ◌∙◌, arith}
-use Rattle.xa_store.proofs.Common.{from_entries, list_all, on, ints, Database, Row, Trees, IsSound, sort_by, filter-map, map-map, map_same, first_of_both, second_of_both, sort_by-map, SourceRow, Damaged, CheckedTable, Domains, Tokens, Documents, Roots, Attributes, Sources, Schema1, Schema2, are_counted, are_rising, are_sound_rows, as_read, is_count, is_empty, is_left_empty, is_sound, is_sound_row, is_sound_table, is_whole_row, checked, tables_in, known_next, opened, place_in, read_meta, row_number, PlacedRow, DomainRow, placed_row_in, document_in, domain_in, meta_row, nat_of, next_in, root_in, token_in, unissued_in, sources_at, documents_at, domain_entry, rows_of_schema_1, world_of_schema_1, library_of, roles_of, root_at, rows_of, source_of, state_at, tokens_at, world_of}
+use Rattle.xa_store.proofs.Common.{from_entries, list_all, on, ints, Database, Row, Trees, IsSound, sort_by, filter-map, map-map, map_same, first_of_both, second_of_both, sort_by-map, SourceRow, Damaged, CheckedTable, Domains, Tokens, Documents, Roots, Attributes, Sources, Schema1, Schema2, are_counted, are_rising, are_sound_rows, as_read, is_count, is_empty, is_left_empty, is_sound, is_sound_row, is_sound_table, is_whole_row, checked, tables_in, known_next, opened, place_in, read_meta, row_number, PlacedRow, DomainRow, placed_row_in, document_in, domain_in, meta_row, nat_of, next_in, root_in, token_in, unissued_in, sources_at, documents_at, domain_entry, rows_of_schema_1, kept_in_schema_1, library_of, roles_of, root_at, rows_of, source_of, state_at, tokens_at, kept_in}
 use Rattle.xa_store.specs.keeping.Migration.{IsDone, IsSoundSchema1, moved_row, moved_rows}
 use Rattle.xa_store.specs.Opening.{IsMigrated}
 use Rattle.xa_store.proofs.MigratingLemmas.{its_meta}
@@ -116,8 +116,8 @@ module _ (first : Trees) (sound : IsSoundSchema1 first) (d : Database) (done : I
       map_same (domain_entry (rows_of db)) (domain_entry (rows_of_schema_1 first)) (λ (it : DomainRow). λ i. (it.name, record { number = nat_of it.number; epoch = nat_of it.epoch; state = states it.number i })) (map domain_in (db 1))
       ∙ ap (λ rows. map (domain_entry (rows_of_schema_1 first)) (map domain_in rows)) done.others.0
 
-  world_same : world_of db ≡ world_of_schema_1 first
-  world_same = λ i. record { domains = from_entries (entries i); next = nat_of (ap next_in done.meta i) }
+  kept_same : kept_in db ≡ kept_in_schema_1 first
+  kept_same = λ i. record { domains = from_entries (entries i); next = nat_of (ap next_in done.meta i) }
 
   pub is_migrated : IsMigrated first db
-  is_migrated = record { ours = record { database = subst (λ schema. IsSound schema db) done.schema done.database; opens = opens }; kept = world_same }
+  is_migrated = record { ours = record { database = subst (λ schema. IsSound schema db) done.schema done.database; opens = opens }; kept = kept_same }

@@ -1,6 +1,6 @@
 -- What the query for the names of domains finds.
 use Rattle.std.proofs.Common.{◌≡◌, ℕ, List, [], ◌∷◌, map, filter, Bool, true, false, Ordering, is_eq, refl, sym, ap, subst, ◌∙◌}
-use Rattle.xa_store.proofs.Common.{Row, State, Shown, Trees, Text, IsPlain, understood, col, reads_as, sort_by, all_of, filter_all, map-map, IsAscending, last_key, value_cmp-Text, compare_bytes, Domain, names_of, bytes_total, DomainRow, domain_row, domain_in, Ours, schema_2, rows_of, domain_of, domain_entry, world_of}
+use Rattle.xa_store.proofs.Common.{Row, State, Shown, Trees, Text, IsPlain, understood, col, reads_as, sort_by, all_of, filter_all, map-map, IsAscending, last_key, value_cmp-Text, compare_bytes, Domain, names_of, bytes_total, DomainRow, domain_row, domain_in, Ours, schema_2, rows_of, domain_of, domain_entry, kept_in}
 use Rattle.xa_store.specs.keeping.Columns.{name_told}
 use Rattle.xa_store.specs.keeping.Texts.{show_domain_names}
 use Rattle.xa_store.proofs.FoundLemmas.{found_sorted}
@@ -44,7 +44,7 @@ module _ (old new : State) (ours : Ours old) (rows : List Row) (shown : Shown sh
       (subst (IsAscending (λ a b. is_eq (by_name a b) ≡ false)) (sym every) untied) rows answer
       ∙ ap (λ ds. map show_name (sort_by by_name ds)) every
 
-  pub names_read : map name_told rows ≡ names_of (world_of db)
+  pub names_read : map name_told rows ≡ names_of (kept_in db)
   names_read =
       ap (map name_told) ordered ∙ map-map name_told show_name (sort_by by_name all)
       ∙ sym (ap (map (λ (e : List ℕ × Domain). e.0)) (entries_sorted bytes_total (λ (d : DomainRow). d.name) (domain_of (rows_of db)) all untied)

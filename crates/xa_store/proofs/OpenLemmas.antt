@@ -1,6 +1,6 @@
 -- From the parts of opening to what it answers.
 use Rattle.std.proofs.Common.{◌≡◌, ◌⊎◌, inl, inr, Bool, true, false, cond, codes, Result, Ok, Err, IsTrue, IfOk, IfErr, OnOk, refl, sym, ap, subst, ◌∙◌, true≢false, arith}
-use Rattle.xa_store.proofs.Common.{Database, IsDatabase, Held, state, State, HasCleanDisk, Survives, Ghosts, Trees, clean_if_open, survives_then, survives_weaker, second_of_both, OpenError, Store, SchemaVersion, Schema1, Schema2, opened, schema_of, Ours, Rests, RestsIn, SameNow, schema_1, world_of}
+use Rattle.xa_store.proofs.Common.{Database, IsDatabase, Held, state, State, HasCleanDisk, Survives, Ghosts, Trees, clean_if_open, survives_then, survives_weaker, second_of_both, OpenError, Store, SchemaVersion, Schema1, Schema2, opened, schema_of, Ours, Rests, RestsIn, SameNow, schema_1, kept_in}
 use Rattle.sqlite_schema.specs.Names.{same_name}
 use Rattle.sqlite_catalog.specs.Listing.{IsSound as IsSoundUnder}
 use Rattle.xa_store.specs.keeping.Check.{Checked, IsIdle, IsSoundIn, Loads, MakesTables, MigratesTables, Tested, found_as}
@@ -308,7 +308,7 @@ module _ {S : Type 0} (g : Ghosts S) (shut : (s : S) → (g.view s).is_clean ≡
   opens_keeper tables loads rests clean =
       let it = loads.opens clean rests in
       let same = it.2 (loads.stays clean (inl rests)) in
-      (it.0, same, record { ours = it.1; is_open = refl; faults = refl }, ap (λ (d : Database). world_of d.trees) (same.now ∙ rests.settled))
+      (it.0, same, record { ours = it.1; is_open = refl; faults = refl }, ap (λ (d : Database). kept_in d.trees) (same.now ∙ rests.settled))
 
   pub migrates_keeper : (tables : Tables) → Loads old (state g last) (Ok tables) → RestsIn schema_1 old → Migrates g old (Ok (keeper tables))
   migrates_keeper tables loads rests clean =

@@ -1,6 +1,6 @@
 -- What a crash has left is our tables, if it doesn't leave just anything.
 use Rattle.std.proofs.Common.{◌≡◌, ◌↔◌, Bool, true, false, Result, Ok, Err, IsTrue, refl, sym, ap, ◌∙◌}
-use Rattle.xa_store.proofs.Common.{Database, state, State, IsLive, Ghosts, Trees, OpenError, Schema2, opened, AreOurs, schema_2, world_of}
+use Rattle.xa_store.proofs.Common.{Database, state, State, IsLive, Ghosts, Trees, OpenError, Schema2, opened, AreOurs, schema_2, kept_in}
 use Rattle.sqlite_catalog.proofs.ReadLemmas.{lists_once}
 use Rattle.sqlite_trees.specs.Objects.{catalog_tree}
 use Rattle.xa_store.specs.Keeper.{Keeper, IsKeeper, IsSound}
@@ -33,7 +33,7 @@ pub reopens : (stopped new : State) → IsLive new → (is : Bool) → (IsTrue i
 reopens stopped new live is tells over limited = record {
   rests = record { schema = schema stopped new live over limited is tells; settled = over.fresh.clean; idle = over.fresh.autocommit };
   opens = ap (λ (d : Database). opened Schema2 d.trees) over.fresh.clean ∙ found_sound stopped new live over limited (opened Schema2 new.committed.trees) refl;
-  kept = (new.committed.trees, over.left, λ are. ap (λ (d : Database). world_of d.trees) over.fresh.clean);
+  kept = (new.committed.trees, over.left, λ are. ap (λ (d : Database). kept_in d.trees) over.fresh.clean);
 }
 
 pub sound_while_open : {S : Type 0} (g : Ghosts S) → ((s : S) (db : Trees) → IsTrue (g.view s).is_open → g.recovers s db → db ≡ (g.view s).committed) → (k : Keeper S) → IsKeeper g k

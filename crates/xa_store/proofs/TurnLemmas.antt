@@ -1,6 +1,6 @@
 -- A change that was planned by queries and then run.
 use Rattle.std.proofs.Common.{◌≡◌, ◌⊎◌, inl, inr, ℕ, List, Result, Ok, Err, IsTrue, IfErr, IfOk, sym, ap, subst, ◌∙◌}
-use Rattle.xa_store.proofs.Common.{Database, Held, state, Ghosts, State, HasCleanDisk, Trees, ChangeError, Failure, Change, IfAnswered, IsMade, AreDocuments, AreNumbered, AreOurs, AreWhole, Ours, SameNow, Rows, rows_of, kept_of, world_of}
+use Rattle.xa_store.proofs.Common.{Database, Held, state, Ghosts, State, HasCleanDisk, Trees, ChangeError, Failure, Change, IfAnswered, IsMade, AreDocuments, AreNumbered, AreOurs, AreWhole, Ours, SameNow, Rows, rows_of, kept_of, kept_in}
 use Rattle.xa_records.specs.declared.refusal.ChangeError.TheVariants.{Failed, Refused}
 use Rattle.xa_store.specs.declared.step.Step.{Step}
 use Rattle.xa_store.specs.keeping.Quiet.{Quiet}
@@ -18,7 +18,7 @@ module _ (change : Change) (name : List ℕ) (old mid new : State) (quiet : Quie
   unmade Y (Refused e) opens planned = record {
     was_open = λ clean up. quiet.was_open up;
     clean = quiet.clean;
-    does = λ clean ours up. (planned clean ours, ap (λ (d : Database). world_of d.trees) (quiet.same clean ours.rests up).now);
+    does = λ clean ours up. (planned clean ours, ap (λ (d : Database). kept_in d.trees) (quiet.same clean ours.rests up).now);
     ours = λ clean ours up. ours_after old mid ours (quiet.same clean ours.rests up);
     stays = λ clean ours. opens clean;
     leaves = λ clean ours db may. inl (quiet.crash clean ours.rests db may);
@@ -26,7 +26,7 @@ module _ (change : Change) (name : List ℕ) (old mid new : State) (quiet : Quie
   unmade Y (Failed failure) opens planned = record {
     was_open = λ clean up. quiet.was_open up;
     clean = quiet.clean;
-    does = λ clean ours up. ap (λ (d : Database). world_of d.trees) (quiet.same clean ours.rests up).now;
+    does = λ clean ours up. ap (λ (d : Database). kept_in d.trees) (quiet.same clean ours.rests up).now;
     ours = λ clean ours up. ours_after old mid ours (quiet.same clean ours.rests up);
     stays = λ clean ours. tt;
     leaves = λ clean ours db may. inl (quiet.crash clean ours.rests db may);
@@ -36,8 +36,8 @@ module _ (change : Change) (name : List ℕ) (old mid new : State) (quiet : Quie
     same_rows : (same : SameNow old mid) → rows_of mid.now.trees ≡ rows_of old.now.trees
     same_rows same = ap (λ (d : Database). rows_of d.trees) same.now
 
-    made_of : Plans steps change name (rows_of old.now.trees) → (db : Trees) → Holds steps (rows_of old.now.trees) db → IsMade change name (world_of old.now.trees) (world_of db)
-    made_of plan db holds = subst (λ rows. IsMade change name (world_of old.now.trees) (kept_of rows)) (sym holds.rows) plan.made
+    made_of : Plans steps change name (rows_of old.now.trees) → (db : Trees) → Holds steps (rows_of old.now.trees) db → IsMade change name (kept_in old.now.trees) (kept_in db)
+    made_of plan db holds = subst (λ rows. IsMade change name (kept_in old.now.trees) (kept_of rows)) (sym holds.rows) plan.made
 
     module _ (clean : HasCleanDisk mid) (ours : Ours old) where
       here : SameNow old mid
@@ -72,7 +72,7 @@ module _ (change : Change) (name : List ℕ) (old mid new : State) (quiet : Quie
       ours_left : (db : Trees) → Holds steps (rows_of mid.now.trees) db → AreOurs db
       ours_left db holds = record { database = holds.database; opens = tables_open db holds.tables (documents_after db holds) (whole_after db holds) }
 
-      left : (db : Trees) → mid.may_leave db ⊎ Holds steps (rows_of mid.now.trees) db → old.may_leave db ⊎ (AreOurs db × IsMade change name (world_of old.now.trees) (world_of db))
+      left : (db : Trees) → mid.may_leave db ⊎ Holds steps (rows_of mid.now.trees) db → old.may_leave db ⊎ (AreOurs db × IsMade change name (kept_in old.now.trees) (kept_in db))
       left db (inl may) = inl (quiet.crash clean ours.rests db may)
       left db (inr holds) = inr (ours_left db holds, made_of (planned clean ours) db (held db holds))
 
@@ -95,7 +95,7 @@ module _ (change : Change) (name : List ℕ) (old mid new : State) (quiet : Quie
       does = λ clean ours up.
           let before = runs.clean clean in
           let after = runs.same clean (ours_here before ours).rests up in
-          ap (λ (d : Database). world_of d.trees) (after.now ∙ (here before ours).now);
+          ap (λ (d : Database). kept_in d.trees) (after.now ∙ (here before ours).now);
       ours = λ clean ours up. let before = runs.clean clean in ours_after mid new (ours_here before ours) (runs.same clean (ours_here before ours).rests up);
       stays = λ clean ours. tt;
       leaves = λ clean ours db may. let before = runs.clean clean in left before ours db (runs.crash clean (opens before) (ours_here before ours) (allowed before ours) db may);

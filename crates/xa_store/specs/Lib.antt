@@ -1,6 +1,6 @@
 pub mod Tables
 pub mod Rows
-pub mod World
+pub mod Meaning
 pub mod Sound
 pub mod Keeper
 pub mod CheckedColumns

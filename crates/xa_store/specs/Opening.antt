@@ -14,11 +14,11 @@ use Rattle.xa_store.specs.declared.schema.checked_table.CheckedTable.{CheckedTab
 use Rattle.xa_store.specs.declared.schema.version.SchemaVersion.{SchemaVersion}
 use Rattle.xa_store.specs.declared.schema.version.SchemaVersion.TheVariants.{Schema1, Schema2}
 use Rattle.xa_store.specs.Keeper.{Keeper}
+use Rattle.xa_store.specs.Meaning.{kept_in, kept_in_schema_1}
 use Rattle.xa_store.specs.Opened.{opened}
 use Rattle.xa_store.specs.Rows.{meta_row}
 use Rattle.xa_store.specs.Sound.{AreOurs, IsOurDatabase, Rests, RestsIn, SameNow}
 use Rattle.xa_store.specs.Tables.{meta_tree, schema_1, tree_of}
-use Rattle.xa_store.specs.World.{world_of, world_of_schema_1}
 
 abbrev pub no_tables : Schema
 no_tables = record { tables = []; indexes = []; views = [] }
@@ -54,7 +54,7 @@ pub record AreNewTables (db : Trees) : Type 0 where
 -- tables of schema 2 that mean what those of schema 1 meant
 pub record IsMigrated (first db : Trees) : Type 0 where
   pub ours : AreOurs db
-  pub kept : world_of db ≡ world_of_schema_1 first
+  pub kept : kept_in db ≡ kept_in_schema_1 first
 
 -- the connection holds a keeper's tables, of either schema, or none
 abbrev pub IsKnown : State → Type 0
@@ -91,7 +91,7 @@ module _ {S : Type 0} (g : Ghosts S) where
   Opens old (Ok k) =
       HasCleanDisk (state g k.conn)
       → (opened Schema2 old.now.trees ≡ Ok tt) × SameNow old (state g k.conn) × IsFresh k
-      × (world_of (state g k.conn).now.trees ≡ world_of old.committed.trees)
+      × (kept_in (state g k.conn).now.trees ≡ kept_in old.committed.trees)
   Opens old (Err e) =
       HasCleanDisk (state g e.1)
       → GivesOrFails (Err e.0) (opened Schema2 old.now.trees)
@@ -112,7 +112,7 @@ module _ {S : Type 0} (g : Ghosts S) where
   abbrev pub Makes : State → Result (Keeper S) (OpenError × Held S) → Type 0
   Makes old (Ok k) =
       HasCleanDisk (state g k.conn)
-      → AreNewTables (state g k.conn).now.trees × IsFresh k × (world_of (state g k.conn).now.trees ≡ nothing_kept)
+      → AreNewTables (state g k.conn).now.trees × IsFresh k × (kept_in (state g k.conn).now.trees ≡ nothing_kept)
   Makes old (Err e) =
       IsFailure e.0 × (IsTrue (state g e.1).is_open → SameNow old (state g e.1) ⊎ AreNewTables (state g e.1).now.trees)
 
@@ -132,4 +132,4 @@ MayLeaveTables old db =
 abbrev pub Settles : {S : Type 0} → Ghosts S → Keeper S → Type 0
 Settles g k =
     IsTrue k.ours → IsTrue (state g k.conn).is_open → (db : Trees) → (state g k.conn).may_leave db
-    → AreOurs db × (world_of db ≡ world_of (state g k.conn).now.trees)
+    → AreOurs db × (kept_in db ≡ kept_in (state g k.conn).now.trees)

@@ -19,6 +19,7 @@ use Rattle.xa_records.specs.Kept.{IsNumbered, Kept}
 use Rattle.xa_store.specs.declared.check.row.SourcePlace.{SourcePlace}
 use Rattle.xa_store.specs.declared.schema.checked_table.CheckedTable.TheVariants.{Domains, Tokens, Documents, Roots}
 use Rattle.xa_store.specs.declared.schema.checked_table.CheckedTable.TheVariants.{Attributes, Sources}
+use Rattle.xa_store.specs.Meaning.{Rows, rows_of, state_at, kept_in, kept_of}
 use Rattle.xa_store.specs.Opened.{count_from, holds_value, is_count, is_digest}
 use Rattle.xa_store.specs.Opened.{is_assigned, is_pattern, is_version, opened, places_of}
 use Rattle.xa_store.specs.Rows.{DomainRow, TokenRow, DocumentRow, RootRow, PlacedRow, meta_row, next_in}
@@ -26,7 +27,6 @@ use Rattle.xa_store.specs.Rows.{domain_row, domain_in, token_row, token_in, docu
 use Rattle.xa_store.specs.Rows.{root_in, placed_row, placed_row_in, text_at, type_number, value_text}
 use Rattle.xa_store.specs.Tables.{meta_tree, schema_2, tree_of}
 use Rattle.xa_store.specs.declared.schema.version.SchemaVersion.TheVariants.{Schema2}
-use Rattle.xa_store.specs.World.{Rows, rows_of, state_at, kept_of, world_of}
 
 -- ---- rows as the keeper writes them
 
@@ -148,11 +148,11 @@ pub record Ours (s : State) : Type 0 where
 
 -- What a crash now may leave: what our tables mean, and of trees that aren't ours whatever one likes. So if this
 -- says that only some things may be left, it says that all trees that may be left are ours.
-abbrev pub LeavesWorld : State → Kept → Type 0
-LeavesWorld s left = (db : Trees) × s.may_leave db × (AreOurs db → left ≡ world_of db)
+abbrev pub LeavesKept : State → Kept → Type 0
+LeavesKept s left = (db : Trees) × s.may_leave db × (AreOurs db → left ≡ kept_in db)
 
 -- an open store of our tables, of which a crash leaves what it holds, in our tables
 pub record IsSoundStore (s : State) : Type 0 where
   pub is_open : IsTrue s.is_open
   pub ours : Ours s
-  pub settled : (db : Trees) → s.may_leave db → AreOurs db × (world_of db ≡ world_of s.now.trees)
+  pub settled : (db : Trees) → s.may_leave db → AreOurs db × (kept_in db ≡ kept_in s.now.trees)

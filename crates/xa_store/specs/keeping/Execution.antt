@@ -12,10 +12,10 @@ use Rattle.sqlite.specs.declared.types.Value.TheVariants.{Text}
 use Rattle.sqlite_typed.specs.Columns.{or_null}
 use Rattle.xa_records.specs.declared.refusal.Failure.{Failure}
 use Rattle.xa_store.specs.declared.step.Step.{Step}
+use Rattle.xa_store.specs.Meaning.{Rows, rows_of}
 use Rattle.xa_store.specs.Sound.{AreTables, IsOurDatabase, Ours, Rests, SameNow}
 use Rattle.xa_store.specs.keeping.Steps.{Allows, AllowsAll, after_all}
 use Rattle.xa_store.specs.Tables.{schema_2}
-use Rattle.xa_store.specs.World.{Rows, rows_of}
 
 -- a text as a column holds it
 abbrev pub text_column : Option (List ℕ) → Value

@@ -11,10 +11,10 @@ use Rattle.xa_records.specs.declared.refusal.ChangeError.TheVariants.{Failed, Re
 use Rattle.xa_records.specs.declared.refusal.Refusal.TheVariants.{Absent}
 use Rattle.xa_store.specs.declared.query.document_row.FoundDocument.{FoundDocument}
 use Rattle.xa_store.specs.declared.query.domain.FoundDomain.{FoundDomain}
+use Rattle.xa_store.specs.Meaning.{Rows}
 use Rattle.xa_store.specs.Rows.{DomainRow, DocumentRow, nat_of}
 use Rattle.xa_store.specs.keeping.ShownColumns as shown
 use Rattle.xa_store.specs.keeping.Steps.{is_named, is_token, is_document}
-use Rattle.xa_store.specs.World.{Rows}
 
 -- the row is the one of that name
 abbrev pub IsOnly : List ℕ → DomainRow → Rows → Type 0

@@ -17,9 +17,9 @@ use Rattle.xa_records.specs.declared.refusal.Failure.TheVariants.{Memory, Store}
 use Rattle.xa_records.specs.declared.upload.Upload.{Upload}
 use Rattle.xa_records.specs.declared.upload.Upload.TheVariants.{New, Same}
 use Rattle.xa_store.specs.keeping.Lookup.{IsDomain}
+use Rattle.xa_store.specs.Meaning.{Rows, kept_of, rows_now}
 use Rattle.xa_store.specs.Rows.{DomainRow, root_of, reference_of}
 use Rattle.xa_store.specs.keeping.Turns.{IsPlanned}
-use Rattle.xa_store.specs.World.{Rows, kept_of, rows_now}
 use Rattle.xa_store.specs.declared.query.domain.FoundDomain.{FoundDomain}
 use Rattle.xa_store.specs.declared.step.Step.{Step}
 use Rattle.xa_store.specs.declared.step.Step.TheVariants.{AddDomain, SetNext, SetEpoch, AddRoot}

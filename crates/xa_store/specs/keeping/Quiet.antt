@@ -8,8 +8,8 @@ use Rattle.sqlite.specs.Tree.{Trees}
 use Rattle.sqlite.specs.declared.error.Error.{Error}
 use Rattle.xa_records.specs.declared.refusal.ChangeError.{ChangeError}
 use Rattle.xa_records.specs.Keeper.{IfAnswered}
+use Rattle.xa_store.specs.Meaning.{Rows, rows_now}
 use Rattle.xa_store.specs.Sound.{Ours, Rests, SameNow}
-use Rattle.xa_store.specs.World.{Rows, rows_now}
 
 -- An open connection was open before, and a clean one clean. Over our tables it holds what it held, and a crash now
 -- leaves what one might have left before.

@@ -12,9 +12,9 @@ use Rattle.xa_store.specs.declared.step.Step.{Step}
 use Rattle.xa_store.specs.declared.step.Step.TheVariants.{AddDomain, SetNext, SetEpoch, DropDomain, AddToken}
 use Rattle.xa_store.specs.declared.step.Step.TheVariants.{SetRole, DropToken, AddDocument, SetActive, DropDocument}
 use Rattle.xa_store.specs.declared.step.Step.TheVariants.{AddRoot, DropRoot, AddSourceRow, DropSource}
+use Rattle.xa_store.specs.Meaning.{Rows}
 use Rattle.xa_store.specs.Rows.{DomainRow, TokenRow, DocumentRow, PlacedRow}
 use Rattle.xa_store.specs.Rows.{root_of, type_number, value_in, value_text, version_in}
-use Rattle.xa_store.specs.World.{Rows}
 
 -- ---- the row of a key
 

@@ -11,9 +11,9 @@ use Rattle.xa_records.specs.Changes.{Change}
 use Rattle.xa_records.specs.Keeper.{Changes, IfAnswered}
 use Rattle.xa_records.specs.Kept.{IsMade, state_of}
 use Rattle.xa_store.specs.declared.step.Step.{Step}
+use Rattle.xa_store.specs.Meaning.{Rows, kept_of, rows_now, kept_in}
 use Rattle.xa_store.specs.Sound.{AreNumbered, AreOurs, AreWhole, Ours}
 use Rattle.xa_store.specs.keeping.Steps.{after_all, AllowsAll}
-use Rattle.xa_store.specs.World.{Rows, kept_of, rows_now, world_of}
 
 -- the steps make the change of the domain of that name, and may be taken
 pub record Plans (steps : List Step) (change : Change) (name : List ℕ) (rows : Rows) : Type 0 where
@@ -46,8 +46,8 @@ pub record Turns {X : Type 0} (change : Change) (name : List ℕ) (old new : Sta
   pub was_open : HasCleanDisk new → IsTrue new.is_open → IsTrue old.is_open
   pub clean : HasCleanDisk new → HasCleanDisk old
   pub does : HasCleanDisk new → Ours old → IsTrue new.is_open
-      → Changes (world_of old.now.trees) (world_of new.now.trees) result name change
+      → Changes (kept_in old.now.trees) (kept_in new.now.trees) result name change
   pub ours : HasCleanDisk new → Ours old → IsTrue new.is_open → Ours new
   pub stays : HasCleanDisk new → Ours old → IfAnswered result (IsTrue new.is_open)
   pub leaves : HasCleanDisk new → Ours old → (db : Trees) → new.may_leave db
-      → old.may_leave db ⊎ (AreOurs db × IsMade change name (world_of old.now.trees) (world_of db))
+      → old.may_leave db ⊎ (AreOurs db × IsMade change name (kept_in old.now.trees) (kept_in db))

@@ -7,11 +7,11 @@ ghost use Rattle.xa_records.specs.Changes.{activity_set, deleted, upload_of, upl
 ghost use Rattle.xa_records.specs.DomainState.{IsDocumentOf};
 ghost use Rattle.xa_records.specs.Kept.{state_of};
 ghost use Rattle.xa_store.specs.keeping.Lookup.{FindsDocument, IsDomain};
+ghost use Rattle.xa_store.specs.Meaning.{Rows, kept_in};
 ghost use Rattle.xa_store.specs.keeping.Plan.{IsUploadPlanned, PlansFound, PlansOver, number_key, upload_by};
 ghost use Rattle.xa_store.specs.keeping.Quiet.{OnlyReadsForChangeOver, OverRows};
 ghost use Rattle.xa_store.specs.Sound.{AreNumbered, Ours};
 ghost use Rattle.xa_store.specs.keeping.Turns.{PlansIn, Turns};
-ghost use Rattle.xa_store.specs.World.{Rows, world_of};
 
 use crate::change::found::{document_to_change, domain_to_change};
 use crate::change::laws::key_reads_back;
@@ -160,7 +160,7 @@ pub(crate) fn upload<S: Alter>(
     ensures turns { Turns (within (uploaded key text.now)) name.now
         (state S.Store conn.old) (state S.Store conn.new) result }
     ensures which { HasCleanDisk (state S.Store conn.new) → Ours (state S.Store conn.old) → IfOk result (λ u.
-        u ≡ upload_of key (state_of name.now (world_of (state S.Store conn.old).now.trees))) }
+        u ≡ upload_of key (state_of name.now (kept_in (state S.Store conn.old).now.trees))) }
 {
     // Not by `carry_out`: whether the document is new is read off the steps.
     let planned = plan_upload(alloc, conn, name, key, text)?;

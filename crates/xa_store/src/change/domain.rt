@@ -6,12 +6,12 @@ ghost use Rattle.sqlite_keyed.specs.Rules.{AreApart};
 ghost use Rattle.xa_records.specs.Changes.{created, removed};
 ghost use Rattle.xa_records.specs.DomainName.{is_domain_name};
 ghost use Rattle.xa_store.specs.keeping.Lookup.{IsDomain, IsNext};
+ghost use Rattle.xa_store.specs.Meaning.{Rows};
 ghost use Rattle.xa_store.specs.keeping.Plan.{create_steps, number_key};
 ghost use Rattle.xa_store.specs.keeping.Quiet.{OnlyReadsForChangeOver};
 ghost use Rattle.xa_store.specs.Sound.{AreNumbered, same_name};
 ghost use Rattle.xa_store.specs.keeping.Steps.{is_named};
 ghost use Rattle.xa_store.specs.keeping.Turns.{IsPlanned, PlansIn, Turns};
-ghost use Rattle.xa_store.specs.World.{Rows};
 
 use crate::change::found::domain_to_change;
 use crate::change::number::next_after;

@@ -2,10 +2,10 @@
 ghost use Rattle.std.specs.Prelude.{◌≡◌, IfOk};
 ghost use Rattle.sqlite.specs.Held.{state};
 ghost use Rattle.xa_records.specs.Changes.{root_set, within};
+ghost use Rattle.xa_store.specs.Meaning.{root_at};
 ghost use Rattle.xa_store.specs.keeping.Plan.{PlansOver, root_steps};
 ghost use Rattle.xa_store.specs.keeping.Quiet.{OnlyReadsForChangeOver};
 ghost use Rattle.xa_store.specs.keeping.Turns.{PlansIn, Turns};
-ghost use Rattle.xa_store.specs.World.{root_at};
 
 use crate::change::found::domain_to_change;
 use crate::change::laws::root_reads_back;

@@ -2,6 +2,7 @@
 ghost use Rattle.std.specs.Prelude.{◌≡◌, ◌≤◌, ◌++◌, true, length, IfOk, OnOk};
 ghost use Rattle.sqlite.specs.Held.{state};
 ghost use Rattle.xa_records.specs.Changes.{source_set, within};
+ghost use Rattle.xa_store.specs.Meaning.{state_at};
 ghost use Rattle.xa_store.specs.keeping.Plan.{HaveTexts, PlansOver, RowsRead, SetsSource};
 ghost use Rattle.xa_store.specs.keeping.Plan.{row_steps, source_steps};
 ghost use Rattle.xa_store.specs.Opened.{holds_value};
@@ -10,7 +11,6 @@ ghost use Rattle.xa_store.specs.Rows.{type_number, value_text};
 ghost use Rattle.xa_store.specs.Sound.{AreSourceTexts};
 ghost use Rattle.xa_store.specs.keeping.Steps.{ReadsBack};
 ghost use Rattle.xa_store.specs.keeping.Turns.{PlansIn, Turns};
-ghost use Rattle.xa_store.specs.World.{state_at};
 
 use crate::change::found::domain_to_change;
 use crate::change::laws::{bytes_are_utf8, bytes_are_utf8_if_any};

@@ -1,8 +1,8 @@
 //! How many tokens and documents a domain has.
 ghost use Rattle.std.specs.Prelude.{◌≡◌};
 ghost use Rattle.std.specs.FinMap.{len};
+ghost use Rattle.xa_store.specs.Meaning.{state_at};
 ghost use Rattle.xa_store.specs.keeping.Quiet.{OnlyReadsOver, ReadsRows};
-ghost use Rattle.xa_store.specs.World.{state_at};
 
 use crate::query::query_rows;
 use crate::sql;

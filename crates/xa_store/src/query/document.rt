@@ -10,10 +10,10 @@ ghost use Rattle.xa_policy.specs.DocumentKey.{compare_keys};
 ghost use Rattle.xa_policy.specs.Version.{version_text};
 ghost use Rattle.xa_records.specs.Readings.{active_texts, listing_of_state};
 ghost use Rattle.xa_store.specs.keeping.Lookup.{FindsDocument};
+ghost use Rattle.xa_store.specs.Meaning.{state_at};
 ghost use Rattle.xa_store.specs.keeping.Quiet.{OnlyReadsOver, ReadsRows, ShownOver};
 ghost use Rattle.xa_store.specs.Rows.{kind_number};
 ghost use Rattle.xa_store.specs.keeping.Texts.{show_document};
-ghost use Rattle.xa_store.specs.World.{state_at};
 
 use crate::parameter::kind_number;
 use crate::query::document_row::FoundDocument;

@@ -1,9 +1,9 @@
 //! The names of all domains.
 ghost use Rattle.std.specs.Prelude.{◌≡◌};
 ghost use Rattle.xa_records.specs.Kept.{names_of};
+ghost use Rattle.xa_store.specs.Meaning.{kept_of};
 ghost use Rattle.xa_store.specs.keeping.Quiet.{OnlyReadsOver, ReadsRows};
 ghost use Rattle.xa_store.specs.keeping.Columns.{name_told};
-ghost use Rattle.xa_store.specs.World.{kept_of};
 
 use crate::query::cell::text_in;
 use crate::query::columns::name_row;

@@ -4,8 +4,8 @@ ghost use Rattle.std.specs.Prelude.{◌≡◌, pos, Some, IfOk};
 ghost use Rattle.xa_records.specs.Readings.{gate_of, kept_view_of, listing_of, text_in, text_of};
 ghost use Rattle.xa_records.specs.Readings.{view_of_state};
 ghost use Rattle.xa_store.specs.keeping.Lookup.{TellsGate};
+ghost use Rattle.xa_store.specs.Meaning.{kept_of, state_at};
 ghost use Rattle.xa_store.specs.keeping.Quiet.{OnlyReadsOver, ReadsRows};
-ghost use Rattle.xa_store.specs.World.{kept_of, state_at};
 
 use crate::query::document::{active_texts_of, document_of, documents_of};
 use crate::query::domain::{FoundDomain, domain_named};

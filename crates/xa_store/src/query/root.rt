@@ -1,8 +1,8 @@
 //! The root of a domain.
 ghost use Rattle.std.specs.Prelude.{◌≡◌};
+ghost use Rattle.xa_store.specs.Meaning.{state_at};
 ghost use Rattle.xa_store.specs.keeping.Quiet.{OnlyReadsOver, ReadsRows};
 ghost use Rattle.xa_store.specs.keeping.Columns.{root_told};
-ghost use Rattle.xa_store.specs.World.{state_at};
 
 use crate::query::cell::{kind_in, pattern_if_any, text_in, version_if_any};
 use crate::query::columns::root_row;

@@ -2,11 +2,11 @@
 ghost use Rattle.std.specs.Prelude.{◌≡◌, IfOk};
 ghost use Rattle.sqlite.specs.Order.{column};
 ghost use Rattle.sqlite_typed.specs.Columns.{bytes_of, int_of};
+ghost use Rattle.xa_store.specs.Meaning.{state_at};
 ghost use Rattle.xa_store.specs.keeping.Quiet.{OnlyReadsOver, ReadsRows};
 ghost use Rattle.xa_store.specs.Rows.{value_in};
 ghost use Rattle.xa_store.specs.keeping.Columns.{source_told};
 ghost use Rattle.xa_store.specs.keeping.ShownColumns.{source_value, source_value_type};
-ghost use Rattle.xa_store.specs.World.{state_at};
 
 use crate::query::cell::{text_if_any, text_in, type_in};
 use crate::query::columns::source_row;

@@ -5,9 +5,9 @@ ghost use Rattle.sqlite_typed.specs.Columns.{bytes_of};
 ghost use Rattle.sqlite.specs.Order.{column};
 ghost use Rattle.xa_records.specs.Readings.{token_of};
 ghost use Rattle.xa_store.specs.keeping.Lookup.{FindsRole};
+ghost use Rattle.xa_store.specs.Meaning.{state_at};
 ghost use Rattle.xa_store.specs.keeping.Quiet.{OnlyReadsOver, ReadsRows};
 ghost use Rattle.xa_store.specs.keeping.Columns.{role_told, token_told};
-ghost use Rattle.xa_store.specs.World.{state_at};
 
 use crate::query::cell::{bytes_in, role_in};
 use crate::query::columns::{role_row, token_row};

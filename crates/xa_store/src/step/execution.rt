@@ -6,9 +6,9 @@ ghost use Rattle.sqlite.specs.Values.{bound};
 ghost use Rattle.sqlite.specs.declared.error.Error.TheVariants.{SqliteFailure};
 ghost use Rattle.sqlite.specs.declared.error.ErrorCode.TheVariants.{OutOfMemory};
 ghost use Rattle.xa_records.specs.declared.refusal.Failure.TheVariants.{Memory};
+ghost use Rattle.xa_store.specs.Meaning.{rows_of};
 ghost use Rattle.xa_store.specs.keeping.Steps.{AllowsAll};
 ghost use Rattle.xa_store.specs.keeping.Execution.{IsInside, Ran, StaysInsideOver, Takes, Took};
-ghost use Rattle.xa_store.specs.World.{rows_of};
 
 use crate::failure::failure_of;
 use crate::step::Step;

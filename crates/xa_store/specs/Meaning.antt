@@ -99,9 +99,9 @@ abbrev pub kept_of : Rows → Kept
 kept_of rows = record { domains = from_entries (map (domain_entry rows) rows.domains); next = nat_of rows.next }
 
 -- what the tables of schema 2 mean
-abbrev pub world_of : Trees → Kept
-world_of db = kept_of (rows_of db)
+abbrev pub kept_in : Trees → Kept
+kept_in db = kept_of (rows_of db)
 
 -- what the tables of schema 1 mean
-abbrev pub world_of_schema_1 : Trees → Kept
-world_of_schema_1 db = kept_of (rows_of_schema_1 db)
+abbrev pub kept_in_schema_1 : Trees → Kept
+kept_in_schema_1 db = kept_of (rows_of_schema_1 db)
