@@ -135,7 +135,8 @@ fn make_file(rt: &HostRuntime, path: &str) {
 /// of which nothing is proved, of a log that isn't there, and of a file that others can read.
 pub fn records_in_file(rt: &HostRuntime, path: &str) -> Result<FileRecords, Fault>
     ensures sound { IfOk result (λ records.
-        IsTrue records.ours → IsTrue (file_state records.conn).is_open → IsSound over_files records) }
+        IsTrue records.had_only_our_tables → IsTrue (file_state records.conn).is_open
+        → IsSound over_files records) }
     ensures err { IfErr result IsOfStore }
 {
     look_at_halves(rt, path)?;

@@ -1,6 +1,6 @@
 -- What the queries on documents find.
 use Rattle.std.proofs.Common.{◌≡◌, ℕ, ℤ, pos, List, [], ◌∷◌, map, filter, length, Bool, true, false, ◌&&◌, Ordering, Less, is_eq, int_eq, Option, Some, None, option_map, unwrap_or, find, Ok, refl, sym, ap, subst, ◌∙◌, IsPermutation, IsSorted}
-use Rattle.xa_store.proofs.Common.{IsTotalOrder, get, entries, len, len-entries, length-map, AllByRecursion, on, on_total, IsPermutation-map, IsPermutation-trans, length_permutation, Row, State, Shown, Trees, Int, Text, Blob, IsPlain, understood, Term, col, reads_as, sort_by, all_of, all_weaker, map-map, filter-map, IsPermutation-filter, ascending-map, ascending-filter, sorted_unique, IsPermutation-sort_by, Eq, IsAscending, at_ints, then_term, last_term, DocumentKey, compare_keys, read_version, version_text, StoredDocument, active_text, active_texts, listed_of, listing_of_state, text_in, keys_total, keys_exact, DocumentRow, document_row, document_in, activity_number, kind_number, AreTables, Ours, same_document, schema_2, Rows, rows_of, state_at, documents_at, document_entry}
+use Rattle.xa_store.proofs.Common.{IsTotalOrder, get, entries, len, len-entries, length-map, AllByRecursion, on, on_total, IsPermutation-map, IsPermutation-trans, length_permutation, Row, State, Shown, Trees, Int, Text, Blob, IsPlain, understood, Term, col, reads_as, sort_by, all_of, all_weaker, map-map, filter-map, IsPermutation-filter, ascending-map, ascending-filter, sorted_unique, IsPermutation-sort_by, Eq, IsAscending, at_ints, then_term, last_term, DocumentKey, compare_keys, read_version, version_text, StoredDocument, active_text, active_texts, listed_of, listing_of_state, text_in, keys_total, keys_exact, DocumentRow, document_row, document_in, activity_number, kind_number, HaveWrittenRows, IsKeepersStore, same_document, schema_2, Rows, rows_of, state_at, documents_at, document_entry}
 use Rattle.xa_records.specs.declared.listed.Listed.{Listed}
 use Rattle.xa_records.specs.declared.active_text.ActiveText.{ActiveText}
 use Rattle.xa_store.specs.declared.query.document_row.FoundDocument.{FoundDocument}
@@ -42,7 +42,7 @@ backs db p written = all_among p IsBack IsBack (λ d passes back. back) (map doc
 
 -- ---- one by its key
 
-module _ (old new : State) (number : ℤ) (key : DocumentKey) (reads : version_in (version_text key.version) ≡ key.version) (ours : Ours old) (rows : List Row)
+module _ (old new : State) (number : ℤ) (key : DocumentKey) (reads : version_in (version_text key.version) ≡ key.version) (ours : IsKeepersStore old) (rows : List Row)
     (shown : Shown show_document (Int number ∷ Int (kind_number key.kind) ∷ Text key.id ∷ Text (version_text key.version) ∷ []) old new rows) where
   abbrev db : Trees
   db = old.now.trees
@@ -105,7 +105,7 @@ in_order_is key_of total tell target up items out told same sorted =
 abbrev by_document_key : DocumentRow → DocumentRow → Ordering
 by_document_key a b = compare_keys a.key b.key
 
-module _ (db : Trees) (number : ℤ) (ours : AreTables db) where
+module _ (db : Trees) (number : ℤ) (ours : HaveWrittenRows db) where
   abbrev mine : List DocumentRow
   mine = documents_at (rows_of db).documents number
 
@@ -155,7 +155,7 @@ module _ (db : Trees) (number : ℤ) (ours : AreTables db) where
 
 -- ---- what the queries tell
 
-module _ (old new : State) (number : ℤ) (ours : Ours old) where
+module _ (old new : State) (number : ℤ) (ours : IsKeepersStore old) where
   abbrev trees : Trees
   trees = old.now.trees
 

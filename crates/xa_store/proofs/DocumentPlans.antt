@@ -1,6 +1,6 @@
 -- The plans of changes of documents.
 use Rattle.std.proofs.Common.{◌≡◌, ◌≢◌, inr, ℕ, ◌+◌, ◌<◌, ◌^◌, ℤ, List, [], ◌∷◌, ◌++◌, filter, find, Bool, true, false, not, cond, nat_lt, bytes_eq, Option, Some, None, option_map, is_some, Ok, Err, refl, sym, ap, subst, ◌∙◌, int_eq}
-use Rattle.xa_store.proofs.Common.{AllByRecursion, eq_by_cmp, FinMap, get, insert, remove, len, IsKeyedBy, next_key, update_where, delete_where, int_eq_apart, same_int, ◌>>=◌, DocumentKey, compare_keys, Absent, Quota, SameVersionOtherText, StillActive, activity_set, deleted, or_absent, upload_of, uploaded, uploaded_over, with_document, with_documents, within, DomainState, IsDocumentOf, StoredDocument, IsNextEpoch, state_of, keys_exact, keys_total, DomainRow, DocumentRow, nat_of, AreNumbered, AreWhole, Rows, library_of, state_at, documents_at, kept_of}
+use Rattle.xa_store.proofs.Common.{AllByRecursion, eq_by_cmp, FinMap, get, insert, remove, len, IsKeyedBy, next_key, update_where, delete_where, int_eq_apart, same_int, ◌>>=◌, DocumentKey, compare_keys, Absent, Quota, SameVersionOtherText, StillActive, activity_set, deleted, or_absent, upload_of, uploaded, uploaded_over, with_document, with_documents, within, DomainState, IsDocumentOf, StoredDocument, IsNextEpoch, state_of, keys_exact, keys_total, DomainRow, DocumentRow, nat_of, AreNumbered, HaveSoundColumns, Rows, library_of, state_at, documents_at, kept_of}
 use Rattle.xa_records.specs.declared.upload.Upload.TheVariants.{New, Same}
 use Rattle.xa_records.proofs.FinMapLemmas.{get_put, get_taken, put_again}
 use Rattle.xa_store.specs.declared.query.document_row.FoundDocument.{FoundDocument}
@@ -66,7 +66,7 @@ module _ (rows : Rows) (name : List ℕ) (d : DomainRow) (one : IsOnly name d ro
       next_epoch : IsNextEpoch state (with_documents target state) (nat_of d.epoch) (nat_of epoch)
       next_epoch = inr (λ alike. differs alike.documents, (rises, fits))
 
-    columns : (documents : List DocumentRow) → (AreWhole rows → AllByRecursion (IsWholeDocument rows.next) documents) → AreWhole rows → AreWhole (with_rows documents)
+    columns : (documents : List DocumentRow) → (HaveSoundColumns rows → AllByRecursion (IsWholeDocument rows.next) documents) → HaveSoundColumns rows → HaveSoundColumns (with_rows documents)
     columns documents all whole = documents_whole rows whole documents (with_epoch n epoch rows.domains) (all whole) (epoch_whole rows whole n epoch (count_after epoch (nat_of d.epoch) rises fits))
 
     -- ---- a document that is there

@@ -1,6 +1,6 @@
 -- What the statements on documents make of the rows.
 use Rattle.std.proofs.Common.{◌≡◌, ℕ, ℤ, pos, List, [], ◌∷◌, ◌++◌, map, filter, Bool, true, false, ◌&&◌, refl, sym, ap, ◌∙◌, int_eq, Ok}
-use Rattle.xa_store.proofs.Common.{AllByRecursion, eq_by_cmp, eq_by_cmp_equiv, and_parts, and_from, Row, Chosen, State, Executes, col, Trees, Null, Int, Text, Blob, cast_row, with_rowid, next_rowid, next_key, update_where, delete_where, all_weaker, all_map, same_int, DocumentKey, compare_keys, version_text, keys_total, DocumentRow, kind_number, activity_number, document_row, document_in, AreTables, same_document, schema_2, policies}
+use Rattle.xa_store.proofs.Common.{AllByRecursion, eq_by_cmp, eq_by_cmp_equiv, and_parts, and_from, Row, Chosen, State, Executes, col, Trees, Null, Int, Text, Blob, cast_row, with_rowid, next_rowid, next_key, update_where, delete_where, all_weaker, all_map, same_int, DocumentKey, compare_keys, version_text, keys_total, DocumentRow, kind_number, activity_number, document_row, document_in, HaveWrittenRows, same_document, schema_2, policies}
 use Rattle.xa_store.specs.declared.step.Step.TheVariants.{AddDocument, SetActive, DropDocument}
 use Rattle.xa_store.specs.keeping.Steps.{KeyReads, is_document}
 use Rattle.xa_store.specs.keeping.Texts as text
@@ -33,7 +33,7 @@ documents_alike n key a b here there =
     let keys : a.key ≡ b.key = sym (same_key key a.key p.1) ∙ same_key key b.key q.1 in
     and_from _ _ (ap (λ k. int_eq k b.number) number ∙ own_number b.number) (ap (λ k. eq_by_cmp compare_keys k b.key) keys ∙ (eq_by_cmp_equiv keys_total).refl b.key)
 
-module _ (old new : State) (has : old.now.schema ≡ schema_2) (count : ℕ) (was : AreTables old.now.trees) (n : ℤ) (key : DocumentKey) (reads : KeyReads key) where
+module _ (old new : State) (has : old.now.schema ≡ schema_2) (count : ℕ) (was : HaveWrittenRows old.now.trees) (n : ℤ) (key : DocumentKey) (reads : KeyReads key) where
   abbrev db : Trees
   db = old.now.trees
 

@@ -1,6 +1,6 @@
 -- What the look for a domain by its name finds.
 use Rattle.std.proofs.Common.{◌≡◌, ℕ, ℤ, pos, negsuc, ◌≤ℤ◌, List, [], ◌∷◌, map, filter, Option, Some, None, Result, Ok, Err, IfOk, refl, sym, ap, ◌∙◌, arith}
-use Rattle.xa_store.proofs.Common.{AllByRecursion, ints, Row, column, State, Shown, Trees, Value, Int, Text, IsPlain, understood, col, reads_as, all_of, Failure, DomainRow, nat_of, domain_row, domain_in, Ours, schema_2, rows_of}
+use Rattle.xa_store.proofs.Common.{AllByRecursion, ints, Row, column, State, Shown, Trees, Value, Int, Text, IsPlain, understood, col, reads_as, all_of, Failure, DomainRow, nat_of, domain_row, domain_in, IsKeepersStore, schema_2, rows_of}
 use Rattle.xa_store.specs.declared.query.domain.FoundDomain.{FoundDomain}
 use Rattle.xa_store.specs.keeping.Lookup.{FindsDomain, TellDomain}
 use Rattle.xa_store.specs.keeping.Steps.{is_named}
@@ -20,7 +20,7 @@ pub never_negative : (n : ℤ) → pos 0 ≤ℤ n → n ≡ pos (nat_of n)
 never_negative (pos n) h = refl
 never_negative (negsuc n) h = absurd (omega (arith, ints))
 
-module _ (old new : State) (name : List ℕ) (ours : Ours old) (rows : List Row) (shown : Shown show_domain (Text name ∷ []) old new rows) where
+module _ (old new : State) (name : List ℕ) (ours : IsKeepersStore old) (rows : List Row) (shown : Shown show_domain (Text name ∷ []) old new rows) where
   abbrev db : Trees
   db = old.now.trees
 
@@ -40,7 +40,7 @@ module _ (old new : State) (name : List ℕ) (ours : Ours old) (rows : List Row)
   domain_absent none =
       found_none 1 (is 2 0 ∷ []) (col 1 0 ∷ col 1 3 ∷ []) [] db refl (Text name ∷ []) domain_row domain_in ours.tables.domains.written (is_named name) all_hit rows none answer
 
-domain_finds : (old new : State) (name : List ℕ) → Ours old → (rows : List Row) → Shown show_domain (Text name ∷ []) old new rows → (found : Option FoundDomain) → TellDomain rows found
+domain_finds : (old new : State) (name : List ℕ) → IsKeepersStore old → (rows : List Row) → Shown show_domain (Text name ∷ []) old new rows → (found : Option FoundDomain) → TellDomain rows found
     → FindsDomain name (rows_of old.now.trees) found
 domain_finds old new name ours [] shown None tell = domain_absent old new name ours [] shown refl
 domain_finds old new name ours [] shown (Some found) tell = absurd tell
@@ -61,7 +61,7 @@ domain_finds old new name ours (row ∷ []) shown (Some found) tell =
 domain_finds old new name ours (row ∷ other ∷ more) shown None tell = absurd tell
 domain_finds old new name ours (row ∷ other ∷ more) shown (Some found) tell = absurd tell
 
-pub domain_finds_in : (old new : State) (name : List ℕ) → Ours old → (rows : List Row) → Shown show_domain (Text name ∷ []) old new rows → (r : Result (Option FoundDomain) Failure) → IfOk r (TellDomain rows)
+pub domain_finds_in : (old new : State) (name : List ℕ) → IsKeepersStore old → (rows : List Row) → Shown show_domain (Text name ∷ []) old new rows → (r : Result (Option FoundDomain) Failure) → IfOk r (TellDomain rows)
     → IfOk r (FindsDomain name (rows_of old.now.trees))
 domain_finds_in old new name ours rows shown (Ok found) tell = domain_finds old new name ours rows shown found tell
 domain_finds_in old new name ours rows shown (Err e) tell = tt

@@ -1,6 +1,6 @@
 -- What the statement that adds a domain makes of the rows.
 use Rattle.std.proofs.Common.{◌≡◌, ℕ, ℤ, pos, List, [], ◌∷◌, map, filter, Bool, true, false, not, ◌&&◌, refl, ap, ◌∙◌, int_eq, Ok}
-use Rattle.xa_store.proofs.Common.{Chosen, State, Executes, Trees, Null, Int, Text, cast_row, with_rowid, insert_by, is_apart, all_of, all_weaker, any_from_none, IsKeyedBy-insert_by, apart_insert, DomainRow, domain_row, domain_in, AreTables, same_name, schema_2, domains}
+use Rattle.xa_store.proofs.Common.{Chosen, State, Executes, Trees, Null, Int, Text, cast_row, with_rowid, insert_by, is_apart, all_of, all_weaker, any_from_none, IsKeyedBy-insert_by, apart_insert, DomainRow, domain_row, domain_in, HaveWrittenRows, same_name, schema_2, domains}
 use Rattle.xa_store.specs.declared.step.Step.TheVariants.{AddDomain}
 use Rattle.xa_store.specs.keeping.Steps.{is_named}
 use Rattle.xa_store.specs.keeping.Texts as text
@@ -16,7 +16,7 @@ never_both : (b : Bool) → (b && false) ≡ false
 never_both true = refl
 never_both false = refl
 
-module _ (old new : State) (has : old.now.schema ≡ schema_2) (count : ℕ) (was : AreTables old.now.trees) where
+module _ (old new : State) (has : old.now.schema ≡ schema_2) (count : ℕ) (was : HaveWrittenRows old.now.trees) where
   abbrev db : Trees
   db = old.now.trees
 

@@ -1,6 +1,6 @@
 -- What the statement that takes a domain out makes of the rows: all that is in it goes too.
 use Rattle.std.proofs.Common.{◌≡◌, ◌≢◌, inl, inr, ℕ, ℤ, List, [], ◌∷◌, map, drop, filter, find, option_map, true, false, cond, Some, unwrap_or, Ok, refl, sym, ap, subst, ◌∙◌, int_eq}
-use Rattle.xa_store.proofs.Common.{edit_of, Row, Given, Edited, State, Executes, col, Trees, Int, Enforced, Eq, has_rowid, value_cmp-Int, works, Leads, ids_of, IsNoIndex, without_all, row_at, delete_where, all_of, same_int, deletes-map, at_ints, last_term, DomainRow, domain_row, domain_in, token_row, token_in, document_row, document_in, root_row, root_in, placed_row, placed_row_in, AreTables, schema_2, domains, tokens, policies, attributes, sources, rows_of}
+use Rattle.xa_store.proofs.Common.{edit_of, Row, Given, Edited, State, Executes, col, Trees, Int, Enforced, Eq, has_rowid, value_cmp-Int, works, Leads, ids_of, IsNoIndex, without_all, row_at, delete_where, all_of, same_int, deletes-map, at_ints, last_term, DomainRow, domain_row, domain_in, token_row, token_in, document_row, document_in, root_row, root_in, placed_row, placed_row_in, HaveWrittenRows, schema_2, domains, tokens, policies, attributes, sources, rows_of}
 use Rattle.xa_store.specs.declared.step.Step.TheVariants.{DropDomain}
 use Rattle.xa_store.specs.keeping.Steps.{without_domain}
 use Rattle.xa_store.specs.keeping.Texts as text
@@ -16,7 +16,7 @@ use Rattle.xa_store.proofs.WriteLemmas.{passing_rows}
 
 -- ---- the rows that are left
 
-module _ (db last : Trees) (was : AreTables db) (d : DomainRow) (first : Trees) (rows : first 1 ≡ without_all (db 1) (d.number ∷ []))
+module _ (db last : Trees) (was : HaveWrittenRows db) (d : DomainRow) (first : Trees) (rows : first 1 ≡ without_all (db 1) (d.number ∷ []))
     (others : (t : ℕ) → t ≢ 1 → IsNoIndex schema_2 t → first t ≡ db t) (acted : ActedOnAll last d all_children first) where
   at_first : (t : ℕ) → is_other 1 t ≡ true → first t ≡ db t
   at_first = of_other 1 (λ t. first t ≡ db t) others
@@ -67,7 +67,7 @@ found_at n (d ∷ ds) =
     ap (λ b. cond b (Some (domain_row d)) (find (has_rowid n) (map domain_row ds))) (ap Rattle.std.specs.Ordering.is_eq (value_cmp-Int d.number n)) ∙ ap (cond (int_eq d.number n) (Some (domain_row d))) (found_at n ds)
     ∙ elim (int_eq d.number n) as (λ b. cond b (Some (domain_row d)) (option_map domain_row (find (λ d. int_eq d.number n) ds)) ≡ option_map domain_row (cond b (Some d) (find (λ d. int_eq d.number n) ds))) [ true ↦ refl | false ↦ refl ]
 
-module _ (old new : State) (has : old.now.schema ≡ schema_2) (count : ℕ) (was : AreTables old.now.trees) where
+module _ (old new : State) (has : old.now.schema ≡ schema_2) (count : ℕ) (was : HaveWrittenRows old.now.trees) where
   abbrev db : Trees
   db = old.now.trees
 

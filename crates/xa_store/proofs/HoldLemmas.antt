@@ -1,6 +1,6 @@
 -- Tables of which one was written.
 use Rattle.std.proofs.Common.{◌≡◌, ◌≢◌, ℕ, ℤ, List, [], ◌∷◌, ◌++◌, map, Bool, false, true, not, ◌&&◌, ◌==◌, refl, sym, ap, subst, ◌∙◌, eq-eqb, true≢false}
-use Rattle.xa_store.proofs.Common.{AllByRecursion, list_all, and_parts, Row, Trees, IsNoIndex, IsKeyedBy, insert_by, next_key, update_where, delete_where, AreApart, all-filter, IsKeyedBy-delete_where, IsKeyedBy-update_where, apart_delete, apart_update, DomainRow, TokenRow, DocumentRow, RootRow, PlacedRow, meta_row, next_in, domain_row, domain_in, token_row, token_in, document_row, document_in, root_row, root_in, placed_row, placed_row_in, AreRows, AreTables, same_name, same_token, same_document, same_place, schema_2, Rows, rows_of}
+use Rattle.xa_store.proofs.Common.{AllByRecursion, list_all, and_parts, Row, Trees, IsNoIndex, IsKeyedBy, insert_by, next_key, update_where, delete_where, AreApart, all-filter, IsKeyedBy-delete_where, IsKeyedBy-update_where, apart_delete, apart_update, DomainRow, TokenRow, DocumentRow, RootRow, PlacedRow, meta_row, next_in, domain_row, domain_in, token_row, token_in, document_row, document_in, root_row, root_in, placed_row, placed_row_in, AreRows, HaveWrittenRows, same_name, same_token, same_document, same_place, schema_2, Rows, rows_of}
 use Rattle.sqlite_schema.specs.declared.schema.Index.{Index}
 use Rattle.xa_store.proofs.LastLemmas.{stands_last, keyed_last, all_last, apart_last}
 use Rattle.xa_store.proofs.WriteLemmas.{Wrote}
@@ -88,7 +88,7 @@ module _ {X : Type 0} {write : X → Row} {read : Row → X} {key : X → ℤ} {
 
 -- the tables are these rows
 abbrev pub Hold : Trees → Rows → Type 0
-Hold db rows = AreTables db × (rows_of db ≡ rows)
+Hold db rows = HaveWrittenRows db × (rows_of db ≡ rows)
 
 abbrev pub HasDomains : List Row → List DomainRow → Type 0
 HasDomains = ReadsAs domain_row domain_in (λ d. d.number) same_name
@@ -127,7 +127,7 @@ hold db rows meta domains tokens documents roots left sources = (
   },
 )
 
-module _ (old new : Trees) (was : AreTables old) where
+module _ (old new : Trees) (was : HaveWrittenRows old) where
   pub meta_now : (next : ℤ) → Wrote old new 0 (meta_row next ∷ []) → Hold new (record (rows_of old) { next = next })
   meta_now next w =
       hold new (record (rows_of old) { next = next }) w.rows (stay (kept w 1 refl) was.domains) (stay (kept w 3 refl) was.tokens) (stay (kept w 5 refl) was.documents)

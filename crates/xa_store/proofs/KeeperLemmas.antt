@@ -1,6 +1,6 @@
 -- From what a change does to a connection to what it does to the keeper.
 use Rattle.std.proofs.Common.{◌≡◌, inl, inr, ℕ, Bool, false, List, Result, Ok, Err, IfOk, IsTrue, sym, subst}
-use Rattle.xa_store.proofs.Common.{Database, Held, state, HasCleanDisk, Ghosts, Trees, clean_if_open, ChangeError, Change, Changes, IfAnswered, Leaves, Kept, IsMade, IsSoundStore, LeavesKept, Ours, SameNow, kept_in}
+use Rattle.xa_store.proofs.Common.{Database, Held, state, HasCleanDisk, Ghosts, Trees, clean_if_open, ChangeError, Change, Changes, IfAnswered, Leaves, Kept, IsMade, IsSoundStore, LeavesKept, IsKeepersStore, SameNow, kept_in}
 use Rattle.xa_records.specs.declared.refusal.ChangeError.TheVariants.{Failed, Refused}
 use Rattle.xa_records.specs.Keeper.{Changing}
 use Rattle.xa_store.specs.Keeper.{Keeper, IsKeeper, IsSound}
@@ -33,7 +33,7 @@ answered_changes old new name change before done (Err (Failed failure)) was is d
 -- the change leaves the connection in the middle, and the look at its store after it
 module _ {S : Type 0} (g : Ghosts S) (shut : (s : S) → (g.view s).is_clean ≡ false → (g.view s).is_open ≡ false)
     (settled : (s : S) (db : Trees) → IsTrue (g.view s).is_open → g.recovers s db → db ≡ (g.view s).committed) (old middle new : Held S) (ours before after : Bool) (faults next : ℕ)
-    (was : IsKeeper g (record { conn = old; ours = ours; is_open = before; faults = faults })) {X : Type 0} (change : Change) (name : List ℕ) (done told : Result X ChangeError)
+    (was : IsKeeper g (record { conn = old; had_only_our_tables = ours; is_open = before; faults = faults })) {X : Type 0} (change : Change) (name : List ℕ) (done told : Result X ChangeError)
     (turns : Turns change name (state g old) (state g middle) done) (tells : TellsChange (state g middle) (state g new) before after faults next done told) where
   clean_up : IsTrue (state g new).is_open → HasCleanDisk (state g new)
   clean_up up = clean_if_open (g.view new.store) (shut new.store) up
@@ -44,19 +44,19 @@ module _ {S : Type 0} (g : Ghosts S) (shut : (s : S) → (g.view s).is_clean ≡
   open_before : IsTrue (state g new).is_open → IsTrue (state g old).is_open
   open_before up = turns.was_open (clean_middle up) (tells.looks.was_open up)
 
-  ours_before : IsTrue ours → IsTrue (state g new).is_open → Ours (state g old)
+  ours_before : IsTrue ours → IsTrue (state g new).is_open → IsKeepersStore (state g old)
   ours_before own up = was.0 own (open_before up)
 
-  ours_middle : IsTrue ours → IsTrue (state g new).is_open → Ours (state g middle)
+  ours_middle : IsTrue ours → IsTrue (state g new).is_open → IsKeepersStore (state g middle)
   ours_middle own up = turns.ours (clean_middle up) (ours_before own up) (tells.looks.was_open up)
 
   same_after : IsTrue ours → IsTrue (state g new).is_open → SameNow (state g middle) (state g new)
   same_after own up = tells.looks.same (clean_up up) (ours_middle own up).rests up
 
-  ours_new : IsTrue ours → IsTrue (state g new).is_open → Ours (state g new)
+  ours_new : IsTrue ours → IsTrue (state g new).is_open → IsKeepersStore (state g new)
   ours_new own up = ours_after (state g middle) (state g new) (ours_middle own up) (same_after own up)
 
-  pub keeper_after : IsKeeper g (record { conn = new; ours = ours; is_open = after; faults = next })
+  pub keeper_after : IsKeeper g (record { conn = new; had_only_our_tables = ours; is_open = after; faults = next })
   keeper_after = (ours_new, λ up. tells.not_shut (was.1 (open_before up)) up)
 
   sound_before : IsTrue ours → IsTrue (state g new).is_open → IsSoundStore (state g old)
@@ -77,7 +77,7 @@ module _ {S : Type 0} (g : Ghosts S) (shut : (s : S) → (g.view s).is_clean ≡
     | inr made ↦ inr (subst (λ (w : Kept). IsMade change name (kept_in (state g old).now.trees) w) (sym (it.2 made.0)) made.1)
   ]
 
-  pub is_changing : IsChanging g (record { conn = old; ours = ours; is_open = before; faults = faults }) (record { conn = new; ours = ours; is_open = after; faults = next }) told name change
+  pub is_changing : IsChanging g (record { conn = old; had_only_our_tables = ours; is_open = before; faults = faults }) (record { conn = new; had_only_our_tables = ours; is_open = after; faults = next }) told name change
   is_changing = record {
     does = λ sound. does_so sound.0 sound.1.is_open;
     sound = λ sound. (sound.0, sound_before sound.0 sound.1.is_open);
@@ -93,14 +93,14 @@ module _ {S : Type 0} (g : Ghosts S) (shut : (s : S) → (g.view s).is_clean ≡
   }
 
   -- of a keeper that is this one
-  pub is_changing_of : (k : Keeper S) → ◌≡◌ {A = Keeper S} (record { conn = old; ours = ours; is_open = before; faults = faults }) k
-      → IsChanging g k (record { conn = new; ours = ours; is_open = after; faults = next }) told name change
-  is_changing_of k at = subst (λ (k : Keeper S). IsChanging g k (record { conn = new; ours = ours; is_open = after; faults = next }) told name change) at is_changing
+  pub is_changing_of : (k : Keeper S) → ◌≡◌ {A = Keeper S} (record { conn = old; had_only_our_tables = ours; is_open = before; faults = faults }) k
+      → IsChanging g k (record { conn = new; had_only_our_tables = ours; is_open = after; faults = next }) told name change
+  is_changing_of k at = subst (λ (k : Keeper S). IsChanging g k (record { conn = new; had_only_our_tables = ours; is_open = after; faults = next }) told name change) at is_changing
 
   -- what else the change says of what was answered, by what was kept
-  pub said_of : (k : Keeper S) → ◌≡◌ {A = Keeper S} (record { conn = old; ours = ours; is_open = before; faults = faults }) k → (Says : Kept → X → Type 0)
-      → (HasCleanDisk (state g middle) → Ours (state g old) → IfOk done (Says (kept_in (state g old).now.trees)))
-      → IsSound g (record { conn = new; ours = ours; is_open = after; faults = next }) → IfOk told (Says (kept_by g k))
+  pub said_of : (k : Keeper S) → ◌≡◌ {A = Keeper S} (record { conn = old; had_only_our_tables = ours; is_open = before; faults = faults }) k → (Says : Kept → X → Type 0)
+      → (HasCleanDisk (state g middle) → IsKeepersStore (state g old) → IfOk done (Says (kept_in (state g old).now.trees)))
+      → IsSound g (record { conn = new; had_only_our_tables = ours; is_open = after; faults = next }) → IfOk told (Says (kept_by g k))
   said_of k at Says says sound =
       subst (λ (k : Keeper S). IfOk told (Says (kept_by g k))) at
       (let up = sound.1.is_open in answered_ok (Says (kept_in (state g old).now.trees)) before done told tells.answers (says (clean_middle up) (ours_before sound.0 up)))

@@ -1,6 +1,6 @@
 -- From what a query does to a connection to what a reading does to the keeper.
 use Rattle.std.proofs.Common.{◌≡◌, ℕ, Bool, false, Result, Ok, Err, IsTrue, IfOk, OnOk, sym, ap, subst, ◌∙◌}
-use Rattle.xa_store.proofs.Common.{Database, Held, state, State, HasCleanDisk, Ghosts, Trees, clean_if_open, Failure, Reads, Kept, AreOurs, IsSoundStore, Ours, SameNow, kept_in}
+use Rattle.xa_store.proofs.Common.{Database, Held, state, State, HasCleanDisk, Ghosts, Trees, clean_if_open, Failure, Reads, Kept, OpensSoundly, IsSoundStore, IsKeepersStore, SameNow, kept_in}
 use Rattle.xa_records.specs.Keeper.{Reading}
 use Rattle.xa_store.specs.Keeper.{Keeper, IsKeeper}
 use Rattle.xa_store.specs.KeeperReading.{custody_by, kept_by}
@@ -14,13 +14,13 @@ abbrev pub IsReading : {S X : Type 0} → Ghosts S → Keeper S → Keeper S →
 IsReading g old new r there = Reading (custody_by g old) (custody_by g new) r (there (kept_by g old))
 
 -- an open store of our tables, of which a crash leaves the last commit
-pub sound_store : (s : State) → IsTrue s.is_open → Ours s → ((db : Trees) → s.may_leave db → db ≡ s.committed.trees) → IsSoundStore s
+pub sound_store : (s : State) → IsTrue s.is_open → IsKeepersStore s → ((db : Trees) → s.may_leave db → db ≡ s.committed.trees) → IsSoundStore s
 sound_store s up ours law = record {
   is_open = up;
   ours = ours;
   settled = λ db may.
       let held : db ≡ s.now.trees = law db may ∙ sym (ap (λ (d : Database). d.trees) ours.rests.settled) in
-      (subst AreOurs (sym held) (are_ours s ours), ap kept_in held);
+      (subst OpensSoundly (sym held) (are_ours s ours), ap kept_in held);
 }
 
 was_read : {X : Type 0} (old new : Kept) (r : Result X Failure) (there : X) → IfOk r (λ x. x ≡ there) → new ≡ old → Reads old new r there
@@ -39,7 +39,7 @@ told_stays P Q R read (Err e) is p stays last = tt
 -- the reading leaves the connection in the middle, and the look at its store after it
 module _ {S : Type 0} (g : Ghosts S) (shut : (s : S) → (g.view s).is_clean ≡ false → (g.view s).is_open ≡ false)
     (settled : (s : S) (db : Trees) → IsTrue (g.view s).is_open → g.recovers s db → db ≡ (g.view s).committed) (old middle new : Held S) (ours before after : Bool) (faults next : ℕ)
-    (was : IsKeeper g (record { conn = old; ours = ours; is_open = before; faults = faults })) (quiet : Quiet (state g old) (state g middle)) {X : Type 0} (read told : Result X Failure)
+    (was : IsKeeper g (record { conn = old; had_only_our_tables = ours; is_open = before; faults = faults })) (quiet : Quiet (state g old) (state g middle)) {X : Type 0} (read told : Result X Failure)
     (tells : TellsReading (state g middle) (state g new) before after faults next read told) where
   clean_up : IsTrue (state g new).is_open → HasCleanDisk (state g new)
   clean_up up = clean_if_open (g.view new.store) (shut new.store) up
@@ -50,16 +50,16 @@ module _ {S : Type 0} (g : Ghosts S) (shut : (s : S) → (g.view s).is_clean ≡
   same_middle : IsTrue ours → IsTrue (state g new).is_open → SameNow (state g old) (state g middle)
   same_middle own up = quiet.same (tells.looks.clean (clean_up up)) (was.0 own (open_before up)).rests (tells.looks.was_open up)
 
-  ours_middle : IsTrue ours → IsTrue (state g new).is_open → Ours (state g middle)
+  ours_middle : IsTrue ours → IsTrue (state g new).is_open → IsKeepersStore (state g middle)
   ours_middle own up = ours_after (state g old) (state g middle) (was.0 own (open_before up)) (same_middle own up)
 
   same_after : IsTrue ours → IsTrue (state g new).is_open → SameNow (state g middle) (state g new)
   same_after own up = tells.looks.same (clean_up up) (ours_middle own up).rests up
 
-  ours_new : IsTrue ours → IsTrue (state g new).is_open → Ours (state g new)
+  ours_new : IsTrue ours → IsTrue (state g new).is_open → IsKeepersStore (state g new)
   ours_new own up = ours_after (state g middle) (state g new) (ours_middle own up) (same_after own up)
 
-  pub keeper_after : IsKeeper g (record { conn = new; ours = ours; is_open = after; faults = next })
+  pub keeper_after : IsKeeper g (record { conn = new; had_only_our_tables = ours; is_open = after; faults = next })
   keeper_after = (ours_new, λ up. tells.not_shut (was.1 (open_before up)) up)
 
   sound_before : IsTrue ours → IsTrue (state g new).is_open → IsSoundStore (state g old)
@@ -69,8 +69,8 @@ module _ {S : Type 0} (g : Ghosts S) (shut : (s : S) → (g.view s).is_clean ≡
   sound_after own up = sound_store (state g new) up (ours_new own up) (λ db may. settled new.store db up may)
 
   pub is_reading : (there : Kept → X) → (HasCleanDisk (state g middle) → OnOk read (IsTrue (state g middle).is_open))
-      → (HasCleanDisk (state g middle) → Ours (state g old) → IfOk read (λ x. x ≡ there (kept_in (state g old).now.trees)))
-      → IsReading g (record { conn = old; ours = ours; is_open = before; faults = faults }) (record { conn = new; ours = ours; is_open = after; faults = next }) told there
+      → (HasCleanDisk (state g middle) → IsKeepersStore (state g old) → IfOk read (λ x. x ≡ there (kept_in (state g old).now.trees)))
+      → IsReading g (record { conn = old; had_only_our_tables = ours; is_open = before; faults = faults }) (record { conn = new; had_only_our_tables = ours; is_open = after; faults = next }) told there
   is_reading there opens reads = record {
     reads = λ sound.
         let up = sound.1.is_open in
@@ -90,9 +90,9 @@ module _ {S : Type 0} (g : Ghosts S) (shut : (s : S) → (g.view s).is_clean ≡
   }
 
   -- of a keeper that is this one
-  pub is_reading_of : (k : Keeper S) → ◌≡◌ {A = Keeper S} (record { conn = old; ours = ours; is_open = before; faults = faults }) k → (there : Kept → X)
+  pub is_reading_of : (k : Keeper S) → ◌≡◌ {A = Keeper S} (record { conn = old; had_only_our_tables = ours; is_open = before; faults = faults }) k → (there : Kept → X)
       → (HasCleanDisk (state g middle) → OnOk read (IsTrue (state g middle).is_open))
-      → (HasCleanDisk (state g middle) → Ours (state g old) → IfOk read (λ x. x ≡ there (kept_in (state g old).now.trees)))
-      → IsReading g k (record { conn = new; ours = ours; is_open = after; faults = next }) told there
+      → (HasCleanDisk (state g middle) → IsKeepersStore (state g old) → IfOk read (λ x. x ≡ there (kept_in (state g old).now.trees)))
+      → IsReading g k (record { conn = new; had_only_our_tables = ours; is_open = after; faults = next }) told there
   is_reading_of k at there opens reads =
-      subst (λ (k : Keeper S). IsReading g k (record { conn = new; ours = ours; is_open = after; faults = next }) told there) at (is_reading there opens reads)
+      subst (λ (k : Keeper S). IsReading g k (record { conn = new; had_only_our_tables = ours; is_open = after; faults = next }) told there) at (is_reading there opens reads)

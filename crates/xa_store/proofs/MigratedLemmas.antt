@@ -120,4 +120,4 @@ module _ (first : Trees) (sound : IsSoundSchema1 first) (d : Database) (done : I
   kept_same = λ i. record { domains = from_entries (entries i); next = nat_of (ap next_in done.meta i) }
 
   pub is_migrated : IsMigrated first db
-  is_migrated = record { ours = record { database = subst (λ schema. IsSound schema db) done.schema done.database; opens = opens }; kept = kept_same }
+  is_migrated = record { sound = record { database = subst (λ schema. IsSound schema db) done.schema done.database; opens = opens }; kept = kept_same }

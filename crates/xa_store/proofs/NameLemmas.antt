@@ -1,6 +1,6 @@
 -- What the query for the names of domains finds.
 use Rattle.std.proofs.Common.{◌≡◌, ℕ, List, [], ◌∷◌, map, filter, Bool, true, false, Ordering, is_eq, refl, sym, ap, subst, ◌∙◌}
-use Rattle.xa_store.proofs.Common.{Row, State, Shown, Trees, Text, IsPlain, understood, col, reads_as, sort_by, all_of, filter_all, map-map, IsAscending, last_key, value_cmp-Text, compare_bytes, Domain, names_of, bytes_total, DomainRow, domain_row, domain_in, Ours, schema_2, rows_of, domain_of, domain_entry, kept_in}
+use Rattle.xa_store.proofs.Common.{Row, State, Shown, Trees, Text, IsPlain, understood, col, reads_as, sort_by, all_of, filter_all, map-map, IsAscending, last_key, value_cmp-Text, compare_bytes, Domain, names_of, bytes_total, DomainRow, domain_row, domain_in, IsKeepersStore, schema_2, rows_of, domain_of, domain_entry, kept_in}
 use Rattle.xa_store.specs.keeping.Columns.{name_told}
 use Rattle.xa_store.specs.keeping.Texts.{show_domain_names}
 use Rattle.xa_store.proofs.FoundLemmas.{found_sorted}
@@ -11,7 +11,7 @@ use Rattle.xa_store.proofs.TextLemmas.{show_domain_names_is}
 pub names_plain : IsPlain (understood schema_2 show_domain_names)
 names_plain = show_domain_names_is.2
 
-module _ (old new : State) (ours : Ours old) (rows : List Row) (shown : Shown show_domain_names [] old new rows) where
+module _ (old new : State) (ours : IsKeepersStore old) (rows : List Row) (shown : Shown show_domain_names [] old new rows) where
   abbrev db : Trees
   db = old.now.trees
 

@@ -1,6 +1,6 @@
 -- What the look for the next number finds.
 use Rattle.std.proofs.Common.{◌≡◌, ℤ, pos, List, [], ◌∷◌, filter, false, true, cond, Result, Ok, Err, IfOk, refl, sym, ap, subst, ◌∙◌}
-use Rattle.xa_store.proofs.Common.{Row, State, Shown, Trees, Int, IsPlain, understood, col, reads_as, Eq, at_ints, last_term, Failure, meta_row, next_in, Ours, schema_2, rows_of}
+use Rattle.xa_store.proofs.Common.{Row, State, Shown, Trees, Int, IsPlain, understood, col, reads_as, Eq, at_ints, last_term, Failure, meta_row, next_in, IsKeepersStore, schema_2, rows_of}
 use Rattle.xa_store.specs.keeping.Lookup.{IsNext, TellNext}
 use Rattle.xa_store.specs.keeping.Texts.{show_next_number}
 use Rattle.xa_store.proofs.DomainLemmas.{never_negative, same_int_value}
@@ -10,7 +10,7 @@ use Rattle.xa_store.proofs.TextLemmas.{is_one, show_next_number_is}
 pub next_plain : IsPlain (understood schema_2 show_next_number)
 next_plain = show_next_number_is.2
 
-module _ (old new : State) (ours : Ours old) (rows : List Row) (shown : Shown show_next_number [] old new rows) where
+module _ (old new : State) (ours : IsKeepersStore old) (rows : List Row) (shown : Shown show_next_number [] old new rows) where
   abbrev db : Trees
   db = old.now.trees
 

@@ -1,6 +1,6 @@
 -- Rows whose numbers were given are those of domains that are apart, and none stands for a number that wasn't.
 use Rattle.std.proofs.Common.{◌≡◌, ◌<◌, ◌≤◌, ◌^◌, ℕ, ℤ, ◌<ℤ◌, pos, negsuc, true, false, cond, List, [], ◌∷◌, filter, find, int_eq, int_lt, Option, Some, None, option_map, refl, sym, ap, ap₂, subst, ◌∙◌, arith}
-use Rattle.xa_store.proofs.Common.{AllByRecursion, get, ints, IsKeyedBy, get_by, int_eq_apart, all_both, all_weaker, filter_none, first_of_both, second_of_both, same_bytes, new_domain, Domain, IsNumbered, is_assigned, is_count, PlacedRow, DocumentRow, DomainRow, RootRow, TokenRow, nat_of, reference_of, AreNumbered, AreWhole, Rows, domain_of, kept_of, library_of, roles_of, source_of, state_at}
+use Rattle.xa_store.proofs.Common.{AllByRecursion, get, ints, IsKeyedBy, get_by, int_eq_apart, all_both, all_weaker, filter_none, first_of_both, second_of_both, same_bytes, new_domain, Domain, IsNumbered, is_assigned, is_count, PlacedRow, DocumentRow, DomainRow, RootRow, TokenRow, nat_of, reference_of, AreNumbered, HaveSoundColumns, Rows, domain_of, kept_of, library_of, roles_of, source_of, state_at}
 use Rattle.sqlite.specs.Ops.{fits_i64}
 use Rattle.xa_store.specs.keeping.Steps.{is_named}
 use Rattle.xa_store.proofs.ChangeLemmas.{found_all, kept_at, number_of}
@@ -50,7 +50,7 @@ get_own key (x ∷ xs) up = (
 
 -- ---- all rows
 
-module _ (rows : Rows) (whole : AreWhole rows) (up : IsKeyedBy number_of rows.domains) where
+module _ (rows : Rows) (whole : HaveSoundColumns rows) (up : IsKeyedBy number_of rows.domains) where
   abbrev IsAt : List ℕ → Domain → Type 0
   IsAt name domain = (d : DomainRow) × (find (is_named name) rows.domains ≡ Some d) × (domain_of rows d ≡ domain)
 

@@ -1,6 +1,6 @@
 -- From the parts of opening to what it answers.
 use Rattle.std.proofs.Common.{◌≡◌, ◌⊎◌, inl, inr, Bool, true, false, cond, codes, Result, Ok, Err, IsTrue, IfOk, IfErr, OnOk, refl, sym, ap, subst, ◌∙◌, true≢false, arith}
-use Rattle.xa_store.proofs.Common.{Database, IsDatabase, Held, state, State, HasCleanDisk, Survives, Ghosts, Trees, clean_if_open, survives_then, survives_weaker, second_of_both, OpenError, Store, SchemaVersion, Schema1, Schema2, opened, schema_of, Ours, Rests, RestsIn, SameNow, schema_1, kept_in}
+use Rattle.xa_store.proofs.Common.{Database, IsDatabase, Held, state, State, HasCleanDisk, Survives, Ghosts, Trees, clean_if_open, survives_then, survives_weaker, second_of_both, OpenError, Store, SchemaVersion, Schema1, Schema2, opened, schema_of, IsKeepersStore, Rests, RestsIn, SameNow, schema_1, kept_in}
 use Rattle.sqlite_schema.specs.Names.{same_name}
 use Rattle.sqlite_catalog.specs.Listing.{IsSound as IsSoundUnder}
 use Rattle.xa_store.specs.keeping.Check.{Checked, IsIdle, IsSoundIn, Loads, MakesTables, MigratesTables, Tested, found_as}
@@ -49,7 +49,7 @@ nothing_known a second first blank (inl h) = absurd (second h)
 nothing_known a second first blank (inr (inl h)) = absurd (first h)
 nothing_known a second first blank (inr (inr h)) = blank h
 
-pub sound_ours : (s : State) → IsSoundIn Schema2 s → Ours s
+pub sound_ours : (s : State) → IsSoundIn Schema2 s → IsKeepersStore s
 sound_ours s sound = opened_ours s sound.rests sound.database sound.opens
 
 -- ---- the tables of a schema were checked
@@ -188,7 +188,7 @@ module _ (a c : State) (full : has_room a.now.schema ≡ false) (second : schema
       left (Ok own) = tt
       left (Err e) = λ refusal. test.survives
 
-      ours : (r2 : Result Tables OpenError) → IfOk r2 (λ own. IsTrue (are_only_ours own) → IsSoundIn Schema2 c) → IfOk r2 (λ own. IsTrue (are_only_ours own) → Ours c)
+      ours : (r2 : Result Tables OpenError) → IfOk r2 (λ own. IsTrue (are_only_ours own) → IsSoundIn Schema2 c) → IfOk r2 (λ own. IsTrue (are_only_ours own) → IsKeepersStore c)
       ours (Ok own) sound = λ is. sound_ours c (sound is)
       ours (Err e) sound = tt
 
@@ -259,7 +259,7 @@ module _ (a b : State) (full : has_room a.now.schema ≡ false) (first : schema_
       fails = λ blank. tt;
       ours = λ clean is.
           let it = moved.migrated clean (test.sound (first_between (Ok x) moved clean) is) in
-          opened_ours c it.1 (subst (λ schema. IsSoundUnder schema c.now.trees) (sym it.1.schema) it.2.ours.database) it.2.ours.opens;
+          opened_ours c it.1 (subst (λ schema. IsSoundUnder schema c.now.trees) (sym it.1.schema) it.2.sound.database) it.2.sound.opens;
       stays = λ clean h. first_known (λ rests. (moved.migrated clean (sound (first_between (Ok x) moved clean) rests)).0) h;
     }
 
@@ -299,7 +299,7 @@ module _ {S : Type 0} (g : Ghosts S) (shut : (s : S) → (g.view s).is_clean ≡
   clean_up up = clean_if_open (g.view last.store) (shut last.store) up
 
   abbrev pub keeper : Tables → Keeper S
-  keeper tables = record { conn = last; ours = are_only_ours tables; is_open = true; faults = 0 }
+  keeper tables = record { conn = last; had_only_our_tables = are_only_ours tables; is_open = true; faults = 0 }
 
   pub is_keeper : (tables : Tables) → Loads old (state g last) (Ok tables) → IsKeeper g (keeper tables)
   is_keeper tables loads = (λ own up. loads.ours (clean_up up) own, λ up. refl)
@@ -308,17 +308,17 @@ module _ {S : Type 0} (g : Ghosts S) (shut : (s : S) → (g.view s).is_clean ≡
   opens_keeper tables loads rests clean =
       let it = loads.opens clean rests in
       let same = it.2 (loads.stays clean (inl rests)) in
-      (it.0, same, record { ours = it.1; is_open = refl; faults = refl }, ap (λ (d : Database). kept_in d.trees) (same.now ∙ rests.settled))
+      (it.0, same, record { had_only_our_tables = it.1; is_open = refl; faults = refl }, ap (λ (d : Database). kept_in d.trees) (same.now ∙ rests.settled))
 
   pub migrates_keeper : (tables : Tables) → Loads old (state g last) (Ok tables) → RestsIn schema_1 old → Migrates g old (Ok (keeper tables))
   migrates_keeper tables loads rests clean =
       let it = loads.migrates clean rests in
-      (it.0, record { ours = it.1; is_open = refl; faults = refl }, it.2)
+      (it.0, record { had_only_our_tables = it.1; is_open = refl; faults = refl }, it.2)
 
   pub makes_keeper : (tables : Tables) → Loads old (state g last) (Ok tables) → IsBlank old → Makes g old (Ok (keeper tables))
   makes_keeper tables loads blank clean =
       let it = loads.makes clean blank in
-      (it.1, record { ours = it.0; is_open = refl; faults = refl }, made_nothing (state g last).now.trees it.1)
+      (it.1, record { had_only_our_tables = it.0; is_open = refl; faults = refl }, made_nothing (state g last).now.trees it.1)
 
   pub sound_keeper : (tables : Tables) → Loads old (state g last) (Ok tables) → IsTrue (are_only_ours tables) → IsTrue (state g last).is_open → IsSound g (keeper tables)
   sound_keeper tables loads own up = (own, sound_store (state g last) up (loads.ours (clean_up up) own) (λ db may. settled last.store db up may))

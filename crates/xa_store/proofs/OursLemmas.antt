@@ -1,6 +1,6 @@
 -- Tables that opening finds sound are those of a keeper, and tables as they are made are sound.
 use Rattle.std.proofs.Common.{◌≡◌, ℕ, ℤ, pos, Bool, true, false, ◌&&◌, cond, List, [], ◌∷◌, map, Option, Some, None, Result, Ok, Err, refl, sym, ap, subst, ◌∙◌, true≢false}
-use Rattle.xa_store.proofs.Common.{from_entries, AllByRecursion, list_all, IsDatabase, Row, column, State, Trees, IsSound, all_from_test, all_map, all_weaker, map-map, first_of_both, second_of_both, Datatype, int_of, is_domain_name, IsDocumentOf, nothing_kept, OpenError, Damaged, CheckedTable, Domains, Tokens, Documents, Roots, Sources, SchemaVersion, Schema2, are_counted, as_read, count_from, holds_int, is_assigned, is_count, is_digest, is_empty, is_left_empty, is_sound, is_sound_table, is_whole_row, checked, tables_in, known_next, opened, place_in, places_of, read_meta, sources_in, tree_of, placed_row_in, document_in, domain_in, meta_row, nat_of, next_in, root_in, token_in, AreDocuments, AreNumbered, AreTables, AreWhole, Ours, Rests, place_of, schema_2, domain_entry, rows_of, kept_in}
+use Rattle.xa_store.proofs.Common.{from_entries, AllByRecursion, list_all, IsDatabase, Row, column, State, Trees, IsSound, all_from_test, all_map, all_weaker, map-map, first_of_both, second_of_both, Datatype, int_of, is_domain_name, IsDocumentOf, nothing_kept, OpenError, Damaged, CheckedTable, Domains, Tokens, Documents, Roots, Sources, SchemaVersion, Schema2, are_counted, as_read, count_from, holds_int, is_assigned, is_count, is_digest, is_empty, is_left_empty, is_sound, is_sound_table, is_whole_row, checked, tables_in, known_next, opened, place_in, places_of, read_meta, sources_in, tree_of, placed_row_in, document_in, domain_in, meta_row, nat_of, next_in, root_in, token_in, AreDocuments, AreNumbered, HaveWrittenRows, HaveSoundColumns, IsKeepersStore, Rests, place_of, schema_2, domain_entry, rows_of, kept_in}
 use Rattle.xa_store.specs.Opening.{AreNewTables}
 use Rattle.xa_store.proofs.AreRowsLemmas.{domains_are, sources_are, tokens_are, whole}
 use Rattle.xa_store.proofs.ColumnLemmas.{root_texts, source_texts}
@@ -68,7 +68,7 @@ module _ (db : Trees) (next : ℤ) (live : IsSound schema_2 db) (known : known_n
   next_is : next ≡ next_in (db 0)
   next_is = sym (ap next_in meta)
 
-  tables : AreTables db
+  tables : HaveWrittenRows db
   tables = record {
     meta = subst (λ n. db 0 ≡ meta_row n ∷ []) next_is meta;
     domains = domains_are db next live all.0;
@@ -115,8 +115,8 @@ module _ (db : Trees) (next : ℤ) (live : IsSound schema_2 db) (known : known_n
   places : (n : ℤ) → count_from (pos 0) (places_of (map place_of (map placed_row_in (db 10))) n) ≡ true
   places n = ap (λ l. count_from (pos 0) (places_of l n)) (map-map place_of placed_row_in (db 10)) ∙ counted_each (map place_in (db 10)) (places_counted Schema2 db next sound) n
 
-  columns : AreWhole (rows_of db)
-  columns = subst (λ n. AreWhole (record (rows_of db) { next = n })) next_is (record {
+  columns : HaveSoundColumns (rows_of db)
+  columns = subst (λ n. HaveSoundColumns (record (rows_of db) { next = n })) next_is (record {
     next = next_counts Schema2 db next sound;
     domains = each Domains all.0 domain_in (IsWholeDomain next) domain_whole;
     tokens = each Tokens all.1.0 token_in (IsWholeToken next) token_whole;
@@ -134,7 +134,7 @@ module _ (db : Trees) (next : ℤ) (live : IsSound schema_2 db) (known : known_n
   documents : AreDocuments (rows_of db).documents
   documents = each Documents all.1.1.0 document_in (λ d. IsDocumentOf d.key d.text) (λ row whole. document_held next row whole)
 
-pub opened_ours : (s : State) → Rests s → IsDatabase s.now → opened Schema2 s.now.trees ≡ Ok tt → Ours s
+pub opened_ours : (s : State) → Rests s → IsDatabase s.now → opened Schema2 s.now.trees ≡ Ok tt → IsKeepersStore s
 opened_ours s rests live h =
     let is = found Schema2 s.now.trees h in
     let sound : IsSound schema_2 s.now.trees = subst (λ schema. IsSound schema s.now.trees) rests.schema live in

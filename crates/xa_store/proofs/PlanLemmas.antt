@@ -1,6 +1,6 @@
 -- What the plans of changes have in common.
 use Rattle.std.proofs.Common.{◌≡◌, inl, ℕ, ◌<◌, ◌≤◌, ℤ, pos, List, [], filter, Option, Some, None, option_map, Result, Ok, Err, refl, sym, ap, subst, ◌∙◌, arith}
-use Rattle.xa_store.proofs.Common.{get, IsKeyedBy, DomainState, ◌>>=◌, within, Becomes, Domain, Kept, IsChanged, IsNextEpoch, IsNextNumber, state_of, numbered_changed, DomainRow, nat_of, AreNumbered, AreWhole, Rows, state_at, domain_of, kept_of}
+use Rattle.xa_store.proofs.Common.{get, IsKeyedBy, DomainState, ◌>>=◌, within, Becomes, Domain, Kept, IsChanged, IsNextEpoch, IsNextNumber, state_of, numbered_changed, DomainRow, nat_of, AreNumbered, HaveSoundColumns, Rows, state_at, domain_of, kept_of}
 use Rattle.xa_records.specs.declared.refusal.Refusal.{Refusal}
 use Rattle.xa_store.specs.keeping.Steps.{AllowsAll, after_all, is_named}
 use Rattle.xa_store.specs.keeping.Turns.{Plans}
@@ -59,7 +59,7 @@ module _ (rows : Rows) (name : List ℕ) (d : DomainRow) (one : IsOnly name d ro
 
       -- steps that write that state
       pub planned : (steps : List Step) (epoch : ℤ) → IsKeyedBy number_of rows.domains → AllowsAll steps rows → Rewrote rows (after_all steps rows) d epoch target
-          → IsNextEpoch (state_at rows d.number) target (nat_of d.epoch) (nat_of epoch) → (AreWhole rows → AreWhole (after_all steps rows)) → Plans steps (within change) name rows
+          → IsNextEpoch (state_at rows d.number) target (nat_of d.epoch) (nat_of epoch) → (HaveSoundColumns rows → HaveSoundColumns (after_all steps rows)) → Plans steps (within change) name rows
       planned steps epoch up allows wrote next_epoch whole = record {
         allows = allows;
         made = (Some target, becomes, changed (after_all steps rows) epoch target up wrote next_epoch);

@@ -1,6 +1,6 @@
 -- The plan of a domain that is removed.
 use Rattle.std.proofs.Common.{◌≡◌, ◌≢◌, ℕ, ◌<◌, ℤ, pos, List, [], ◌∷◌, map, filter, find, not, Bool, true, false, cond, Option, Some, None, option_map, int_cmp, int_eq, slice_get, refl, sym, ap, subst, ◌∙◌, arith}
-use Rattle.xa_store.proofs.Common.{AllByRecursion, eq_by_cmp, get, ints, both_ways, IsKeyedBy, get_by, delete_where, sort_by, int_eq_apart, same_int, all_weaker, slice_get-filter, same_bytes, removed, compare_bytes, Domain, Becomes, IsChanged, IsNextNumber, numbered_changed, count_from, places_of, PlacedRow, DomainRow, RootRow, nat_of, reference_of, AreNumbered, AreWhole, place_of, Rows, sources_at, roles_of, library_of, root_at, source_of, state_at, domain_of, kept_of}
+use Rattle.xa_store.proofs.Common.{AllByRecursion, eq_by_cmp, get, ints, both_ways, IsKeyedBy, get_by, delete_where, sort_by, int_eq_apart, same_int, all_weaker, slice_get-filter, same_bytes, removed, compare_bytes, Domain, Becomes, IsChanged, IsNextNumber, numbered_changed, count_from, places_of, PlacedRow, DomainRow, RootRow, nat_of, reference_of, AreNumbered, HaveSoundColumns, place_of, Rows, sources_at, roles_of, library_of, root_at, source_of, state_at, domain_of, kept_of}
 use Rattle.xa_store.specs.declared.query.domain.FoundDomain.{FoundDomain}
 use Rattle.xa_store.specs.declared.step.Step.TheVariants.{DropDomain}
 use Rattle.xa_store.specs.keeping.Lookup.{IsDomain}
@@ -94,7 +94,7 @@ module _ (rows : Rows) (name : List ℕ) (d : DomainRow) (up : IsKeyedBy number_
   abbrev sorted : List PlacedRow → List ℤ
   sorted xs = sort_by int_cmp (map (λ (a : PlacedRow). a.place) xs)
 
-  places_left : AreWhole rows → (m : ℤ) → count_from (pos 0) (places_of (map place_of after.sources) m) ≡ true
+  places_left : HaveSoundColumns rows → (m : ℤ) → count_from (pos 0) (places_of (map place_of after.sources) m) ≡ true
   places_left whole m = ap (count_from (pos 0)) (places_at after.sources m) ∙ go (int_eq m d.number) refl
     where
       go : (b : Bool) → int_eq m d.number ≡ b → count_from (pos 0) (sorted (sources_at after.sources m)) ≡ true
@@ -106,7 +106,7 @@ module _ (rows : Rows) (name : List ℕ) (d : DomainRow) (up : IsKeyedBy number_
           let apart : m ≢ d.number = λ same. both_ways _ is (ap (λ k. int_eq k d.number) same ∙ own) in
           ap (λ l. count_from (pos 0) (sorted l)) (still_there (λ (a : PlacedRow). a.number) d.number m apart rows.sources) ∙ ap (count_from (pos 0)) (sym (places_at rows.sources m)) ∙ whole.places m
 
-  whole_left : AreWhole rows → AreWhole after
+  whole_left : HaveSoundColumns rows → HaveSoundColumns after
   whole_left whole = record {
     next = whole.next;
     domains = all_filter (IsWholeDomain rows.next) (λ x. not (of_number x)) rows.domains whole.domains;

@@ -1,6 +1,6 @@
 -- A keeper's own tables are such as opening finds sound.
 use Rattle.std.proofs.Common.{◌≡◌, ℕ, ℤ, ◌<ℤ◌, Bool, true, false, ◌&&◌, cond, bytes_eq, List, [], ◌∷◌, map, int_eq, int_lt, Option, Ok, Err, refl, sym, ap, subst, ◌∙◌, arith}
-use Rattle.xa_store.proofs.Common.{AllByRecursion, list_all, ints, is_eq-slice_cmp, Row, column, State, Trees, Int, Text, all_both, all_map, all_weaker, ascending-map, map-map, map_same, test_from_all, IsAscending, bytes_eq_refl, DocumentKey, version_text, Parsed, document_of, is_domain_name, IsDocumentOf, Damaged, CheckedTable, Domains, Tokens, Documents, Roots, Sources, Schema2, are_counted, are_rising, as_read, holds_key, holds_text_if_any, holds_value, is_assigned, is_bit, is_count, is_digest, is_empty, is_left_empty, is_pattern, is_sound, is_sound_table, is_version, is_whole_row, checked, tables_in, known_next, opened, place_in, read_meta, row_number, tree_of, is_utf8, PlacedRow, DocumentRow, DomainRow, RootRow, TokenRow, placed_row_in, placed_row, activity_number, document_in, document_row, domain_in, domain_row, issuer_columns, kind_number, next_in, role_number, root_in, root_row, token_in, token_row, type_number, value_text, AreDocuments, AreOurs, AreRows, AreTables, AreWhole, Ours, is_if_any, place_of, rows_of}
+use Rattle.xa_store.proofs.Common.{AllByRecursion, list_all, ints, is_eq-slice_cmp, Row, column, State, Trees, Int, Text, all_both, all_map, all_weaker, ascending-map, map-map, map_same, test_from_all, IsAscending, bytes_eq_refl, DocumentKey, version_text, Parsed, document_of, is_domain_name, IsDocumentOf, Damaged, CheckedTable, Domains, Tokens, Documents, Roots, Sources, Schema2, are_counted, are_rising, as_read, holds_key, holds_text_if_any, holds_value, is_assigned, is_bit, is_count, is_digest, is_empty, is_left_empty, is_pattern, is_sound, is_sound_table, is_version, is_whole_row, checked, tables_in, known_next, opened, place_in, read_meta, row_number, tree_of, is_utf8, PlacedRow, DocumentRow, DomainRow, RootRow, TokenRow, placed_row_in, placed_row, activity_number, document_in, document_row, domain_in, domain_row, issuer_columns, kind_number, next_in, role_number, root_in, root_row, token_in, token_row, type_number, value_text, AreDocuments, OpensSoundly, AreRows, HaveWrittenRows, HaveSoundColumns, IsKeepersStore, is_if_any, place_of, rows_of}
 use Rattle.xa_store.proofs.ColumnLemmas.{held_if_any, text_written}
 use Rattle.xa_store.proofs.ColumnNumbers.{of_activity, of_kind, of_role}
 use Rattle.xa_store.proofs.CountedLemmas.{each_counted}
@@ -83,7 +83,7 @@ module _ (db : Trees) (next : ℤ) (kind : CheckedTable) {X : Type 0} (write : X
 
 -- ---- all tables
 
-module _ (db : Trees) (tables : AreTables db) (documents : AreDocuments (rows_of db).documents) (whole : AreWhole (rows_of db)) where
+module _ (db : Trees) (tables : HaveWrittenRows db) (documents : AreDocuments (rows_of db).documents) (whole : HaveSoundColumns (rows_of db)) where
   abbrev next : ℤ
   next = next_in (db 0)
 
@@ -127,8 +127,8 @@ module _ (db : Trees) (tables : AreTables db) (documents : AreDocuments (rows_of
   pub tables_open : opened Schema2 db ≡ Ok tt
   tables_open = ap (λ rows. checked Schema2 db (known_next Schema2 (map read_meta rows))) tables.meta ∙ ap (λ b. cond b (Ok tt) (Err Damaged)) sound
 
-pub ours_open : (s : State) → Ours s → opened Schema2 s.now.trees ≡ Ok tt
+pub ours_open : (s : State) → IsKeepersStore s → opened Schema2 s.now.trees ≡ Ok tt
 ours_open s ours = tables_open s.now.trees ours.tables ours.documents ours.whole
 
-pub are_ours : (s : State) → Ours s → AreOurs s.now.trees
+pub are_ours : (s : State) → IsKeepersStore s → OpensSoundly s.now.trees
 are_ours s ours = record { database = ours.database; opens = ours_open s ours }

@@ -1,6 +1,6 @@
 -- What a crash has left is our tables, if it doesn't leave just anything.
 use Rattle.std.proofs.Common.{◌≡◌, ◌↔◌, Bool, true, false, Result, Ok, Err, IsTrue, refl, sym, ap, ◌∙◌}
-use Rattle.xa_store.proofs.Common.{Database, state, State, IsLive, Ghosts, Trees, OpenError, Schema2, opened, AreOurs, schema_2, kept_in}
+use Rattle.xa_store.proofs.Common.{Database, state, State, IsLive, Ghosts, Trees, OpenError, Schema2, opened, OpensSoundly, schema_2, kept_in}
 use Rattle.sqlite_catalog.proofs.ReadLemmas.{lists_once}
 use Rattle.sqlite_trees.specs.Objects.{catalog_tree}
 use Rattle.xa_store.specs.Keeper.{Keeper, IsKeeper, IsSound}
@@ -12,11 +12,11 @@ module _ (stopped new : State) (live : IsLive new) (over : IsOverRest stopped ne
   left = new.committed.trees
 
   -- else it would leave any map
-  ours : ¬ ¬ AreOurs left
+  ours : ¬ ¬ OpensSoundly left
   ours others = limited.1 (left, over.left, λ are. absurd (others are))
 
   -- one list of tables is that of one schema
-  schema_of : AreOurs left → new.now.schema ≡ schema_2
+  schema_of : OpensSoundly left → new.now.schema ≡ schema_2
   schema_of are =
       ap (λ (d : Database). d.schema) over.fresh.clean
       ∙ lists_once (left catalog_tree) new.committed.schema schema_2 (live over.fresh.is_open).1.lists are.database.lists
@@ -37,5 +37,5 @@ reopens stopped new live is tells over limited = record {
 }
 
 pub sound_while_open : {S : Type 0} (g : Ghosts S) → ((s : S) (db : Trees) → IsTrue (g.view s).is_open → g.recovers s db → db ≡ (g.view s).committed) → (k : Keeper S) → IsKeeper g k
-    → IsTrue k.ours → IsTrue (state g k.conn).is_open → IsSound g k
+    → IsTrue k.had_only_our_tables → IsTrue (state g k.conn).is_open → IsSound g k
 sound_while_open g settled k was own up = (own, sound_store (state g k.conn) up (was.0 own up) (λ db may. settled k.conn.store db up may))

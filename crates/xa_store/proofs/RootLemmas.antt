@@ -1,6 +1,6 @@
 -- What the query for a root finds.
 use Rattle.std.proofs.Common.{◌≡◌, ℕ, zero, suc, ℤ, List, [], ◌∷◌, map, Bool, int_eq, Option, option_and_then, refl, sym}
-use Rattle.xa_store.proofs.Common.{Row, column, State, Shown, Trees, Int, Text, IsPlain, understood, Term, col, reads_as, all_of, bytes_of, or_null, unless_null, null_back, DocumentKind, Reference, read_pattern, read_version, RootRow, root_row, root_in, given, kind_number, text_at, Ours, schema_2, rows_of, state_at}
+use Rattle.xa_store.proofs.Common.{Row, column, State, Shown, Trees, Int, Text, IsPlain, understood, Term, col, reads_as, all_of, bytes_of, or_null, unless_null, null_back, DocumentKind, Reference, read_pattern, read_version, RootRow, root_row, root_in, given, kind_number, text_at, IsKeepersStore, schema_2, rows_of, state_at}
 use Rattle.xa_store.specs.keeping.Lookup.{FindsOne}
 use Rattle.xa_store.specs.Rows.{reference_of}
 use Rattle.xa_store.specs.keeping.Columns.{TellsOne, root_told}
@@ -40,7 +40,7 @@ root_back : (r : RootRow) → root_told (show_root_row r) ≡ reference_of r
 unfolding reference_of
 root_back r = λ i. made_of ((of_kind r.kind).back i) r.id (text_shown r.texts 0 i) (text_shown r.texts 1 i) (text_shown r.texts 2 i)
 
-module _ (old new : State) (number : ℤ) (ours : Ours old) (rows : List Row) (shown : Shown show_root (Int number ∷ []) old new rows) where
+module _ (old new : State) (number : ℤ) (ours : IsKeepersStore old) (rows : List Row) (shown : Shown show_root (Int number ∷ []) old new rows) where
   abbrev db : Trees
   db = old.now.trees
 

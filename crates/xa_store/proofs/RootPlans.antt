@@ -1,6 +1,6 @@
 -- The plan of a root that is set.
 use Rattle.std.proofs.Common.{◌≡◌, ◌≢◌, inr, ◌+◌, ◌<◌, ◌^◌, ℕ, ℤ, List, [], Bool, true, false, not, cond, Option, Some, None, option_map, option_and_then, Ok, refl, sym, ap, subst, ◌∙◌, int_eq}
-use Rattle.xa_store.proofs.Common.{is_utf8, IsKeyedBy, get_by, insert_by, without_key, all-insert_by, int_eq_apart, Reference, pattern_text, read_pattern, read_version, version_text, within, root_set, DomainState, is_assigned, is_count, is_pattern, is_version, DomainRow, RootRow, given, nat_of, AreNumbered, AreRootTexts, AreWhole, is_if_any, Rows, root_at, state_at}
+use Rattle.xa_store.proofs.Common.{is_utf8, IsKeyedBy, get_by, insert_by, without_key, all-insert_by, int_eq_apart, Reference, pattern_text, read_pattern, read_version, version_text, within, root_set, DomainState, is_assigned, is_count, is_pattern, is_version, DomainRow, RootRow, given, nat_of, AreNumbered, AreRootTexts, HaveSoundColumns, is_if_any, Rows, root_at, state_at}
 use Rattle.xa_store.specs.declared.query.domain.FoundDomain.{FoundDomain}
 use Rattle.xa_store.specs.keeping.Lookup.{IsDomain}
 use Rattle.xa_store.specs.keeping.Plan.{HasRootTexts, RaisesTo, RootReads, root_steps}
@@ -54,7 +54,7 @@ allowed rows n e None = (tt, (tt, tt))
 allowed rows n e (Some root) = (tt, (tt, (tt, tt)))
 
 -- the columns after the steps
-whole_after : (rows : Rows) → AreWhole rows → (n e : ℤ) (root : Option Reference) → is_assigned rows.next n ≡ true → HasRootTexts n root → is_count e ≡ true → AreWhole (after_all (root_steps n e root) rows)
+whole_after : (rows : Rows) → HaveSoundColumns rows → (n e : ℤ) (root : Option Reference) → is_assigned rows.next n ≡ true → HasRootTexts n root → is_count e ≡ true → HaveSoundColumns (after_all (root_steps n e root) rows)
 whole_after rows whole n e None given texts counts =
     roots_whole rows whole (without_key root_key rows.roots n) (with_epoch n e rows.domains) (all_filter (IsWholeRoot rows.next) (λ r. not (int_eq r.number n)) rows.roots whole.roots) (epoch_whole rows whole n e counts)
 whole_after rows whole n e (Some root) given texts counts =

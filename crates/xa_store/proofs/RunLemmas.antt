@@ -1,6 +1,6 @@
 -- A change in its transaction: from the steps to the commit.
 use Rattle.std.proofs.Common.{◌≡◌, ◌⊎◌, inl, inr, List, true, false, Result, Ok, Err, IsTrue, OnErr, OnOk, refl, sym, ap, subst, ◌∙◌, arith}
-use Rattle.xa_store.proofs.Common.{both_ways, Database, Held, state, State, HasCleanDisk, KeepsCommit, Survives, Ghosts, Trees, Error, Failure, AreTables, IsOurDatabase, Ours, Rests, SameNow, rows_of}
+use Rattle.xa_store.proofs.Common.{both_ways, Database, Held, state, State, HasCleanDisk, KeepsCommit, Survives, Ghosts, Trees, Error, Failure, HaveWrittenRows, IsOurDatabase, IsKeepersStore, Rests, SameNow, rows_of}
 use Rattle.sqlite.specs.Steps.{FailsToCommit}
 use Rattle.xa_store.specs.declared.step.Step.{Step}
 use Rattle.xa_store.specs.keeping.Steps.{AllowsAll}
@@ -19,18 +19,18 @@ module _ {S : Type 0} (g : Ghosts S) (old mid last : Held S) (steps : List Step)
     clean_first : HasCleanDisk (state g last) → HasCleanDisk (state g old)
     clean_first clean = omega (arith, survived.clean, commits.clean)
 
-    inside : Ours (state g old) → IsInside begun
+    inside : IsKeepersStore (state g old) → IsInside begun
     inside ours = record { inside = refl; schema = ours.rests.schema; database = ours.database; tables = ours.tables }
 
-    all_taken : HasCleanDisk (state g last) → Ours (state g old) → AllowsAll steps (rows_of (state g old).now.trees) → Took steps begun (state g mid)
+    all_taken : HasCleanDisk (state g last) → IsKeepersStore (state g old) → AllowsAll steps (rows_of (state g old).now.trees) → Took steps begun (state g mid)
     all_taken clean ours allows = took (clean_before clean) (inside ours) allows
 
-    left : HasCleanDisk (state g last) → Ours (state g old) → AllowsAll steps (rows_of (state g old).now.trees) → (db : Trees) → (state g last).may_leave db → (state g old).may_leave db ⊎ Holds steps (rows_of (state g old).now.trees) db
+    left : HasCleanDisk (state g last) → IsKeepersStore (state g old) → AllowsAll steps (rows_of (state g old).now.trees) → (db : Trees) → (state g last).may_leave db → (state g old).may_leave db ⊎ Holds steps (rows_of (state g old).now.trees) db
     left clean ours allows db may = elim (commits.crash clean db may) [
       | inl earlier ↦ elim (survived.crash (clean_before clean) db earlier) [ inl first ↦ inl first | inr none ↦ absurd none ]
       | inr is ↦
           let all = all_taken clean ours allows in
-          inr (record { database = subst IsOurDatabase (sym is) all.within.database; tables = subst AreTables (sym is) all.within.tables; rows = ap rows_of is ∙ all.rows })
+          inr (record { database = subst IsOurDatabase (sym is) all.within.database; tables = subst HaveWrittenRows (sym is) all.within.tables; rows = ap rows_of is ∙ all.rows })
     ]
 
     ran : {X : Type 0} (x : X)
@@ -46,7 +46,7 @@ module _ {S : Type 0} (g : Ghosts S) (old mid last : Held S) (steps : List Step)
           record {
             is_open = shows.is_open;
             rests = record { schema = ap (λ (d : Database). d.schema) shows.now_is ∙ all.within.schema; settled = shows.now_is ∙ sym shows.committed_is; idle = shows.mode };
-            holds = record { database = subst IsOurDatabase (sym trees) all.within.database; tables = subst AreTables (sym trees) all.within.tables; rows = ap rows_of trees ∙ all.rows };
+            holds = record { database = subst IsOurDatabase (sym trees) all.within.database; tables = subst HaveWrittenRows (sym trees) all.within.tables; rows = ap rows_of trees ∙ all.rows };
           };
       same = λ clean rests up. tt;
       crash = λ clean up ours allows. left clean ours allows;

@@ -1,6 +1,6 @@
 -- What the query for a source finds.
 use Rattle.std.proofs.Common.{◌≡◌, ℤ, List, [], ◌∷◌, map, Bool, false, Ordering, is_eq, int_eq, int_cmp, refl, ap, ◌∙◌}
-use Rattle.xa_store.proofs.Common.{AllByRecursion, Row, column, State, Shown, Trees, Int, Text, IsPlain, understood, Term, col, reads_as, sort_by, all_of, all_weaker, map-map, IsAscending, last_key, value_cmp-Int, PlacedRow, placed_row, placed_row_in, issuer_columns, type_number, value_text, Ours, same_place, schema_2, rows_of, state_at, sources_at}
+use Rattle.xa_store.proofs.Common.{AllByRecursion, Row, column, State, Shown, Trees, Int, Text, IsPlain, understood, Term, col, reads_as, sort_by, all_of, all_weaker, map-map, IsAscending, last_key, value_cmp-Int, PlacedRow, placed_row, placed_row_in, issuer_columns, type_number, value_text, IsKeepersStore, same_place, schema_2, rows_of, state_at, sources_at}
 use Rattle.xa_store.specs.keeping.Columns.{source_told}
 use Rattle.xa_store.specs.keeping.Texts.{show_source}
 use Rattle.xa_store.proofs.FoundLemmas.{found_sorted, map_alike, read_back}
@@ -12,7 +12,7 @@ use Rattle.xa_store.proofs.TextLemmas.{is, show_source_is}
 pub source_plain : IsPlain (understood schema_2 show_source)
 source_plain = show_source_is.2
 
-module _ (old new : State) (number : ℤ) (ours : Ours old) (rows : List Row) (shown : Shown show_source (Int number ∷ []) old new rows) where
+module _ (old new : State) (number : ℤ) (ours : IsKeepersStore old) (rows : List Row) (shown : Shown show_source (Int number ∷ []) old new rows) where
   abbrev db : Trees
   db = old.now.trees
 

@@ -1,6 +1,6 @@
 -- The plan of a source that is set.
 use Rattle.std.proofs.Common.{◌≡◌, ◌≢◌, inr, ◌+◌, ◌<◌, ◌≤◌, ◌^◌, ◌<ℤ◌, ℕ, ℤ, pos, ◌+ℤ◌, not, List, [], ◌∷◌, ◌++◌, map, filter, length, Bool, true, false, cond, nat_le, bytes_eq, unwrap_or, Result, Ok, Err, is_gt, refl, sym, ap, subst, ◌∙◌, arith, int_eq, int_cmp, true≢false}
-use Rattle.xa_store.proofs.Common.{AllByRecursion, on, is_utf8, ints, is_eq-slice_cmp, IsKeyedBy, next_key, delete_where, sort_by, insert_sorted, Less-from_lt, int_eq_apart, same_int, all-append, all_weaker, ascending-append, filter_none, first_of_both, second_of_both, sort_by-map, bytes_eq_refl, type_of, printed, read, SourceRow, Quota, source_set, within, DomainState, state_of, count_from, holds_value, is_assigned, is_count, is_printed, is_value, places_of, type_numbered, PlacedRow, DomainRow, given, nat_of, type_number, AreNumbered, AreWhole, Rows, sources_at, kept_of, source_of, state_at}
+use Rattle.xa_store.proofs.Common.{AllByRecursion, on, is_utf8, ints, is_eq-slice_cmp, IsKeyedBy, next_key, delete_where, sort_by, insert_sorted, Less-from_lt, int_eq_apart, same_int, all-append, all_weaker, ascending-append, filter_none, first_of_both, second_of_both, sort_by-map, bytes_eq_refl, type_of, printed, read, SourceRow, Quota, source_set, within, DomainState, state_of, count_from, holds_value, is_assigned, is_count, is_printed, is_value, places_of, type_numbered, PlacedRow, DomainRow, given, nat_of, type_number, AreNumbered, HaveSoundColumns, Rows, sources_at, kept_of, source_of, state_at}
 use Rattle.xa_value.specs.declared.read_error.ReadError.{ReadError}
 use Rattle.xa_value.specs.declared.value.Value.{Value}
 use Rattle.xa_value.specs.declared.value.Value.TheVariants as value
@@ -237,7 +237,7 @@ module _ (rows : Rows) (name : List ℕ) (d : DomainRow) (one : IsOnly name d ro
   }
 
   -- the places of all domains count from 0
-  places_now : AreWhole rows → (m : ℤ) → count_from (pos 0) (places_of (map placed final.sources) m) ≡ true
+  places_now : HaveSoundColumns rows → (m : ℤ) → count_from (pos 0) (places_of (map placed final.sources) m) ≡ true
   places_now whole m = go (int_eq m d.number) refl
     where
       own_places : places_of (map placed final.sources) d.number ≡ map place_in (mine d.number final)
@@ -254,8 +254,8 @@ module _ (rows : Rows) (name : List ℕ) (d : DomainRow) (one : IsOnly name d ro
           let apart : m ≢ d.number = λ same. true≢false (sym (ap (λ k. int_eq k d.number) same ∙ own d.number) ∙ is) in
           ap (count_from (pos 0)) (places_at final.sources m ∙ ap (λ l. sort_by int_cmp (map place_in l)) (source_there m apart) ∙ sym (places_at rows.sources m)) ∙ whole.places m
 
-  whole_now : AreWhole rows → is_count epoch ≡ true → HaveTexts ss → AreWhole final
-  whole_now whole counts texts = subst AreWhole (sym shape) (record {
+  whole_now : HaveSoundColumns rows → is_count epoch ≡ true → HaveTexts ss → HaveSoundColumns final
+  whole_now whole counts texts = subst HaveSoundColumns (sym shape) (record {
     next = whole.next;
     domains = epoch_whole rows whole d.number epoch counts;
     tokens = whole.tokens;

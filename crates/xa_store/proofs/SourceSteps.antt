@@ -1,6 +1,6 @@
 -- What the statements on the rows of sources make of the rows.
 use Rattle.std.proofs.Common.{◌≡◌, ℕ, ℤ, List, [], ◌∷◌, ◌++◌, map, filter, Bool, true, false, refl, sym, ap, ◌∙◌, int_eq, Ok}
-use Rattle.xa_store.proofs.Common.{Chosen, State, Executes, col, Trees, Null, Int, Text, Eq, cast_row, with_rowid, next_rowid, next_key, delete_where, all_of, or_null, at_ints, last_term, SourceRow, PlacedRow, placed_row, placed_row_in, type_number, value_text, AreTables, schema_2, sources}
+use Rattle.xa_store.proofs.Common.{Chosen, State, Executes, col, Trees, Null, Int, Text, Eq, cast_row, with_rowid, next_rowid, next_key, delete_where, all_of, or_null, at_ints, last_term, SourceRow, PlacedRow, placed_row, placed_row_in, type_number, value_text, HaveWrittenRows, schema_2, sources}
 use Rattle.xa_store.specs.declared.step.Step.TheVariants.{AddSourceRow, DropSource}
 use Rattle.xa_store.specs.keeping.Steps.{ReadsBack, is_place}
 use Rattle.xa_store.specs.keeping.Texts as text
@@ -25,7 +25,7 @@ placed_row_back a reads full =
     })
     ∙ ap (λ b. record a { is_full = b }) (sym full)
 
-module _ (old new : State) (has : old.now.schema ≡ schema_2) (count : ℕ) (was : AreTables old.now.trees) (n : ℤ) where
+module _ (old new : State) (has : old.now.schema ≡ schema_2) (count : ℕ) (was : HaveWrittenRows old.now.trees) (n : ℤ) where
   abbrev db : Trees
   db = old.now.trees
 

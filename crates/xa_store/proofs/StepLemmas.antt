@@ -1,6 +1,6 @@
 -- What the statements on domains, on roots and on the next number make of the rows.
 use Rattle.std.proofs.Common.{◌≡◌, ℕ, ℤ, pos, List, [], ◌∷◌, map, Bool, true, false, cond, Option, Some, None, Ok, refl, sym, ap, subst, ◌∙◌, arith, int_eq}
-use Rattle.xa_store.proofs.Common.{AllByRecursion, Row, Chosen, State, Executes, col, lit, Value, Null, Int, Text, Eq, cast_row, with_rowid, insert_by, update_where, delete_where, AreApart, all_of, IsKeyedBy-insert_by, at_most_one, bytes_of, or_null, unless_null, at_ints, last_term, null_back, DocumentKind, Reference, DomainRow, RootRow, meta_row, next_in, domain_row, domain_in, root_row, root_in, root_of, kind_number, AreTables, IsOurDatabase, schema_2, meta, domains, roots, rows_of}
+use Rattle.xa_store.proofs.Common.{AllByRecursion, Row, Chosen, State, Executes, col, lit, Value, Null, Int, Text, Eq, cast_row, with_rowid, insert_by, update_where, delete_where, AreApart, all_of, IsKeyedBy-insert_by, at_most_one, bytes_of, or_null, unless_null, at_ints, last_term, null_back, DocumentKind, Reference, DomainRow, RootRow, meta_row, next_in, domain_row, domain_in, root_row, root_in, root_of, kind_number, HaveWrittenRows, IsOurDatabase, schema_2, meta, domains, roots, rows_of}
 use Rattle.sqlite.specs.Cast.{cast}
 use Rattle.sqlite.specs.Kind.TheVariants.{Integer, Text as TextKind}
 use Rattle.sqlite.specs.Ops.{unary}
@@ -70,7 +70,7 @@ pub record Stepped (old new : State) (step : Step) : Type 0 where
   pub database : IsOurDatabase new.now.trees
   pub tables : Hold new.now.trees (after step (rows_of old.now.trees))
 
-module _ (old new : State) (has : old.now.schema ≡ schema_2) (count : ℕ) (was : AreTables old.now.trees) where
+module _ (old new : State) (has : old.now.schema ≡ schema_2) (count : ℕ) (was : HaveWrittenRows old.now.trees) where
   abbrev db : Rattle.sqlite.specs.Tree.Trees
   db = old.now.trees
 

@@ -1,6 +1,6 @@
 -- What the queries on tokens find.
 use Rattle.std.proofs.Common.{◌≡◌, ℕ, ℤ, List, [], ◌∷◌, map, length, false, Ordering, is_eq, int_eq, Option, refl, sym, ap, ◌∙◌}
-use Rattle.xa_store.proofs.Common.{entries, len, len-entries, length-map, Row, State, Shown, Trees, Int, Blob, IsPlain, understood, col, reads_as, sort_by, all_of, map-map, map_same, IsAscending, last_key, value_cmp-Blob, Role, compare_bytes, token_of, bytes_total, TokenRow, token_row, token_in, role_number, Ours, same_token, schema_2, rows_of, state_at, tokens_at, token_entry}
+use Rattle.xa_store.proofs.Common.{entries, len, len-entries, length-map, Row, State, Shown, Trees, Int, Blob, IsPlain, understood, col, reads_as, sort_by, all_of, map-map, map_same, IsAscending, last_key, value_cmp-Blob, Role, compare_bytes, token_of, bytes_total, TokenRow, token_row, token_in, role_number, IsKeepersStore, same_token, schema_2, rows_of, state_at, tokens_at, token_entry}
 use Rattle.xa_records.specs.declared.gate.Token.{Token}
 use Rattle.xa_store.specs.keeping.Lookup.{FindsRole}
 use Rattle.xa_store.specs.keeping.Columns.{TellsOne, role_told, token_told}
@@ -21,7 +21,7 @@ tokens_plain = show_tokens_is.2
 
 -- ---- the role of one
 
-module _ (old new : State) (number : ℤ) (digest : List ℕ) (ours : Ours old) (rows : List Row) (shown : Shown show_role (Int number ∷ Blob digest ∷ []) old new rows) where
+module _ (old new : State) (number : ℤ) (digest : List ℕ) (ours : IsKeepersStore old) (rows : List Row) (shown : Shown show_role (Int number ∷ Blob digest ∷ []) old new rows) where
   abbrev db : Trees
   db = old.now.trees
 
@@ -40,7 +40,7 @@ module _ (old new : State) (number : ℤ) (digest : List ℕ) (ours : Ours old) 
 
 -- ---- all of a domain
 
-module _ (old new : State) (number : ℤ) (ours : Ours old) (rows : List Row) (shown : Shown show_tokens (Int number ∷ []) old new rows) where
+module _ (old new : State) (number : ℤ) (ours : IsKeepersStore old) (rows : List Row) (shown : Shown show_tokens (Int number ∷ []) old new rows) where
   abbrev trees : Trees
   trees = old.now.trees
 

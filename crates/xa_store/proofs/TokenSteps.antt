@@ -1,6 +1,6 @@
 -- What the statements on tokens make of the rows.
 use Rattle.std.proofs.Common.{◌≡◌, ℕ, ℤ, List, [], ◌∷◌, ◌++◌, map, filter, true, false, ◌&&◌, Ok, refl, sym, ap, ◌∙◌, int_eq}
-use Rattle.xa_store.proofs.Common.{eq_by_cmp, and_parts, and_from, Chosen, State, Executes, col, Trees, Null, Int, Blob, Eq, cast_row, with_rowid, next_rowid, next_key, update_where, delete_where, all_of, all_weaker, same_int, at_ints, at_blobs, then_term, last_term, same_bytes, bytes_eq_refl, Role, compare_bytes, TokenRow, role_number, token_row, token_in, AreTables, same_token, schema_2, tokens}
+use Rattle.xa_store.proofs.Common.{eq_by_cmp, and_parts, and_from, Chosen, State, Executes, col, Trees, Null, Int, Blob, Eq, cast_row, with_rowid, next_rowid, next_key, update_where, delete_where, all_of, all_weaker, same_int, at_ints, at_blobs, then_term, last_term, same_bytes, bytes_eq_refl, Role, compare_bytes, TokenRow, role_number, token_row, token_in, HaveWrittenRows, same_token, schema_2, tokens}
 use Rattle.xa_store.specs.declared.step.Step.TheVariants.{AddToken, SetRole, DropToken}
 use Rattle.xa_store.specs.keeping.Steps.{is_token}
 use Rattle.xa_store.specs.keeping.Texts as text
@@ -32,7 +32,7 @@ tokens_alike n g a b here there =
     let digest : a.digest ≡ b.digest = sym (same_bytes g a.digest p.1) ∙ same_bytes g b.digest q.1 in
     and_from _ _ (ap (λ k. int_eq k b.number) number ∙ own_number b.number) (ap (λ d. eq_by_cmp compare_bytes d b.digest) digest ∙ bytes_eq_refl b.digest)
 
-module _ (old new : State) (has : old.now.schema ≡ schema_2) (count : ℕ) (was : AreTables old.now.trees) (n : ℤ) (g : List ℕ) where
+module _ (old new : State) (has : old.now.schema ≡ schema_2) (count : ℕ) (was : HaveWrittenRows old.now.trees) (n : ℤ) (g : List ℕ) where
   abbrev db : Trees
   db = old.now.trees
 

@@ -1,6 +1,6 @@
 -- A change that was planned by queries and then run.
 use Rattle.std.proofs.Common.{◌≡◌, ◌⊎◌, inl, inr, ℕ, List, Result, Ok, Err, IsTrue, IfErr, IfOk, sym, ap, subst, ◌∙◌}
-use Rattle.xa_store.proofs.Common.{Database, Held, state, Ghosts, State, HasCleanDisk, Trees, ChangeError, Failure, Change, IfAnswered, IsMade, AreDocuments, AreNumbered, AreOurs, AreWhole, Ours, SameNow, Rows, rows_of, kept_of, kept_in}
+use Rattle.xa_store.proofs.Common.{Database, Held, state, Ghosts, State, HasCleanDisk, Trees, ChangeError, Failure, Change, IfAnswered, IsMade, AreDocuments, AreNumbered, OpensSoundly, HaveSoundColumns, IsKeepersStore, SameNow, Rows, rows_of, kept_of, kept_in}
 use Rattle.xa_records.specs.declared.refusal.ChangeError.TheVariants.{Failed, Refused}
 use Rattle.xa_store.specs.declared.step.Step.{Step}
 use Rattle.xa_store.specs.keeping.Quiet.{Quiet}
@@ -13,7 +13,7 @@ use Rattle.xa_store.proofs.TextsKept.{documents_kept}
 
 module _ (change : Change) (name : List ℕ) (old mid new : State) (quiet : Quiet old mid) where
   -- a change that isn't made
-  pub unmade : (Y : Type 0) (planned : ChangeError) → (HasCleanDisk mid → IfAnswered {X = Y} (Err planned) (IsTrue mid.is_open)) → (HasCleanDisk mid → Ours old → IsPlanned change name (rows_of old.now.trees) (Err planned))
+  pub unmade : (Y : Type 0) (planned : ChangeError) → (HasCleanDisk mid → IfAnswered {X = Y} (Err planned) (IsTrue mid.is_open)) → (HasCleanDisk mid → IsKeepersStore old → IsPlanned change name (rows_of old.now.trees) (Err planned))
       → {X : Type 0} → Turns {X = X} change name old mid (Err planned)
   unmade Y (Refused e) opens planned = record {
     was_open = λ clean up. quiet.was_open up;
@@ -32,18 +32,18 @@ module _ (change : Change) (name : List ℕ) (old mid new : State) (quiet : Quie
     leaves = λ clean ours db may. inl (quiet.crash clean ours.rests db may);
   }
 
-  module _ (steps : List Step) (opens : HasCleanDisk mid → IsTrue mid.is_open) (planned : HasCleanDisk mid → Ours old → Plans steps change name (rows_of old.now.trees)) where
+  module _ (steps : List Step) (opens : HasCleanDisk mid → IsTrue mid.is_open) (planned : HasCleanDisk mid → IsKeepersStore old → Plans steps change name (rows_of old.now.trees)) where
     same_rows : (same : SameNow old mid) → rows_of mid.now.trees ≡ rows_of old.now.trees
     same_rows same = ap (λ (d : Database). rows_of d.trees) same.now
 
     made_of : Plans steps change name (rows_of old.now.trees) → (db : Trees) → Holds steps (rows_of old.now.trees) db → IsMade change name (kept_in old.now.trees) (kept_in db)
     made_of plan db holds = subst (λ rows. IsMade change name (kept_in old.now.trees) (kept_of rows)) (sym holds.rows) plan.made
 
-    module _ (clean : HasCleanDisk mid) (ours : Ours old) where
+    module _ (clean : HasCleanDisk mid) (ours : IsKeepersStore old) where
       here : SameNow old mid
       here = quiet.same clean ours.rests (opens clean)
 
-      ours_here : Ours mid
+      ours_here : IsKeepersStore mid
       ours_here = ours_after old mid ours here
 
       allowed : AllowsAll steps (rows_of mid.now.trees)
@@ -56,10 +56,10 @@ module _ (change : Change) (name : List ℕ) (old mid new : State) (quiet : Quie
       documents_after : (db : Trees) → Holds steps (rows_of mid.now.trees) db → AreDocuments (rows_of db).documents
       documents_after db holds = subst (λ (rows : Rows). AreDocuments rows.documents) (sym (held db holds).rows) (documents_kept steps (rows_of old.now.trees) (planned clean ours).allows ours.documents)
 
-      whole_after : (db : Trees) → Holds steps (rows_of mid.now.trees) db → AreWhole (rows_of db)
-      whole_after db holds = subst AreWhole (sym (held db holds).rows) ((planned clean ours).whole ours.whole)
+      whole_after : (db : Trees) → Holds steps (rows_of mid.now.trees) db → HaveSoundColumns (rows_of db)
+      whole_after db holds = subst HaveSoundColumns (sym (held db holds).rows) ((planned clean ours).whole ours.whole)
 
-      ours_made : Made steps mid new → Ours new
+      ours_made : Made steps mid new → IsKeepersStore new
       ours_made made = record {
         rests = made.rests;
         database = made.holds.database;
@@ -69,10 +69,10 @@ module _ (change : Change) (name : List ℕ) (old mid new : State) (quiet : Quie
         whole = whole_after new.now.trees made.holds;
       }
 
-      ours_left : (db : Trees) → Holds steps (rows_of mid.now.trees) db → AreOurs db
+      ours_left : (db : Trees) → Holds steps (rows_of mid.now.trees) db → OpensSoundly db
       ours_left db holds = record { database = holds.database; opens = tables_open db holds.tables (documents_after db holds) (whole_after db holds) }
 
-      left : (db : Trees) → mid.may_leave db ⊎ Holds steps (rows_of mid.now.trees) db → old.may_leave db ⊎ (AreOurs db × IsMade change name (kept_in old.now.trees) (kept_in db))
+      left : (db : Trees) → mid.may_leave db ⊎ Holds steps (rows_of mid.now.trees) db → old.may_leave db ⊎ (OpensSoundly db × IsMade change name (kept_in old.now.trees) (kept_in db))
       left db (inl may) = inl (quiet.crash clean ours.rests db may)
       left db (inr holds) = inr (ours_left db holds, made_of (planned clean ours) db (held db holds))
 
@@ -104,7 +104,7 @@ module _ (change : Change) (name : List ℕ) (old mid new : State) (quiet : Quie
 -- a plan that is carried out, if there is one
 module _ {S : Type 0} (g : Ghosts S) (change : Change) (name : List ℕ) (old mid new : Held S) (quiet : Quiet (state g old) (state g mid)) where
   pub carried : (planned : Result (List Step) ChangeError) → (HasCleanDisk (state g mid) → IfAnswered planned (IsTrue (state g mid).is_open))
-      → (HasCleanDisk (state g mid) → Ours (state g old) → IsPlanned change name (rows_of (state g old).now.trees) planned) → (result : Result (Unit {0}) ChangeError)
+      → (HasCleanDisk (state g mid) → IsKeepersStore (state g old) → IsPlanned change name (rows_of (state g old).now.trees) planned) → (result : Result (Unit {0}) ChangeError)
       → IfOk planned (λ steps. (ran : Result (Unit {0}) Failure) × Runs steps (state g mid) (state g new) ran × (result ≡ answer_of ran)) → IfErr planned (λ error. (new ≡ mid) × (result ≡ Err error))
       → Turns change name (state g old) (state g new) result
   carried (Ok steps) opens plans result (ran, runs, is) keeps =

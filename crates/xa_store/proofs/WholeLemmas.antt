@@ -1,6 +1,6 @@
 -- The columns of all rows hold what they should, also after rows have come, gone and changed.
 use Rattle.std.proofs.Common.{◌≡◌, ℕ, ◌+◌, ◌<◌, ◌^◌, ℤ, pos, negsuc, true, List, map, nat_lt, int_eq, int_le, int_lt, int_cmp, ap, subst, ◌∙◌, arith}
-use Rattle.xa_store.proofs.Common.{AllByRecursion, nat_tests, ints, insert_by, sort_by, all-insert_by, all_weaker, filter-map, map-map, first_of_both, second_of_both, is_domain_name, SourcePlace, is_assigned, is_count, is_digest, places_of, DomainRow, TokenRow, DocumentRow, RootRow, PlacedRow, nat_of, AreRootTexts, AreSourceTexts, AreWhole, place_of, Rows, sources_at}
+use Rattle.xa_store.proofs.Common.{AllByRecursion, nat_tests, ints, insert_by, sort_by, all-insert_by, all_weaker, filter-map, map-map, first_of_both, second_of_both, is_domain_name, SourcePlace, is_assigned, is_count, is_digest, places_of, DomainRow, TokenRow, DocumentRow, RootRow, PlacedRow, nat_of, AreRootTexts, AreSourceTexts, HaveSoundColumns, place_of, Rows, sources_at}
 use Rattle.xa_store.specs.keeping.Steps.{is_named, with_epoch}
 use Rattle.xa_store.proofs.ChangeLemmas.{IsOnly}
 use Rattle.xa_store.proofs.RiseLemmas.{both_true, lt_trans}
@@ -53,7 +53,7 @@ places_at xs n =
 
 -- ---- all rows
 
-module _ (rows : Rows) (whole : AreWhole rows) where
+module _ (rows : Rows) (whole : HaveSoundColumns rows) where
   -- the row of a domain that was found
   pub its_domain : (name : List ℕ) (d : DomainRow) → IsOnly name d rows → IsWholeDomain rows.next d
   its_domain name d one = (subst (AllByRecursion (IsWholeDomain rows.next)) one (all_filter (IsWholeDomain rows.next) (is_named name) rows.domains whole.domains)).0
@@ -61,23 +61,23 @@ module _ (rows : Rows) (whole : AreWhole rows) where
   pub epoch_whole : (n e : ℤ) → is_count e ≡ true → AllByRecursion (IsWholeDomain rows.next) (with_epoch n e rows.domains)
   epoch_whole n e counts = all_update (IsWholeDomain rows.next) (λ d. int_eq d.number n) (λ d. record d { epoch = e }) (λ d h. (h.0, h.1, counts)) rows.domains whole.domains
 
-  pub tokens_whole : (tokens : List TokenRow) → AllByRecursion (IsWholeToken rows.next) tokens → AreWhole (record rows { tokens = tokens })
+  pub tokens_whole : (tokens : List TokenRow) → AllByRecursion (IsWholeToken rows.next) tokens → HaveSoundColumns (record rows { tokens = tokens })
   tokens_whole tokens all =
       record { next = whole.next; domains = whole.domains; tokens = all; documents = whole.documents; roots = whole.roots; sources = whole.sources; places = whole.places }
 
   pub documents_whole : (documents : List DocumentRow) (domains : List DomainRow) → AllByRecursion (IsWholeDocument rows.next) documents → AllByRecursion (IsWholeDomain rows.next) domains
-      → AreWhole (record rows { documents = documents; domains = domains })
+      → HaveSoundColumns (record rows { documents = documents; domains = domains })
   documents_whole documents domains all named =
       record { next = whole.next; domains = named; tokens = whole.tokens; documents = all; roots = whole.roots; sources = whole.sources; places = whole.places }
 
   pub roots_whole : (roots : List RootRow) (domains : List DomainRow) → AllByRecursion (IsWholeRoot rows.next) roots → AllByRecursion (IsWholeDomain rows.next) domains
-      → AreWhole (record rows { roots = roots; domains = domains })
+      → HaveSoundColumns (record rows { roots = roots; domains = domains })
   roots_whole roots domains all named =
       record { next = whole.next; domains = named; tokens = whole.tokens; documents = whole.documents; roots = all; sources = whole.sources; places = whole.places }
 
   -- a domain comes, and the next number is a greater one
   pub created_whole : (later : ℤ) (made : DomainRow) → is_count later ≡ true → int_lt rows.next later ≡ true → IsWholeDomain later made
-      → AreWhole (record rows { next = later; domains = insert_by (λ d. d.number) rows.domains made })
+      → HaveSoundColumns (record rows { next = later; domains = insert_by (λ d. d.number) rows.domains made })
   created_whole later made counts up own = record {
     next = counts;
     domains = all-insert_by (λ (d : DomainRow). d.number) (IsWholeDomain later) rows.domains made own

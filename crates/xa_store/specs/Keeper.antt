@@ -5,7 +5,7 @@ use Rattle.sqlite.specs.Held.{Held, held_code, state}
 use Rattle.sqlite.specs.Store.{Ghosts}
 use Rattle.xa_store.specs.declared.keeper.tables.Tables.{Tables}
 use Rattle.xa_store.specs.declared.keeper.tables.Tables.TheVariants.{OnlyOurs, WithOthers}
-use Rattle.xa_store.specs.Sound.{IsSoundStore, Ours}
+use Rattle.xa_store.specs.Sound.{IsKeepersStore, IsSoundStore}
 
 -- the store has our tables as they are made, and no others
 abbrev pub are_only_ours : Tables → Bool
@@ -16,22 +16,22 @@ are_only_ours WithOthers = false
 -- store was not found to be shut; and how many calls failed with `Store`.
 pub record Keeper (S : Type 0) : Type 0 where
   pub conn : Held S
-  pub ours : Bool
+  pub had_only_our_tables : Bool
   pub is_open : Bool
   pub faults : ℕ
 
 abbrev pub keeper_code : {S : Type 0} → Coded S → Coded (Keeper S)
 keeper_code {S} store =
     code_by (Held S × (Bool × (Bool × ℕ))) (coded× (held_code store) (coded× coded_bool (coded× coded_bool coded_ℕ)))
-    (λ k. (k.conn, (k.ours, (k.is_open, k.faults))))
-    (λ p. record { conn = p.0; ours = p.1.0; is_open = p.1.1.0; faults = p.1.1.1 }) (λ _. refl)
+    (λ k. (k.conn, (k.had_only_our_tables, (k.is_open, k.faults))))
+    (λ p. record { conn = p.0; had_only_our_tables = p.1.0; is_open = p.1.1.0; faults = p.1.1.1 }) (λ _. refl)
 
 -- while its store is open the tables of a keeper of ours are as it writes them, and no keeper is told to be shut
 abbrev pub IsKeeper : {S : Type 0} → Ghosts S → Keeper S → Type 0
 IsKeeper g k =
-    (IsTrue k.ours → IsTrue (state g k.conn).is_open → Ours (state g k.conn))
+    (IsTrue k.had_only_our_tables → IsTrue (state g k.conn).is_open → IsKeepersStore (state g k.conn))
     × (IsTrue (state g k.conn).is_open → IsTrue k.is_open)
 
 -- the keeper has our tables and no others, and its store is sound
 abbrev pub IsSound : {S : Type 0} → Ghosts S → Keeper S → Type 0
-IsSound g k = IsTrue k.ours × IsSoundStore (state g k.conn)
+IsSound g k = IsTrue k.had_only_our_tables × IsSoundStore (state g k.conn)

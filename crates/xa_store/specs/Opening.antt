@@ -17,7 +17,7 @@ use Rattle.xa_store.specs.Keeper.{Keeper}
 use Rattle.xa_store.specs.Meaning.{kept_in, kept_in_schema_1}
 use Rattle.xa_store.specs.Opened.{opened}
 use Rattle.xa_store.specs.Rows.{meta_row}
-use Rattle.xa_store.specs.Sound.{AreOurs, IsOurDatabase, Rests, RestsIn, SameNow}
+use Rattle.xa_store.specs.Sound.{IsOurDatabase, OpensSoundly, Rests, RestsIn, SameNow}
 use Rattle.xa_store.specs.Tables.{meta_tree, schema_1, tree_of}
 
 abbrev pub no_tables : Schema
@@ -53,7 +53,7 @@ pub record AreNewTables (db : Trees) : Type 0 where
 
 -- tables of schema 2 that mean what those of schema 1 meant
 pub record IsMigrated (first db : Trees) : Type 0 where
-  pub ours : AreOurs db
+  pub sound : OpensSoundly db
   pub kept : kept_in db ≡ kept_in_schema_1 first
 
 -- the connection holds a keeper's tables, of either schema, or none
@@ -82,7 +82,7 @@ module _ {S : Type 0} (g : Ghosts S) where
 
   -- the keeper is one of our tables, told to be open, and no call of it has failed
   pub record IsFresh (k : Keeper S) : Type 0 where
-    pub ours : IsTrue k.ours
+    pub had_only_our_tables : IsTrue k.had_only_our_tables
     pub is_open : IsTrue k.is_open
     pub faults : k.faults ≡ 0
 
@@ -131,5 +131,5 @@ MayLeaveTables old db =
 -- a crash after it leaves what the keeper holds, in our tables
 abbrev pub Settles : {S : Type 0} → Ghosts S → Keeper S → Type 0
 Settles g k =
-    IsTrue k.ours → IsTrue (state g k.conn).is_open → (db : Trees) → (state g k.conn).may_leave db
-    → AreOurs db × (kept_in db ≡ kept_in (state g k.conn).now.trees)
+    IsTrue k.had_only_our_tables → IsTrue (state g k.conn).is_open → (db : Trees) → (state g k.conn).may_leave db
+    → OpensSoundly db × (kept_in db ≡ kept_in (state g k.conn).now.trees)

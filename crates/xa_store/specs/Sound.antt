@@ -51,7 +51,7 @@ pub record AreRows {X : Type 0} (write : X → Row) (read : Row → X) (rowid : 
   pub apart : AreApart same (map read rows)
 
 -- our tables, with rows as the keeper writes them
-pub record AreTables (db : Trees) : Type 0 where
+pub record HaveWrittenRows (db : Trees) : Type 0 where
   pub meta : db meta_tree ≡ meta_row (next_in (db meta_tree)) ∷ []
   pub domains : AreRows domain_row domain_in (λ d. d.number) same_name (db (tree_of Domains))
   pub tokens : AreRows token_row token_in (λ t. t.rowid) same_token (db (tree_of Tokens))
@@ -97,7 +97,7 @@ abbrev pub place_of : PlacedRow → SourcePlace
 place_of p = record { domain = p.number; index = p.place }
 
 -- the columns of all rows hold what they should, beside what is said above: so opening finds them sound
-pub record AreWhole (rows : Rows) : Type 0 where
+pub record HaveSoundColumns (rows : Rows) : Type 0 where
   pub next : is_count rows.next ≡ true
   pub domains : AllByRecursion
       (λ d. (is_assigned rows.next d.number ≡ true) × (is_domain_name d.name ≡ true) × (is_count d.epoch ≡ true))
@@ -115,7 +115,7 @@ abbrev pub IsOurDatabase : Trees → Type 0
 IsOurDatabase = ObeysRules schema_2
 
 -- our tables and no others, which opening finds sound
-pub record AreOurs (db : Trees) : Type 0 where
+pub record OpensSoundly (db : Trees) : Type 0 where
   pub database : IsOurDatabase db
   pub opens : opened Schema2 db ≡ Ok tt
 
@@ -138,21 +138,21 @@ pub record SameNow (old new : State) : Type 0 where
   pub idle : new.in_transaction ≡ false
 
 -- a connection that rests on our tables, which are as the keeper writes them
-pub record Ours (s : State) : Type 0 where
+pub record IsKeepersStore (s : State) : Type 0 where
   pub rests : Rests s
   pub database : IsOurDatabase s.now.trees
-  pub tables : AreTables s.now.trees
+  pub tables : HaveWrittenRows s.now.trees
   pub domains : AreNumbered (rows_of s.now.trees)
   pub documents : AreDocuments (rows_of s.now.trees).documents
-  pub whole : AreWhole (rows_of s.now.trees)
+  pub whole : HaveSoundColumns (rows_of s.now.trees)
 
 -- What a crash now may leave: what our tables mean, and of trees that aren't ours whatever one likes. So if this
 -- says that only some things may be left, it says that all trees that may be left are ours.
 abbrev pub LeavesKept : State → Kept → Type 0
-LeavesKept s left = (db : Trees) × s.may_leave db × (AreOurs db → left ≡ kept_in db)
+LeavesKept s left = (db : Trees) × s.may_leave db × (OpensSoundly db → left ≡ kept_in db)
 
 -- an open store of our tables, of which a crash leaves what it holds, in our tables
 pub record IsSoundStore (s : State) : Type 0 where
   pub is_open : IsTrue s.is_open
-  pub ours : Ours s
-  pub settled : (db : Trees) → s.may_leave db → AreOurs db × (kept_in db ≡ kept_in s.now.trees)
+  pub ours : IsKeepersStore s
+  pub settled : (db : Trees) → s.may_leave db → OpensSoundly db × (kept_in db ≡ kept_in s.now.trees)

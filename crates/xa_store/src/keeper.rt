@@ -2,7 +2,7 @@
 ghost use Rattle.std.specs.Prelude.{◌≡◌, true, IsTrue};
 ghost use Rattle.sqlite.specs.Held.{state};
 ghost use Rattle.xa_store.specs.Keeper.{are_only_ours};
-ghost use Rattle.xa_store.specs.Sound.{Ours};
+ghost use Rattle.xa_store.specs.Sound.{IsKeepersStore};
 
 pub(crate) mod health;
 pub(crate) mod laws;
@@ -35,7 +35,7 @@ impl<S: Alter> Model for SqlRecords<S> {
     ghost view = { λ r.
         record {
           conn = r.conn;
-          ours = are_only_ours r.tables;
+          had_only_our_tables = are_only_ours r.tables;
           is_open = r.health.is_open;
           faults = r.health.faults;
         } };
@@ -44,7 +44,7 @@ impl<S: Alter> Model for SqlRecords<S> {
         IsKeeper S.Store
         (record {
           conn = r.conn;
-          ours = are_only_ours r.tables;
+          had_only_our_tables = are_only_ours r.tables;
           is_open = r.health.is_open;
           faults = r.health.faults;
         }) };
@@ -54,9 +54,9 @@ impl<S: Alter> SqlRecords<S> {
     /// A keeper over the connection, no call of which has failed.
     pub(crate) fn over(conn: Connection<S>, tables: Tables) -> SqlRecords<S>
         requires { IsTrue (are_only_ours tables) → IsTrue (state S.Store conn).is_open
-            → Ours (state S.Store conn) }
+            → IsKeepersStore (state S.Store conn) }
         ensures { result
-            ≡ record { conn = conn; ours = are_only_ours tables; is_open = true; faults = 0 } }
+            ≡ record { conn = conn; had_only_our_tables = are_only_ours tables; is_open = true; faults = 0 } }
     {
         SqlRecords {
             conn,
@@ -68,7 +68,7 @@ impl<S: Alter> SqlRecords<S> {
     /// Whether its store had a keeper's tables and no others when it was opened. Only of such a keeper
     /// do the clauses of `Records` say what it holds.
     pub fn has_only_our_tables(&self) -> bool
-        ensures { result ≡ self.now.ours }
+        ensures { result ≡ self.now.had_only_our_tables }
     {
         self.tables.are_only_ours()
     }

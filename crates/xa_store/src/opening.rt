@@ -58,7 +58,7 @@ impl<S: Alter> SqlRecords<S> {
             (MayLeaveTables (state S.Store conn)) }
         ensures settled { IfOk result (Settles S.Store) }
         ensures sound { IfOk result (λ k.
-            IsTrue k.ours → IsTrue (state S.Store k.conn).is_open → IsSound S.Store k) }
+            IsTrue k.had_only_our_tables → IsTrue (state S.Store k.conn).is_open → IsSound S.Store k) }
         ensures stays { HasCleanDisk (state S.Store (held_in S.Store result)) → IsKnown (state S.Store conn)
             → IfOk result (λ k. IsTrue (state S.Store k.conn).is_open) }
     {

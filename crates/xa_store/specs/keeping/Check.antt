@@ -33,7 +33,7 @@ use Rattle.xa_store.specs.Opened.{int_in, is_number, is_whole_row, row_number, o
 use Rattle.xa_store.specs.Opening.{AreNewTables, GivesOrFails, IsBlank, IsFailure, IsKnown, IsMigrated}
 use Rattle.xa_store.specs.Opening.{IsRefusal, MayLeaveTables}
 use Rattle.xa_store.specs.Rows.{placed_row, placed_row_in}
-use Rattle.xa_store.specs.Sound.{AreRows, Ours, Rests, RestsIn, SameNow, same_place}
+use Rattle.xa_store.specs.Sound.{AreRows, IsKeepersStore, Rests, RestsIn, SameNow, same_place}
 use Rattle.xa_store.specs.Tables.{schema_1, tree_of}
 
 -- the query of all rows of the table, in the order of their rowids
@@ -379,5 +379,5 @@ pub record Loads (old new : State) (result : Result Tables OpenError) : Type 0 w
   pub migrates : HasCleanDisk new → RestsIn schema_1 old → MigratesAs old new result
   pub makes : HasCleanDisk new → IsBlank old → MakesAs old new result
   pub fails : IsBlank old → IfErr result IsFailure
-  pub ours : HasCleanDisk new → IfOk result (λ tables. IsTrue (are_only_ours tables) → Ours new)
+  pub ours : HasCleanDisk new → IfOk result (λ tables. IsTrue (are_only_ours tables) → IsKeepersStore new)
   pub stays : HasCleanDisk new → IsKnown old → OnOk result (IsTrue new.is_open)

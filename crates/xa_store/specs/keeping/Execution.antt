@@ -13,7 +13,7 @@ use Rattle.sqlite_typed.specs.Columns.{or_null}
 use Rattle.xa_records.specs.declared.refusal.Failure.{Failure}
 use Rattle.xa_store.specs.declared.step.Step.{Step}
 use Rattle.xa_store.specs.Meaning.{Rows, rows_of}
-use Rattle.xa_store.specs.Sound.{AreTables, IsOurDatabase, Ours, Rests, SameNow}
+use Rattle.xa_store.specs.Sound.{HaveWrittenRows, IsKeepersStore, IsOurDatabase, Rests, SameNow}
 use Rattle.xa_store.specs.keeping.Steps.{Allows, AllowsAll, after_all}
 use Rattle.xa_store.specs.Tables.{schema_2}
 
@@ -26,7 +26,7 @@ pub record IsInside (s : State) : Type 0 where
   pub inside : IsTrue s.in_transaction
   pub schema : s.now.schema ≡ schema_2
   pub database : IsOurDatabase s.now.trees
-  pub tables : AreTables s.now.trees
+  pub tables : HaveWrittenRows s.now.trees
 
 -- the steps were taken one after another, and the transaction goes on
 pub record Took (steps : List Step) (old new : State) : Type 0 where
@@ -66,7 +66,7 @@ module _ {S : Type 0} (g : Ghosts S) where
 -- the tables hold the rows that the steps leave
 pub record Holds (steps : List Step) (before : Rows) (db : Trees) : Type 0 where
   pub database : IsOurDatabase db
-  pub tables : AreTables db
+  pub tables : HaveWrittenRows db
   pub rows : rows_of db ≡ after_all steps before
 
 -- all the steps were taken, and committed
@@ -93,8 +93,8 @@ module _ {S : Type 0} (g : Ghosts S) where
 pub record Runs {X : Type 0} (steps : List Step) (old new : State) (result : Result X Failure) : Type 0 where
   pub was_open : HasCleanDisk new → IsTrue new.is_open → IsTrue old.is_open
   pub clean : HasCleanDisk new → HasCleanDisk old
-  pub made : HasCleanDisk new → IsTrue old.is_open → Ours old → AllowsAll steps (rows_of old.now.trees)
+  pub made : HasCleanDisk new → IsTrue old.is_open → IsKeepersStore old → AllowsAll steps (rows_of old.now.trees)
       → OnOk result (Made steps old new)
   pub same : HasCleanDisk new → Rests old → IsTrue new.is_open → OnErr result (SameNow old new)
-  pub crash : HasCleanDisk new → IsTrue old.is_open → Ours old → AllowsAll steps (rows_of old.now.trees)
+  pub crash : HasCleanDisk new → IsTrue old.is_open → IsKeepersStore old → AllowsAll steps (rows_of old.now.trees)
       → (db : Trees) → new.may_leave db → old.may_leave db ⊎ Holds steps (rows_of old.now.trees) db

@@ -24,7 +24,7 @@ use Rattle.xa_store.specs.declared.query.domain.FoundDomain.{FoundDomain}
 use Rattle.xa_store.specs.declared.step.Step.{Step}
 use Rattle.xa_store.specs.declared.step.Step.TheVariants.{AddDomain, SetNext, SetEpoch, AddRoot}
 use Rattle.xa_store.specs.declared.step.Step.TheVariants.{DropRoot, AddSourceRow, DropSource}
-use Rattle.xa_store.specs.Sound.{AreNumbered, AreRootTexts, AreSourceTexts, Ours}
+use Rattle.xa_store.specs.Sound.{AreNumbered, AreRootTexts, AreSourceTexts, IsKeepersStore}
 use Rattle.xa_store.specs.keeping.Steps.{ReadsBack}
 
 -- the steps that make a domain: it gets the number, and the next domain gets the one after it
@@ -91,7 +91,7 @@ module _ {S : Type 0} (g : Ghosts S) where
   -- the change is planned by what our tables held, in which the domain was found
   abbrev pub PlansFound : Change → FoundDomain → Held S → Held S → Result (List Step) ChangeError → Type 0
   PlansFound change found old new result =
-      HasCleanDisk (state g new) → Ours (state g old)
+      HasCleanDisk (state g new) → IsKeepersStore (state g old)
       → (name : List ℕ) → IsDomain name (rows_now (state g old)) found
       → IsPlanned change name (rows_now (state g old)) result
 

@@ -9,7 +9,7 @@ use Rattle.sqlite.specs.declared.error.Error.{Error}
 use Rattle.xa_records.specs.declared.refusal.ChangeError.{ChangeError}
 use Rattle.xa_records.specs.Keeper.{IfAnswered}
 use Rattle.xa_store.specs.Meaning.{Rows, rows_now}
-use Rattle.xa_store.specs.Sound.{Ours, Rests, SameNow}
+use Rattle.xa_store.specs.Sound.{IsKeepersStore, Rests, SameNow}
 
 -- An open connection was open before, and a clean one clean. Over our tables it holds what it held, and a crash now
 -- leaves what one might have left before.
@@ -48,9 +48,9 @@ module _ {S : Type 0} (g : Ghosts S) where
 
   -- the claim holds of the rows, if the tables are ours
   abbrev pub OverRows : Held S → Held S → (Rows → Type 0) → Type 0
-  OverRows old new claim = HasCleanDisk (state g new) → Ours (state g old) → claim (rows_now (state g old))
+  OverRows old new claim = HasCleanDisk (state g new) → IsKeepersStore (state g old) → claim (rows_now (state g old))
 
   -- what was read, if it was, stands so to the rows, if the tables are ours
   abbrev pub ReadsRows : {X E : Type 0} → Held S → Held S → Result X E → (Rows → X → Type 0) → Type 0
   ReadsRows old new result reads =
-      HasCleanDisk (state g new) → Ours (state g old) → IfOk result (reads (rows_now (state g old)))
+      HasCleanDisk (state g new) → IsKeepersStore (state g old) → IfOk result (reads (rows_now (state g old)))

@@ -10,7 +10,7 @@ ghost use Rattle.xa_store.specs.keeping.Lookup.{FindsDocument, IsDomain};
 ghost use Rattle.xa_store.specs.Meaning.{Rows, kept_in};
 ghost use Rattle.xa_store.specs.keeping.Plan.{IsUploadPlanned, PlansFound, PlansOver, number_key, upload_by};
 ghost use Rattle.xa_store.specs.keeping.Quiet.{OnlyReadsForChangeOver, OverRows};
-ghost use Rattle.xa_store.specs.Sound.{AreNumbered, Ours};
+ghost use Rattle.xa_store.specs.Sound.{AreNumbered, IsKeepersStore};
 ghost use Rattle.xa_store.specs.keeping.Turns.{PlansIn, Turns};
 
 use crate::change::found::{document_to_change, domain_to_change};
@@ -159,7 +159,8 @@ pub(crate) fn upload<S: Alter>(
     requires { IsDocumentOf key text.now }
     ensures turns { Turns (within (uploaded key text.now)) name.now
         (state S.Store conn.old) (state S.Store conn.new) result }
-    ensures which { HasCleanDisk (state S.Store conn.new) → Ours (state S.Store conn.old) → IfOk result (λ u.
+    ensures which { HasCleanDisk (state S.Store conn.new) → IsKeepersStore (state S.Store conn.old)
+        → IfOk result (λ u.
         u ≡ upload_of key (state_of name.now (kept_in (state S.Store conn.old).now.trees))) }
 {
     // Not by `carry_out`: whether the document is new is read off the steps.

@@ -14,7 +14,7 @@ use sqlite::{Alter, Connection};
 impl<S: Alter> SqlRecords<S> {
     /// Law: while its store is open, a keeper whose store had a keeper's tables and no others is sound.
     pub fn stays_sound_while_open(&self)
-        ensures { IsTrue self.now.ours → IsTrue (state S.Store self.now.conn).is_open
+        ensures { IsTrue self.now.had_only_our_tables → IsTrue (state S.Store self.now.conn).is_open
             → IsSound S.Store self.now }
     {
         // For the proof: what the invariant says of the fields.

@@ -12,4 +12,4 @@ returns-in-Ok-clause-nothing c =
 pub returns-in-Ok-clause-sound : goal.returns-in-Ok-clause-sound
 returns-in-Ok-clause-sound c =
     let made = c.in-Ok.ensures.makes (blank (state over_memory c.in_ok-conn.conn) c.in_ok-conn.ensures.empty) (memory_is_clean c.in-Ok.records.conn) in
-    c.in-Ok.ensures.sound made.1.ours refl
+    c.in-Ok.ensures.sound made.1.had_only_our_tables refl

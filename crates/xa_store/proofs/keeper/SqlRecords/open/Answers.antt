@@ -30,7 +30,7 @@ returns-in-Ok-clause-settled g c =
 
 pub returns-in-Ok-clause-sound : goal.returns-in-Ok-clause-sound
 returns-in-Ok-clause-sound g c =
-    subst (λ k. IsTrue k.ours → IsTrue (state g.S.Store k.conn).is_open → IsSound g.S.Store k) (sym c.over.ensures)
+    subst (λ k. IsTrue k.had_only_our_tables → IsTrue (state g.S.Store k.conn).is_open → IsSound g.S.Store k) (sym c.over.ensures)
     (sound_keeper g.S.Store g.met.S.Store.shut_if_dirty g.met.S.Store.settled (state g.S.Store c.args.conn) c.make_or_check.new.conn c.in-Ok.tables c.in-Ok.ensures.loads)
 
 pub returns-in-Err-clause-opens : goal.returns-in-Err-clause-opens
