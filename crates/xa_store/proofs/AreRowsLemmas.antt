@@ -1,6 +1,6 @@
 -- The rows of a sound table are those that a keeper writes: for any table, and for domains, tokens and the rows of sources.
 use Rattle.std.proofs.Common.{◌≡◌, ℕ, ℤ, Bool, true, false, List, [], ◌∷◌, map, drop, refl, subst, ◌∙◌}
-use Rattle.xa_store.proofs.Common.{AllByRecursion, Row, column, Schema, Table, Trees, Int, IsSound, IsKeyedBy, AreApart, all_both, all_from_test, all_of, all_unmap, all_weaker, first_of_both, second_of_both, Datatype, NotNull, Unique, agree, are_present, are_typed, clashes, passes, Eq, at_ints, at_texts, at_blobs, then_term, last_term, CheckedTable, Domains, Tokens, Attributes, Sources, as_read, is_sound_table, is_whole_row, row_number, tree_of, PlacedRow, DomainRow, TokenRow, placed_row_in, placed_row, domain_in, domain_row, token_in, token_row, AreRows, same_name, same_place, same_token, attributes, domains, schema_1, schema_2, rising, sources, tokens}
+use Rattle.xa_store.proofs.Common.{AllByRecursion, Row, column, Schema, Table, Trees, Int, IsSound, IsKeyedBy, AreApart, all_both, all_from_test, all_of, all_unmap, all_weaker, first_of_both, second_of_both, Datatype, NotNull, Unique, agree, are_present, are_typed, clashes, passes, Eq, at_ints, at_texts, at_blobs, then_term, last_term, CheckedTable, Domains, Tokens, Attributes, Sources, as_read, is_sound_table, is_whole_row, rowid_in, tree_of, PlacedRow, DomainRow, TokenRow, placed_row_in, placed_row, domain_in, domain_row, token_in, token_row, AreRows, same_name, same_place, same_token, attributes, domains, schema_1, schema_2, rising, sources, tokens}
 use Rattle.sqlite_schema.specs.declared.schema.Constraint.{Constraint}
 use Rattle.sqlite_value.specs.Keys.{first_key}
 use Rattle.xa_store.proofs.ShapedLemmas.{apart_from, domain_back, source_of_schema_1_back, free_of, keyed_from, places_agree, rows_ascend, source_back, token_back, written_from}
@@ -16,7 +16,7 @@ module _ (kind : CheckedTable) (next : ℤ) (db : Trees) (sound : is_sound_table
       all_unmap (λ r. is_whole_row kind next r ≡ true) (as_read kind) (db (tree_of kind))
       (all_from_test (is_whole_row kind next) (map (as_read kind) (db (tree_of kind))) (first_of_both _ _ sound))
 
-  module _ {X : Type 0} (write : X → Row) (reads : Row → X) (rowid_of : X → ℤ) (same : X → X → Bool) (numbered : (r : Row) → rowid_of (reads r) ≡ row_number r) where
+  module _ {X : Type 0} (write : X → Row) (reads : Row → X) (rowid_of : X → ℤ) (same : X → X → Bool) (numbered : (r : Row) → rowid_of (reads r) ≡ rowid_in r) where
     rise : IsKeyedBy rowid_of (map reads (db (tree_of kind)))
     rise = keyed_from rowid_of reads numbered (db (tree_of kind)) (rows_ascend kind (db (tree_of kind)) (second_of_both _ _ sound))
 

@@ -1,6 +1,6 @@
 -- The tables are checked one after another.
 use Rattle.std.proofs.Common.{◌≡◌, ℤ, Bool, true, false, ◌&&◌, cond, inl, inr, map, Option, Some, Result, Ok, Err, IsTrue, refl, sym, ap, subst, ◌∙◌, arith}
-use Rattle.xa_store.proofs.Common.{list_all, Database, IsDatabase, State, HasCleanDisk, Trees, IsSound, all_from_test, CheckedTable, Domains, Tokens, Documents, Roots, SchemaVersion, Schema1, Schema2, OpenError, NotThisSchema, Damaged, Store, Memory, are_counted, are_rising, as_read, is_count, is_left_empty, is_sound, is_sound_table, checked, tables_in, known_next, opened, place_in, read_meta, row_number, schema_of, sources_in, tree_of, RestsIn}
+use Rattle.xa_store.proofs.Common.{list_all, Database, IsDatabase, State, HasCleanDisk, Trees, IsSound, all_from_test, CheckedTable, Domains, Tokens, Documents, Roots, SchemaVersion, Schema1, Schema2, OpenError, NotThisSchema, Damaged, Store, Memory, are_counted, are_rising, as_read, is_count, is_left_empty, is_sound, is_sound_table, checked, tables_in, known_next, opened, place_in, read_meta, rowid_in, schema_of, sources_in, tree_of, RestsIn}
 use Rattle.xa_store.specs.keeping.Check.{has_table, AreSources, Asks, Checked, FindsRest, GivesAs, GivesNext, CheckedBy, TellsSound, Orders, Walked, Walks}
 use Rattle.xa_store.specs.Opening.{IsFailure}
 use Rattle.xa_store.proofs.AreRowsLemmas.{sources_of_schema_1_are, sources_are}
@@ -69,7 +69,7 @@ module _ (kind : CheckedTable) (next : ℤ) (a b : State) where
         let walks = first.finds between rests in
         let there = subst (λ (d : Database). Walks kind next d.trees (Ok tt)) (sym same.now) walks in
         let order = finds clean (rests_before a b c x first.asks between rests) next there in
-        walked_checks kind next a.now.trees r walks (subst (λ (d : Database). TellsSound (are_rising (map row_number (map (as_read kind) (d.trees (tree_of kind))))) r) same.now order);
+        walked_checks kind next a.now.trees r walks (subst (λ (d : Database). TellsSound (are_rising (map rowid_in (map (as_read kind) (d.trees (tree_of kind))))) r) same.now order);
   }
 
   pub table_stopped : {version : SchemaVersion} (e : OpenError) → Walked version kind next a b (Err e) → CheckedBy version (λ db. is_sound_table db next kind) a b (Err e)

@@ -1,6 +1,6 @@
 -- Tables that were brought into schema 2 are sound, and mean what those of schema 1 meant.
 use Rattle.std.proofs.Common.{◌≡◌, ℕ, ◌+◌, ◌<◌, ℤ, pos, true, ◌&&◌, cond, List, [], ◌∷◌, map, filter, int_cmp, int_eq, int_lt, Ok, Err, refl, sym, ap, subst, ◌∙◌, arith}
-use Rattle.xa_store.proofs.Common.{from_entries, list_all, on, ints, Database, Row, Trees, IsSound, sort_by, filter-map, map-map, map_same, first_of_both, second_of_both, sort_by-map, SourceRow, Damaged, CheckedTable, Domains, Tokens, Documents, Roots, Attributes, Sources, Schema1, Schema2, are_counted, are_rising, are_sound_rows, as_read, is_count, is_empty, is_left_empty, is_sound, is_sound_row, is_sound_table, is_whole_row, checked, tables_in, known_next, opened, place_in, read_meta, row_number, PlacedRow, DomainRow, placed_row_in, document_in, domain_in, meta_row, nat_of, next_in, root_in, token_in, unissued_in, sources_at, documents_at, domain_entry, rows_of_schema_1, kept_in_schema_1, library_of, roles_of, root_at, rows_of, source_of, state_at, tokens_at, kept_in}
+use Rattle.xa_store.proofs.Common.{from_entries, list_all, on, ints, Database, Row, Trees, IsSound, sort_by, filter-map, map-map, map_same, first_of_both, second_of_both, sort_by-map, SourceRow, Damaged, CheckedTable, Domains, Tokens, Documents, Roots, Attributes, Sources, Schema1, Schema2, are_counted, are_rising, are_sound_rows, as_read, is_count, is_empty, is_left_empty, is_sound, is_sound_row, is_sound_table, is_whole_row, checked, tables_in, known_next, opened, place_in, read_meta, rowid_in, PlacedRow, DomainRow, placed_row_in, document_in, domain_in, meta_row, nat_of, next_in, root_in, token_in, unissued_in, sources_at, documents_at, domain_entry, rows_of_schema_1, kept_in_schema_1, library_of, roles_of, root_at, rows_of, source_of, state_at, tokens_at, kept_in}
 use Rattle.xa_store.specs.keeping.Migration.{IsDone, IsSoundSchema1, moved_row, moved_rows}
 use Rattle.xa_store.specs.Opening.{IsMigrated}
 use Rattle.xa_store.proofs.MigratingLemmas.{its_meta}
@@ -21,11 +21,11 @@ module _ (next : ℤ) where
 below : (j k : ℕ) → j < k → int_lt (pos j) (pos k) ≡ true
 below j k less = grind (arith, ints)
 
-all_above : (j k : ℕ) (rows : List Row) → j < k → list_all (int_lt (pos j)) (map row_number (moved_rows k rows)) ≡ true
+all_above : (j k : ℕ) (rows : List Row) → j < k → list_all (int_lt (pos j)) (map rowid_in (moved_rows k rows)) ≡ true
 all_above j k [] less = refl
 all_above j k (row ∷ rows) less = both_true _ _ (below j k less) (all_above j (k + 1) rows (omega (arith, less)))
 
-rows_rise : (k : ℕ) (rows : List Row) → are_rising (map row_number (moved_rows k rows)) ≡ true
+rows_rise : (k : ℕ) (rows : List Row) → are_rising (map rowid_in (moved_rows k rows)) ≡ true
 rows_rise k [] = refl
 rows_rise k (row ∷ rows) = both_true _ _ (all_above k (k + 1) rows (omega arith)) (rows_rise (k + 1) rows)
 

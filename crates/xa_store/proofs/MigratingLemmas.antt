@@ -1,11 +1,11 @@
 -- What the statements make that bring schema 1 into schema 2.
 use Rattle.std.proofs.Common.{◌≡◌, ℕ, ◌+◌, ℤ, pos, ◌+ℤ◌, List, [], ◌∷◌, ◌++◌, map, true, false, Less, None, Ok, refl, sym, ap, subst, ◌∙◌, append-nil, append_assoc, arith, IsPermutation}
-use Rattle.xa_store.proofs.Common.{AllByRecursion, Row, column, overlay, Output, output_cmp, Chosen, State, Executes, col, Trees, Null, Int, Text, one_step, IsSound, Datatype, Enforced, IsSureAnswer, Eq, output_cmp_total, put_row, cast_row, numbered, put_all, with_rowid, IsKeyedBy, next_key, all_map, all_of, ascending-map, filter_none, map-map, second_of_both, sorted_unique, puts-map, at_ints, last_term, Attributes, Schema1, are_rising, is_number, row_number, PlacedRow, placed_row_in, placed_row, meta_row, meta_row_of, next_in, type_number, value_text, AreRows, same_place, attributes, schema_1, meta, schema_2, sources}
+use Rattle.xa_store.proofs.Common.{AllByRecursion, Row, column, overlay, Output, output_cmp, Chosen, State, Executes, col, Trees, Null, Int, Text, one_step, IsSound, Datatype, Enforced, IsSureAnswer, Eq, output_cmp_total, put_row, cast_row, numbered, put_all, with_rowid, IsKeyedBy, next_key, all_map, all_of, ascending-map, filter_none, map-map, second_of_both, sorted_unique, puts-map, at_ints, last_term, Attributes, Schema1, are_rising, is_number, rowid_in, PlacedRow, placed_row_in, placed_row, meta_row, meta_row_of, next_in, type_number, value_text, AreRows, same_place, attributes, schema_1, meta, schema_2, sources}
 use Rattle.std.proofs.lemmas.List.Sums.{fold-append}
 use Rattle.sqlite_rules.specs.Edit.{edit_of}
 use Rattle.xa_store.specs.declared.schema.migration.MigrationStep.{MigrationStep}
 use Rattle.xa_store.specs.declared.schema.migration.MigrationStep.TheVariants as steps
-use Rattle.xa_store.specs.keeping.Check.{HasNumbers}
+use Rattle.xa_store.specs.keeping.Check.{HasRowids}
 use Rattle.xa_store.specs.keeping.Migration.{IsAfter, IsBefore, IsSoundSchema1, moved_rows, migration_statement}
 use Rattle.xa_store.specs.keeping.Texts as text
 use Rattle.xa_store.proofs.ActionLemmas.{works_of_coming}
@@ -40,12 +40,12 @@ module _ (first : Trees) (sound : IsSoundSchema1 first) where
   pub its_rows : AreRows placed_row placed_row_in rowid_of same_place (first 8)
   its_rows = sources_of_schema_1_are first next sound.database (in_kind Schema1 first next (found Schema1 first sound.opens).2).1.1.1.1.0
 
-  numbers : HasNumbers Attributes first
+  numbers : HasRowids Attributes first
   numbers =
       subst (AllByRecursion (λ row. is_number (column row 0) ≡ true)) (sym its_rows.written)
       (all_map (λ row. is_number (column row 0) ≡ true) placed_row (map placed_row_in (first 8)) (all_of _ (λ a. refl) (map placed_row_in (first 8))))
 
-  up : are_rising (map row_number (first 8)) ≡ true
+  up : are_rising (map rowid_in (first 8)) ≡ true
   up =
       ap are_rising (sym (numbers_read Attributes (first 8)))
       ∙ second_of_both _ _ (in_kind Schema1 first next (found Schema1 first sound.opens).2).1.1.1.1.0

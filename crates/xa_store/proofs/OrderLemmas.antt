@@ -1,6 +1,6 @@
 -- What the query tells that compares the rowids of a table with the same in their order.
 use Rattle.std.proofs.Common.{◌≡◌, inl, inr, ℕ, suc, ℤ, Bool, true, false, not, cond, ◌==◌, if◌then◌else◌, List, [], ◌∷◌, ◌++◌, map, fold, flat_map, length, is_eq, Some, None, unwrap_or, Ok, refl, sym, ap, ap₂, subst, ◌∙◌, append-nil, append_assoc, true≢false, arith, SFits, w64, IsPermutation, Ordering, Less, Equal, Greater}
-use Rattle.xa_store.proofs.Common.{nat_cmp-IsAntisymmetric, slice_cmp-IsAntisymmetric, AllByRecursion, list_all, ordering_reverse, nat_tests, tied_itself, length-map, nil_from_length, All-permutation, IsPermutation-map, IsPermutation-sym, IsPermutation-trans, length_permutation, Collation, Binary, Row, column, overlay, Output, Query, output, output_cmp, State, Shown, Term, Env, lit, col, op1, op2, holds, eval, Trees, Value, Null, Int, Text, reads_as, all_map, all_weaker, ascending-map, map-map, map_same, first_of_both, sorted_unique, output_cmp_total, from_truth, not3, truth, IsSureAnswer, matches_as, Is, last_term, value_cmp-Text, value_cmp-Null, value_cmp_total, CheckedTable, Domains, Tokens, Documents, Roots, Attributes, Sources, SchemaVersion, are_rising, as_read, is_number, is_whole_row, row_number, schema_of, tree_of, RestsIn}
+use Rattle.xa_store.proofs.Common.{nat_cmp-IsAntisymmetric, slice_cmp-IsAntisymmetric, AllByRecursion, list_all, ordering_reverse, nat_tests, tied_itself, length-map, nil_from_length, All-permutation, IsPermutation-map, IsPermutation-sym, IsPermutation-trans, length_permutation, Collation, Binary, Row, column, overlay, Output, Query, output, output_cmp, State, Shown, Term, Env, lit, col, op1, op2, holds, eval, Trees, Value, Null, Int, Text, reads_as, all_map, all_weaker, ascending-map, map-map, map_same, first_of_both, sorted_unique, output_cmp_total, from_truth, not3, truth, IsSureAnswer, matches_as, Is, last_term, value_cmp-Text, value_cmp-Null, value_cmp_total, CheckedTable, Domains, Tokens, Documents, Roots, Attributes, Sources, SchemaVersion, are_rising, as_read, is_number, is_whole_row, rowid_in, schema_of, tree_of, RestsIn}
 use Rattle.std.specs.Fmt.{signed_decimal}
 use Rattle.std.specs.List.Sorted.{IsSorted}
 use Rattle.std.proofs.lemmas.List.Elements.{recursion_from_All, All-from_recursion}
@@ -12,7 +12,7 @@ use Rattle.sqlite_sql.specs.Text.{joined, text_in}
 use Rattle.sqlite_sql.specs.declared.aggregate.AggregateOp.TheVariants.{Concat}
 use Rattle.sqlite_sql.specs.declared.ops.UnaryOp.TheVariants.{Not}
 use Rattle.sqlite_value.specs.Order.{value_cmp}
-use Rattle.xa_store.specs.keeping.Check.{has_table, order_query, HasNumbers, Walks}
+use Rattle.xa_store.specs.keeping.Check.{has_table, order_query, HasRowids, Walks}
 use Rattle.xa_store.proofs.NumberTexts.{AreShort, later_text, same_numbers}
 use Rattle.xa_store.proofs.ReadLemmas.{bare, checked_sound, checked_up, head_read, int_back, numbers_read, rising, walked_numbers}
 use Rattle.xa_store.proofs.RisingTexts.{by_rowid, order_is, rising_query, sorted_query, sorted_tree, text_over}
@@ -111,7 +111,7 @@ passes_is a b = last_term (turned (is_eq (value_cmp a b)))
 mapped : (f : Row → Env) (term : Term) (rs : List Row) → map (eval term) (flat_map (λ r. f r ∷ []) rs) ≡ map (λ r. eval term (f r)) rs
 mapped f term rs = ap (map (eval term)) (each f rs) ∙ map-map (eval term) f rs
 
-ints_of : (rs : List Row) → Numbered rs → map (λ r. column r 0) rs ≡ map Int (map row_number rs)
+ints_of : (rs : List Row) → Numbered rs → map (λ r. column r 0) rs ≡ map Int (map rowid_in rs)
 ints_of [] all = refl
 ints_of (r ∷ rs) all = ap₂ (λ v vs. v ∷ vs) (int_back (column r 0) all.0) (ints_of rs all.1)
 
@@ -125,16 +125,16 @@ module _ (t : ℕ) (db : Trees) (rows : List Row) (beside : overlay db (rows ∷
   abbrev sorted_text : Value
   sorted_text = unwrap_or (value_over (matches_as Null both [] (inner sorted_tree end) ([] ∷ (kept_text ∷ []) ∷ [])) (text_over (col 2 1))) Null
 
-  kept_is : Numbered (db t) → kept_text ≡ number_text (map row_number (db t))
+  kept_is : Numbered (db t) → kept_text ≡ number_text (map rowid_in (db t))
   kept_is all =
       ap (λ rs. text_of_all (map (eval (col 1 0)) (flat_map (λ r. ([] ∷ r ∷ []) ∷ []) rs))) beside
-      ∙ ap text_of_all (mapped (λ r. [] ∷ r ∷ []) (col 1 0) (db t) ∙ ints_of (db t) all) ∙ text_is (map row_number (db t))
+      ∙ ap text_of_all (mapped (λ r. [] ∷ r ∷ []) (col 1 0) (db t) ∙ ints_of (db t) all) ∙ text_is (map rowid_in (db t))
 
-  sorted_text_is : (walked : List Row) → Numbered walked → rows ≡ map (λ r. Null ∷ column r 0 ∷ []) walked → sorted_text ≡ number_text (map row_number walked)
+  sorted_text_is : (walked : List Row) → Numbered walked → rows ≡ map (λ r. Null ∷ column r 0 ∷ []) walked → sorted_text ≡ number_text (map rowid_in walked)
   sorted_text_is walked all is =
       ap text_of_all
       (mapped (λ r. [] ∷ (kept_text ∷ []) ∷ r ∷ []) (col 2 1) rows ∙ ap (map (λ r. column r 1)) is ∙ map-map (λ r. column r 1) (λ r. Null ∷ column r 0 ∷ []) walked ∙ ints_of walked all)
-      ∙ text_is (map row_number walked)
+      ∙ text_is (map rowid_in walked)
 
   abbrev env : Env
   env = [] ∷ (kept_text ∷ []) ∷ (sorted_text ∷ []) ∷ []
@@ -185,13 +185,13 @@ module _ (kind : CheckedTable) (version : SchemaVersion) (has : has_table kind v
       let it = order_is kind version has in
       elim (reads_as (order_query kind) [] old new (schema_of version) rests.schema _ it.0 it.2 it.1 shown told).answer [ inl h ↦ (h.0, h.1, h.2) | inr h ↦ absurd h.1 ]
 
-  numbers : HasNumbers kind db
+  numbers : HasRowids kind db
   numbers = walked_numbers kind next db walked
 
   numbered : Numbered walked.0
   numbered = all_weaker (λ r. is_whole_row kind next r ≡ true) (λ r. is_number (column r 0) ≡ true) (λ r h. first_of_both _ _ h) walked.0 (checked_sound kind next None walked.0 walked.2)
 
-  up : are_rising (map row_number walked.0) ≡ true
+  up : are_rising (map rowid_in walked.0) ≡ true
   up = checked_up kind next None walked.0 walked.2
 
   abbrev key : Row → Output
@@ -209,10 +209,10 @@ module _ (kind : CheckedTable) (version : SchemaVersion) (has : has_table kind v
       s.3 ∙ ap (map (λ (o : Output). o.1)) (sorted_unique (output_cmp (sorted_query t)) (output_cmp_total (sorted_query t)) (map key walked.0) s.0 strict same s.2) ∙ map-map (λ (o : Output). o.1) key walked.0
 
   abbrev kept : List ℤ
-  kept = map row_number (db t)
+  kept = map rowid_in (db t)
 
   abbrev sorted : List ℤ
-  sorted = map row_number walked.0
+  sorted = map rowid_in walked.0
 
   passes_as : passes (kept_text t db parts.0 (beside_of kind db parts.0)) (sorted_text t db parts.0 (beside_of kind db parts.0)) ≡ not (agrees kept sorted)
   passes_as =
@@ -220,26 +220,26 @@ module _ (kind : CheckedTable) (version : SchemaVersion) (has : has_table kind v
       ∙ ap₂ (λ a b. not (is_eq (value_cmp a b))) (kept_is t db parts.0 (beside_of kind db parts.0) numbers) (sorted_text_is t db parts.0 (beside_of kind db parts.0) walked.0 numbered rows_are)
 
   short_sorted : AreShort sorted
-  short_sorted = all_map (λ n. SFits w64 n) row_number walked.0 walked.3
+  short_sorted = all_map (λ n. SFits w64 n) rowid_in walked.0 walked.3
 
   short_kept : AreShort kept
   short_kept =
       subst AreShort (numbers_read kind (db t))
-      (recursion_from_All (λ n. SFits w64 n) (map row_number read)
-      (All-permutation (λ n. SFits w64 n) sorted (map row_number read) (IsPermutation-sym _ _ (IsPermutation-map row_number read walked.0 walked.1.all)) (All-from_recursion (λ n. SFits w64 n) sorted short_sorted)))
+      (recursion_from_All (λ n. SFits w64 n) (map rowid_in read)
+      (All-permutation (λ n. SFits w64 n) sorted (map rowid_in read) (IsPermutation-sym _ _ (IsPermutation-map rowid_in read walked.0 walked.1.all)) (All-from_recursion (λ n. SFits w64 n) sorted short_sorted)))
 
-  pub in_order : shown ≡ [] → are_rising (map row_number read) ≡ true
+  pub in_order : shown ≡ [] → are_rising (map rowid_in read) ≡ true
   in_order none =
       let beside = beside_of kind db parts.0 in
       let is = agreed kept sorted short_kept short_sorted (not_false _ (sym passes_as ∙ none_shown t db parts.0 beside shown parts.2 none)) in
       ap are_rising (numbers_read kind (db t) ∙ is) ∙ up
 
-  pub out_of_order : (shown ≡ [] → ⊥) → are_rising (map row_number read) ≡ false
-  out_of_order some = go (are_rising (map row_number read)) refl
+  pub out_of_order : (shown ≡ [] → ⊥) → are_rising (map rowid_in read) ≡ false
+  out_of_order some = go (are_rising (map rowid_in read)) refl
     where
-      go : (b : Bool) → are_rising (map row_number read) ≡ b → are_rising (map row_number read) ≡ false
+      go : (b : Bool) → are_rising (map rowid_in read) ≡ b → are_rising (map rowid_in read) ≡ false
       go false is = is
       go true is =
-          let same : sorted ≡ kept = ap (map row_number) (walked.1.ordered numbers is) ∙ numbers_read kind (db t) in
+          let same : sorted ≡ kept = ap (map rowid_in) (walked.1.ordered numbers is) ∙ numbers_read kind (db t) in
           let agree : agrees kept sorted ≡ true = subst (λ l. agrees kept l ≡ true) (sym same) (itself kept) in
           absurd (some (some_shown t db parts.0 (beside_of kind db parts.0) shown parts.2 (passes_as ∙ ap not agree)))

@@ -1,6 +1,6 @@
 -- A keeper's own tables are such as opening finds sound.
 use Rattle.std.proofs.Common.{◌≡◌, ℕ, ℤ, ◌<ℤ◌, Bool, true, false, ◌&&◌, cond, bytes_eq, List, [], ◌∷◌, map, int_eq, int_lt, Option, Ok, Err, refl, sym, ap, subst, ◌∙◌, arith}
-use Rattle.xa_store.proofs.Common.{AllByRecursion, list_all, ints, is_eq-slice_cmp, Row, column, State, Trees, Int, Text, all_both, all_map, all_weaker, ascending-map, map-map, map_same, test_from_all, IsAscending, bytes_eq_refl, DocumentKey, version_text, Parsed, document_of, is_domain_name, IsDocumentOf, Damaged, CheckedTable, Domains, Tokens, Documents, Roots, Sources, Schema2, are_counted, are_rising, as_read, holds_key, holds_text_if_any, holds_value, is_assigned, is_bit, is_count, is_digest, is_empty, is_left_empty, is_pattern, is_sound, is_sound_table, is_version, is_whole_row, checked, tables_in, known_next, opened, place_in, read_meta, row_number, tree_of, is_utf8, PlacedRow, DocumentRow, DomainRow, RootRow, TokenRow, placed_row_in, placed_row, activity_number, document_in, document_row, domain_in, domain_row, issuer_columns, kind_number, next_in, role_number, root_in, root_row, token_in, token_row, type_number, value_text, AreDocuments, OpensSoundly, AreRows, HaveWrittenRows, HaveSoundColumns, IsKeepersStore, is_if_any, place_of, rows_of}
+use Rattle.xa_store.proofs.Common.{AllByRecursion, list_all, ints, is_eq-slice_cmp, Row, column, State, Trees, Int, Text, all_both, all_map, all_weaker, ascending-map, map-map, map_same, test_from_all, IsAscending, bytes_eq_refl, DocumentKey, version_text, Parsed, document_of, is_domain_name, IsDocumentOf, Damaged, CheckedTable, Domains, Tokens, Documents, Roots, Sources, Schema2, are_counted, are_rising, as_read, holds_key, holds_text_if_any, holds_value, is_assigned, is_bit, is_count, is_digest, is_empty, is_left_empty, is_pattern, is_sound, is_sound_table, is_version, is_whole_row, checked, tables_in, known_next, opened, place_in, read_meta, rowid_in, tree_of, is_utf8, PlacedRow, DocumentRow, DomainRow, RootRow, TokenRow, placed_row_in, placed_row, activity_number, document_in, document_row, domain_in, domain_row, issuer_columns, kind_number, next_in, role_number, root_in, root_row, token_in, token_row, type_number, value_text, AreDocuments, OpensSoundly, AreRows, HaveWrittenRows, HaveSoundColumns, IsKeepersStore, is_if_any, place_of, rows_of}
 use Rattle.xa_store.proofs.ColumnLemmas.{held_if_any, text_written}
 use Rattle.xa_store.proofs.ColumnNumbers.{of_activity, of_kind, of_role}
 use Rattle.xa_store.proofs.CountedLemmas.{each_counted}
@@ -63,14 +63,14 @@ rising_from [] up = refl
 rising_from (n ∷ ns) up =
     both_true (list_all (int_lt n) ns) (are_rising ns) (test_from_all (int_lt n) ns (all_weaker (λ m. n <ℤ m) (λ m. int_lt n m ≡ true) (λ m h. lt_test n m h) ns up.0)) (rising_from ns up.1)
 
-module _ (db : Trees) (next : ℤ) (kind : CheckedTable) {X : Type 0} (write : X → Row) (reads : Row → X) (rowid_of : X → ℤ) (same : X → X → Bool) (numbered : (r : Row) → rowid_of (reads r) ≡ row_number r)
+module _ (db : Trees) (next : ℤ) (kind : CheckedTable) {X : Type 0} (write : X → Row) (reads : Row → X) (rowid_of : X → ℤ) (same : X → X → Bool) (numbered : (r : Row) → rowid_of (reads r) ≡ rowid_in r)
     (are : AreRows write reads rowid_of same (db (tree_of kind))) (whole : AllByRecursion (Whole kind next write) (map reads (db (tree_of kind)))) where
   abbrev rows : List Row
   rows = db (tree_of kind)
 
-  rise : are_rising (map row_number (map (as_read kind) rows)) ≡ true
+  rise : are_rising (map rowid_in (map (as_read kind) rows)) ≡ true
   rise =
-      ap are_rising (numbers_read kind rows ∙ sym (map-map rowid_of reads rows ∙ map_same (λ r. rowid_of (reads r)) row_number numbered rows))
+      ap are_rising (numbers_read kind rows ∙ sym (map-map rowid_of reads rows ∙ map_same (λ r. rowid_of (reads r)) rowid_in numbered rows))
       ∙ rising_from (map rowid_of (map reads rows)) (ascending-map (λ a b. a <ℤ b) rowid_of (map reads rows) are.rise)
 
   each : AllByRecursion (λ r. is_whole_row kind next (as_read kind r) ≡ true) rows
@@ -78,7 +78,7 @@ module _ (db : Trees) (next : ℤ) (kind : CheckedTable) {X : Type 0} (write : X
 
   table_opens : is_sound_table db next kind ≡ true
   table_opens =
-      both_true (list_all (is_whole_row kind next) (map (as_read kind) rows)) (are_rising (map row_number (map (as_read kind) rows)))
+      both_true (list_all (is_whole_row kind next) (map (as_read kind) rows)) (are_rising (map rowid_in (map (as_read kind) rows)))
       (test_from_all (is_whole_row kind next) (map (as_read kind) rows) (all_map (λ r. is_whole_row kind next r ≡ true) (as_read kind) rows each)) rise
 
 -- ---- all tables

@@ -1,6 +1,6 @@
 -- Sound rows are rows that the keeper writes.
 use Rattle.std.proofs.Common.{◌≡◌, ◌≤◌, ℕ, ℤ, pos, negsuc, ◌<ℤ◌, Bool, true, false, ◌&&◌, ◌==◌, not, cond, unwrap_or, codes, List, [], ◌∷◌, map, length, drop, slice_get, is_some, int_lt, int_eq, bytes_eq, Option, Some, None, Result, Ok, Err, refl, sym, ap, ap₂, ◌∙◌, true≢false, arith}
-use Rattle.xa_store.proofs.Common.{AllByRecursion, is_utf8, ints, Row, column, Value, Null, Int, Real, Text, Blob, IsKeyedBy, AreApart, all_from_test, all_weaker, all_both, all_unmap, ascending_from_map, none_from_any, any_from_none, first_of_both, second_of_both, are_present, are_typed, agree, clashes, differ, suits, is_null, Eq, Ne, IsAscending, int_of, bytes_of, or_null, unless_null, at_ints, then_term, last_term, same_bytes, is_eq-slice_cmp, type_of, printed, read, read_as, CheckedTable, Domains, Tokens, Attributes, Sources, is_domain_name, are_rising, as_read, holds_text, holds_text_if_any, holds_value, is_assigned, is_bit, is_count, is_digest, is_number, is_printed, is_value, is_whole_row, row_number, PlacedRow, placed_row_in, placed_row, domain_in, domain_row, given, issuer_columns, nat_of, role_in, role_number, token_in, token_row, type_number, same_place, attributes, domains, needed, own_key, rising, sources, tokens}
+use Rattle.xa_store.proofs.Common.{AllByRecursion, is_utf8, ints, Row, column, Value, Null, Int, Real, Text, Blob, IsKeyedBy, AreApart, all_from_test, all_weaker, all_both, all_unmap, ascending_from_map, none_from_any, any_from_none, first_of_both, second_of_both, are_present, are_typed, agree, clashes, differ, suits, is_null, Eq, Ne, IsAscending, int_of, bytes_of, or_null, unless_null, at_ints, then_term, last_term, same_bytes, is_eq-slice_cmp, type_of, printed, read, read_as, CheckedTable, Domains, Tokens, Attributes, Sources, is_domain_name, are_rising, as_read, holds_text, holds_text_if_any, holds_value, is_assigned, is_bit, is_count, is_digest, is_number, is_printed, is_value, is_whole_row, rowid_in, PlacedRow, placed_row_in, placed_row, domain_in, domain_row, given, issuer_columns, nat_of, role_in, role_number, token_in, token_row, type_number, same_place, attributes, domains, needed, own_key, rising, sources, tokens}
 use Rattle.sqlite.specs.Kind.TheVariants as kinds
 use Rattle.sqlite_schema.specs.declared.schema.Column.{Column}
 use Rattle.sqlite_value.specs.Keys.{first_key}
@@ -27,13 +27,13 @@ rising_ascends : (ns : List ℤ) → are_rising ns ≡ true → IsAscending (λ 
 rising_ascends [] h = tt
 rising_ascends (n ∷ ns) h = (all_weaker (λ m. int_lt n m ≡ true) (λ m. n <ℤ m) (λ m up. lt_from n m up) ns (all_from_test (int_lt n) ns (first_of_both _ _ h)), rising_ascends ns (second_of_both _ _ h))
 
-pub rows_ascend : (kind : CheckedTable) (rows : List Row) → are_rising (map row_number (map (as_read kind) rows)) ≡ true → IsAscending (λ a b. row_number a <ℤ row_number b) rows
-rows_ascend kind rows h = ascending_from_map (λ a b. a <ℤ b) row_number rows (rising_ascends (map row_number rows) (ap are_rising (sym (numbers_read kind rows)) ∙ h))
+pub rows_ascend : (kind : CheckedTable) (rows : List Row) → are_rising (map rowid_in (map (as_read kind) rows)) ≡ true → IsAscending (λ a b. rowid_in a <ℤ rowid_in b) rows
+rows_ascend kind rows h = ascending_from_map (λ a b. a <ℤ b) rowid_in rows (rising_ascends (map rowid_in rows) (ap are_rising (sym (numbers_read kind rows)) ∙ h))
 
-pub keyed_from : {X : Type 0} (rowid_of : X → ℤ) (reads : Row → X) → ((r : Row) → rowid_of (reads r) ≡ row_number r) → (rows : List Row) → IsAscending (λ a b. row_number a <ℤ row_number b) rows → IsKeyedBy rowid_of (map reads rows)
+pub keyed_from : {X : Type 0} (rowid_of : X → ℤ) (reads : Row → X) → ((r : Row) → rowid_of (reads r) ≡ rowid_in r) → (rows : List Row) → IsAscending (λ a b. rowid_in a <ℤ rowid_in b) rows → IsKeyedBy rowid_of (map reads rows)
 keyed_from rowid_of reads is [] h = tt
 keyed_from rowid_of reads is (r ∷ rows) h = (
-  Rattle.sqlite_keyed.proofs.ListLemmas.all_map (λ x. rowid_of (reads r) <ℤ rowid_of x) reads rows (all_weaker (λ s. row_number r <ℤ row_number s) (λ s. rowid_of (reads r) <ℤ rowid_of (reads s)) (λ s less. rw (is r, is s) less) rows h.0),
+  Rattle.sqlite_keyed.proofs.ListLemmas.all_map (λ x. rowid_of (reads r) <ℤ rowid_of x) reads rows (all_weaker (λ s. rowid_in r <ℤ rowid_in s) (λ s. rowid_of (reads r) <ℤ rowid_of (reads s)) (λ s less. rw (is r, is s) less) rows h.0),
   keyed_from rowid_of reads is rows h.1,
 )
 

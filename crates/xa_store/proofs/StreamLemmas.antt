@@ -1,6 +1,6 @@
 -- A table that is read row by row, from one row to the next.
 use Rattle.std.proofs.Common.{◌≡◌, ◌⊎◌, inl, inr, ℕ, ℤ, w64, true, false, List, [], ◌∷◌, ◌++◌, Option, Some, None, Result, Ok, Err, IsTrue, OnOk, refl, sym, ap, subst, ◌∙◌, arith}
-use Rattle.xa_store.proofs.Common.{FitsSigned, Database, GivesOn, HasBegun, IsPlain, Held, state, understood, Row, State, HasCleanDisk, IsUnchanged, IsRolledBack, Survives, FailsToQuery, Fails, Ghosts, Error, given_begin, begins_as, begun_plain, unchanged_then, survives_then, OpenError, NotThisSchema, Damaged, Store, Memory, CheckedTable, SchemaVersion, row_number, schema_of, RestsIn, SameNow}
+use Rattle.xa_store.proofs.Common.{FitsSigned, Database, GivesOn, HasBegun, IsPlain, Held, state, understood, Row, State, HasCleanDisk, IsUnchanged, IsRolledBack, Survives, FailsToQuery, Fails, Ghosts, Error, given_begin, begins_as, begun_plain, unchanged_then, survives_then, OpenError, NotThisSchema, Damaged, Store, Memory, CheckedTable, SchemaVersion, rowid_in, schema_of, RestsIn, SameNow}
 use Rattle.sqlite.specs.Given.{HasGiven}
 use Rattle.xa_store.specs.keeping.Check.{has_table, rows_query, AreHeld, GoesOn, HoldsBack, IsRead, IsUnguarded, Moves, error_of_check, TellsNext, Walked, Walks, is_next_sound_row}
 use Rattle.xa_store.proofs.AskLemmas.{goes_then, goes_unchanged, held_rolled, held_unchanged, holds_then, rolled_same, shown_goes, shown_held, unchanged_same}
@@ -45,7 +45,7 @@ pub kept_failed : (old new : State) (e : Error) → Fails old new ⊥ e ⊎ IsUn
 kept_failed old new e (inl h) = inr h.3
 kept_failed old new e (inr h) = inl h
 
-held_on : (given : List Row) (row : Row) → AreHeld given → FitsSigned w64 (row_number row) → AreHeld (given ++ row ∷ [])
+held_on : (given : List Row) (row : Row) → AreHeld given → FitsSigned w64 (rowid_in row) → AreHeld (given ++ row ∷ [])
 held_on [] row all fits = (fits, tt)
 held_on (r ∷ given) row all fits = (all.0, held_on given row all.1 fits)
 
@@ -153,7 +153,7 @@ module _ {S : Type 0} (g : Ghosts S) (version : SchemaVersion) (kind : CheckedTa
     walk_goes_on number fits moved same clean rests =
         let it = stands (before clean) rests in
         let row = moved clean (rows_query kind) it.0 it.1 in
-        let is : number ≡ row_number row.0 = (let e = row.3 in cc) in (
+        let is : number ≡ rowid_in row.0 = (let e = row.3 in cc) in (
           it.0 ++ row.0 ∷ [],
           row.1,
           unchanged_then start (state g mid) (state g new) it.2 (same clean),

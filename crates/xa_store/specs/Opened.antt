@@ -167,21 +167,21 @@ abbrev pub is_number : Value → Bool
 is_number (Int n) = true
 is_number _ = false
 
--- the row has a number, and its columns hold what they should
+-- the row has a rowid, and its columns hold what they should
 abbrev pub is_whole_row : CheckedTable → ℤ → Row → Bool
 is_whole_row table next row = is_number (column row shown.rowid) && is_sound_row table next row
 
--- each number is below those after it
+-- each rowid is below those after it
 abbrev pub are_rising : List ℤ → Bool
 are_rising [] = true
 are_rising (n ∷ ns) = list_all (int_lt n) ns && are_rising ns
 
-abbrev pub row_number : Row → ℤ
-row_number row = int_of (column row shown.rowid)
+abbrev pub rowid_in : Row → ℤ
+rowid_in row = int_of (column row shown.rowid)
 
--- the rows of the table hold what they should, and their numbers rise
+-- the rows of the table hold what they should, and their rowids rise
 abbrev pub are_sound_rows : CheckedTable → ℤ → List Row → Bool
-are_sound_rows table next rows = list_all (is_whole_row table next) rows && are_rising (map row_number rows)
+are_sound_rows table next rows = list_all (is_whole_row table next) rows && are_rising (map rowid_in rows)
 
 -- ---- places
 

@@ -1,5 +1,5 @@
 -- How the tables are read and checked when a store is opened: one query for the rows of each, in the order of their
--- numbers, and one for whether the table has them in that order. The schema is either of the two.
+-- rowids, and one for whether the table has them in that order. The schema is either of the two.
 use Rattle.std.specs.Prelude.{◌≡◌, ◌≢◌, ◌⊎◌, ℕ, ◌+ℤ◌, ℤ, pos, negsuc, FitsSigned, Bool, true, false, ◌&&◌, List}
 use Rattle.std.specs.Prelude.{[], ◌∷◌, ◌++◌, map, int_lt, codes, IsPermutation, IsTrue, if◌then◌else◌, Option, Some}
 use Rattle.std.specs.Prelude.{None, option_map, option_and_then, unwrap_or, Result, Ok, Err, OnOk, OnErr, IfOk, IfErr}
@@ -29,7 +29,7 @@ use Rattle.xa_store.specs.declared.schema.version.SchemaVersion.TheVariants.{Sch
 use Rattle.xa_store.specs.CheckedColumns as shown
 use Rattle.xa_store.specs.Keeper.{are_only_ours}
 use Rattle.xa_store.specs.Opened.{are_counted, as_read, is_left_empty, place_in, sources_in, are_rising}
-use Rattle.xa_store.specs.Opened.{int_in, is_number, is_whole_row, row_number, opened, schema_of}
+use Rattle.xa_store.specs.Opened.{int_in, is_number, is_whole_row, rowid_in, opened, schema_of}
 use Rattle.xa_store.specs.Opening.{AreNewTables, GivesOrFails, IsBlank, IsFailure, IsKnown, IsMigrated}
 use Rattle.xa_store.specs.Opening.{IsRefusal, MayLeaveTables}
 use Rattle.xa_store.specs.Rows.{placed_row, placed_row_in}
@@ -130,36 +130,36 @@ pub record CheckedBy (version : SchemaVersion) (sound : Trees → Bool) (old new
   pub asks : Asks version old new result
   pub finds : HasCleanDisk new → RestsIn (schema_of version) old → TellsSound (sound old.now.trees) result
 
--- ---- the rows of one table, in the order of their numbers
+-- ---- the rows of one table, in the order of their rowids
 
--- each row of the table begins with a number
-abbrev pub HasNumbers : CheckedTable → Trees → Type 0
-HasNumbers table db = AllByRecursion (λ row. is_number (column row shown.rowid) ≡ true) (db (tree_of table))
+-- each row of the table begins with its rowid
+abbrev pub HasRowids : CheckedTable → Trees → Type 0
+HasRowids table db = AllByRecursion (λ row. is_number (column row shown.rowid) ≡ true) (db (tree_of table))
 
 -- the rows that a query gave are those of the table, and in its order if that rises
 pub record IsRead (table : CheckedTable) (db : Trees) (rows : List Row) : Type 0 where
   pub all : IsPermutation (map (as_read table) (db (tree_of table))) rows
-  pub ordered : HasNumbers table db → are_rising (map row_number (map (as_read table) (db (tree_of table)))) ≡ true
+  pub ordered : HasRowids table db → are_rising (map rowid_in (map (as_read table) (db (tree_of table)))) ≡ true
       → rows ≡ map (as_read table) (db (tree_of table))
 
--- the number is above the last, if there was one
+-- the rowid is above the last, if there was one
 abbrev pub comes_after : Option ℤ → ℤ → Bool
-comes_after None number = true
-comes_after (Some last) number = int_lt last number
+comes_after None rowid = true
+comes_after (Some last) rowid = int_lt last rowid
 
--- the row is sound, and its number above the last
+-- the row is sound, and its rowid above the last
 abbrev pub is_next_sound_row : CheckedTable → ℤ → Option ℤ → Row → Bool
-is_next_sound_row table next last row = is_whole_row table next row && comes_after last (row_number row)
+is_next_sound_row table next last row = is_whole_row table next row && comes_after last (rowid_in row)
 
--- each row is sound, and its number above that of the row before it
+-- each row is sound, and its rowid above that of the row before it
 abbrev pub checks : CheckedTable → ℤ → Option ℤ → List Row → Bool
 checks table next last [] = true
 checks table next last (row ∷ rows) =
-    is_next_sound_row table next last row && checks table next (Some (row_number row)) rows
+    is_next_sound_row table next last row && checks table next (Some (rowid_in row)) rows
 
--- the numbers of rows are such as a column can hold
+-- the rowids are such as a column can hold
 abbrev pub AreHeld : List Row → Type 0
-AreHeld = AllByRecursion (λ row. FitsSigned w64 (row_number row))
+AreHeld = AllByRecursion (λ row. FitsSigned w64 (rowid_in row))
 
 -- the answer tells whether all rows of the table are sound and rise, as a query gave them
 abbrev pub Walks : CheckedTable → ℤ → Trees → Result (Unit {0}) OpenError → Type 0
@@ -176,20 +176,20 @@ pub record Walked (version : SchemaVersion) (table : CheckedTable) (next : ℤ) 
   pub asks : Asks version old new result
   pub finds : HasCleanDisk new → RestsIn (schema_of version) old → Walks table next old.now.trees result
 
--- a row's number is told, if it is a sound row after the last, and else that it is damaged
-abbrev pub TellsNumber : CheckedTable → ℤ → Option ℤ → Row → Result ℤ OpenError → Type 0
-TellsNumber table next last row (Ok number) = (number ≡ row_number row) × (is_next_sound_row table next last row ≡ true)
-TellsNumber table next last row (Err Damaged) = is_next_sound_row table next last row ≡ false
-TellsNumber table next last row (Err NotThisSchema) = ⊥
-TellsNumber table next last row (Err Store) = Unit {0}
-TellsNumber table next last row (Err Memory) = Unit {0}
+-- a row's rowid is told, if it is a sound row after the last, and else that it is damaged
+abbrev pub TellsRowid : CheckedTable → ℤ → Option ℤ → Row → Result ℤ OpenError → Type 0
+TellsRowid table next last row (Ok rowid) = (rowid ≡ rowid_in row) × (is_next_sound_row table next last row ≡ true)
+TellsRowid table next last row (Err Damaged) = is_next_sound_row table next last row ≡ false
+TellsRowid table next last row (Err NotThisSchema) = ⊥
+TellsRowid table next last row (Err Store) = Unit {0}
+TellsRowid table next last row (Err Memory) = Unit {0}
 
--- `TellsNumber` of the row at which a query stands, and no number at the query's end
+-- `TellsRowid` of the row at which a query stands, and no rowid at the query's end
 abbrev pub TellsNext : CheckedTable → ℤ → Option ℤ → Option Row → Result (Option ℤ) OpenError → Type 0
-TellsNext table next last (Some row) (Ok (Some number)) = TellsNumber table next last row (Ok number)
+TellsNext table next last (Some row) (Ok (Some rowid)) = TellsRowid table next last row (Ok rowid)
 TellsNext table next last (Some row) (Ok None) = ⊥
-TellsNext table next last (Some row) (Err e) = TellsNumber table next last row (Err e)
-TellsNext table next last None (Ok (Some number)) = ⊥
+TellsNext table next last (Some row) (Err e) = TellsRowid table next last row (Err e)
+TellsNext table next last None (Ok (Some rowid)) = ⊥
 TellsNext table next last None (Ok None) = Unit {0}
 TellsNext table next last None (Err e) = IsFailure e
 
@@ -205,13 +205,13 @@ module _ {S : Type 0} (g : Ghosts S) where
 module _ {S : Type 0} (g : Ghosts S) (table : CheckedTable) (next : ℤ) (last : Option ℤ) (old new : Held S) where
   -- the query has given one more row, which is a sound one after the last, or isn't
   abbrev pub GivesRow : Bool → List ℕ → List Row → Option ℤ → Type 0
-  GivesRow is sql given number =
+  GivesRow is sql given rowid =
       (row : Row) × HasGiven g sql [] new (given ++ row ∷ []) × (is_next_sound_row table next last row ≡ is)
-      × (number ≡ Some (row_number row))
+      × (rowid ≡ Some (rowid_in row))
 
   -- the query goes on by one row: that is a sound one after the last; or it isn't; or all rows were given
   abbrev pub Moves : List ℕ → List Row → Result (Option ℤ) OpenError → Type 0
-  Moves sql given (Ok (Some number)) = GivesRow true sql given (Some number)
+  Moves sql given (Ok (Some rowid)) = GivesRow true sql given (Some rowid)
   Moves sql given (Ok None) = Shown sql [] (state g old) (state g new) given
   Moves sql given (Err Damaged) =
       (row : Row) × HasGiven g sql [] new (given ++ row ∷ []) × (is_next_sound_row table next last row ≡ false)
@@ -227,7 +227,7 @@ module _ {S : Type 0} (g : Ghosts S) (table : CheckedTable) (next : ℤ) (last :
 abbrev pub Orders : CheckedTable → Trees → Result (Unit {0}) OpenError → Type 0
 Orders table db result =
     (next : ℤ) → Walks table next db (Ok tt)
-    → TellsSound (are_rising (map row_number (map (as_read table) (db (tree_of table))))) result
+    → TellsSound (are_rising (map rowid_in (map (as_read table) (db (tree_of table))))) result
 
 -- ---- the places of the rows of sources
 

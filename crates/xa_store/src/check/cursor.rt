@@ -5,10 +5,10 @@ ghost use Rattle.sqlite.specs.Held.{state};
 ghost use Rattle.sqlite.specs.Order.{Row as SqlRow};
 ghost use Rattle.sqlite.specs.State.{HasCleanDisk, IsUnchanged};
 ghost use Rattle.xa_store.specs.keeping.Check.{IsKeptOrUndone, Moves, SurvivesOver, TellsNext};
-ghost use Rattle.xa_store.specs.keeping.Check.{TellsNumber, Walked};
+ghost use Rattle.xa_store.specs.keeping.Check.{TellsRowid, Walked};
 ghost use Rattle.xa_store.specs.keeping.Check.{comes_after, has_table};
 
-use crate::check::row::{is_sound_row, row_number};
+use crate::check::row::{is_sound_row, rowid_in};
 use crate::error::OpenError;
 use crate::failure::error_of_check;
 use crate::schema::checked_table::CheckedTable;
@@ -16,38 +16,38 @@ use crate::schema::version::Checking;
 use sqlite::{Alter, Connection, Row, Rows};
 use std::alloc::Global;
 
-/// Whether the number is above the last.
-fn comes_after(last: Option<i64>, number: i64) -> bool
-    ensures { result ≡ comes_after last number }
+/// Whether the rowid is above the last.
+fn comes_after(last: Option<i64>, rowid: i64) -> bool
+    ensures { result ≡ comes_after last rowid }
 {
     match last {
-        Some(last) => last < number,
+        Some(last) => last < rowid,
         None => true,
     }
 }
 
-/// The number of the row, if it is a sound one that comes after the last.
-fn sound_number(
+/// The rowid of the row, if it is a sound one that comes after the last.
+fn sound_rowid(
     alloc: Global,
     table: CheckedTable,
     next: i64,
     last: Option<i64>,
     row: &Row,
 ) -> Result<i64, OpenError>
-    ensures { TellsNumber table next last row.now result }
+    ensures { TellsRowid table next last row.now result }
 {
-    let Some(number) = row_number(row) else {
+    let Some(rowid) = rowid_in(row) else {
         return Err(OpenError::Damaged);
     };
-    if is_sound_row(alloc, table, next, row)? && comes_after(last, number) {
-        Ok(number)
+    if is_sound_row(alloc, table, next, row)? && comes_after(last, rowid) {
+        Ok(rowid)
     } else {
         Err(OpenError::Damaged)
     }
 }
 
-/// The number of the row at which the query stands, or none past the last.
-fn number_here<S: Alter>(
+/// The rowid of the row at which the query stands, or none past the last.
+fn rowid_here<S: Alter>(
     alloc: Global,
     table: CheckedTable,
     next: i64,
@@ -57,13 +57,13 @@ fn number_here<S: Alter>(
     ensures { TellsNext table next last (row_if rows.now.has_row rows.now.conn.now) result }
 {
     match rows.get() {
-        Some(row) => Ok(Some(sound_number(alloc, table, next, last, row)?)),
+        Some(row) => Ok(Some(sound_rowid(alloc, table, next, last, row)?)),
         None => Ok(None),
     }
 }
 
-/// The number of the next row, if there is one.
-fn next_row_number<S: Alter>(
+/// The rowid of the next row, if there is one.
+fn rowid_of_next<S: Alter>(
     alloc: Global,
     table: CheckedTable,
     next: i64,
@@ -81,12 +81,12 @@ fn next_row_number<S: Alter>(
         → Moves S.Store table next last rows.old.conn.now rows.new.conn.now sql given result }
 {
     match rows.advance() {
-        Ok(()) => number_here(alloc, table, next, last, rows),
+        Ok(()) => rowid_here(alloc, table, next, last, rows),
         Err(error) => Err(error_of_check(error)),
     }
 }
 
-/// Checks all rows of the table, in the order of their numbers.
+/// Checks all rows of the table, in the order of their rowids.
 pub(crate) fn walk<S: Alter>(
     alloc: Global,
     conn: &mut Connection<S>,
@@ -105,8 +105,8 @@ pub(crate) fn walk<S: Alter>(
     // Bounded, as no clause of the kit bounds what a query shows; the count never ends a walk that a file
     // could hold. For the proof: the label names the loop.
     'rows: for _ in 0..u64::MAX {
-        match next_row_number(alloc, table, checking.next, last, &mut rows)? {
-            Some(number) => last = Some(number),
+        match rowid_of_next(alloc, table, checking.next, last, &mut rows)? {
+            Some(rowid) => last = Some(rowid),
             None => return Ok(()),
         }
     }

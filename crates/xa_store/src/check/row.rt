@@ -214,8 +214,8 @@ fn number_at(row: &Row, at: usize) -> Option<i64>
     }
 }
 
-/// The number by which the row is kept.
-pub(crate) fn row_number(row: &Row) -> Option<i64>
+/// The rowid of the row, by which the table keeps it.
+pub(crate) fn rowid_in(row: &Row) -> Option<i64>
     ensures { result ≡ int_in (column row.now rowid) }
 {
     number_at(row, ROWID)

@@ -36,7 +36,7 @@ fn sound_or_damaged(sound: bool) -> Result<(), OpenError>
     }
 }
 
-/// Checks whether the table has its rows in the order of their numbers, of tables of a schema that has it.
+/// Checks whether the table has its rows in the order of their rowids, of tables of a schema that has it.
 fn check_order<S: Alter>(conn: &mut Connection<S>, table: CheckedTable) -> Result<(), OpenError>
     ensures asks { (version : Version) → IsTrue (has_table table version)
         → AsksOver S.Store version conn.old conn.new result }

@@ -39,22 +39,22 @@ rows-init g c =
       stands_begun g.S.Store c.args.checking.version c.args.table c.requires _ c.args.conn.now c.in-Ok.rows.conn.now (rw c.rows_query.ensures at made.begun),
     )
 
-pub returns-in_err-number : goal.returns-in_err-number
-returns-in_err-number g c =
+pub returns-in_err-rowid : goal.returns-in_err-rowid
+returns-in_err-rowid g c =
     let held = to_z-of_z w64 c.args.checking.next (search rules) in
-    let told = c.in_err-number.ensures in
-    let last = c.next_row_number.new.rows.conn.now in
-    let same : last ≡ c.conn-in_err-number-1.given.0 = search rules in
-    let is : c.from_residual.result ≡ Err c.in_err-number.field-0.0 = search rules in
-    rw is (subst (λ h. Walked c.args.checking.version c.args.table c.args.checking.next (state g.S.Store c.args.conn.now) (state g.S.Store h) (Err c.in_err-number.field-0.0)) same
-    (walk_stopped g.S.Store c.args.checking.version c.args.table c.requires c.args.checking.next c.args.conn.now c.rows.rows.conn.now last c.rows.last c.rows.invariant.1 c.rows.invariant.2 c.rows.invariant.3 told.kept told.survives c.in_err-number.field-0.0
-    (subst (λ n. Moved g.S.Store c.args.table n c.rows.last c.rows.rows.conn.now last (Err c.in_err-number.field-0.0)) held told.moves)))
+    let told = c.in_err-rowid.ensures in
+    let last = c.rowid_of_next.new.rows.conn.now in
+    let same : last ≡ c.conn-in_err-rowid-1.given.0 = search rules in
+    let is : c.from_residual.result ≡ Err c.in_err-rowid.field-0.0 = search rules in
+    rw is (subst (λ h. Walked c.args.checking.version c.args.table c.args.checking.next (state g.S.Store c.args.conn.now) (state g.S.Store h) (Err c.in_err-rowid.field-0.0)) same
+    (walk_stopped g.S.Store c.args.checking.version c.args.table c.requires c.args.checking.next c.args.conn.now c.rows.rows.conn.now last c.rows.last c.rows.invariant.1 c.rows.invariant.2 c.rows.invariant.3 told.kept told.survives c.in_err-rowid.field-0.0
+    (subst (λ n. Moved g.S.Store c.args.table n c.rows.last c.rows.rows.conn.now last (Err c.in_err-rowid.field-0.0)) held told.moves)))
 
 pub returns-in-None : goal.returns-in-None
 returns-in-None g c =
     let held = to_z-of_z w64 c.args.checking.next (search rules) in
-    let told = c.in_ok-number.ensures in
-    let last = c.next_row_number.new.rows.conn.now in
+    let told = c.in_ok-rowid.ensures in
+    let last = c.rowid_of_next.new.rows.conn.now in
     let same : last ≡ c.conn-in-None-1.given.0 = search rules in
     subst (λ h. Walked c.args.checking.version c.args.table c.args.checking.next (state g.S.Store c.args.conn.now) (state g.S.Store h) (Ok tt)) same
     (walk_ended g.S.Store c.args.checking.version c.args.table c.requires c.args.checking.next c.args.conn.now c.rows.rows.conn.now last c.rows.last c.rows.invariant.1 c.rows.invariant.2 c.rows.invariant.3 told.kept told.survives
@@ -63,12 +63,12 @@ returns-in-None g c =
 pub rows-preserved : goal.rows-preserved
 rows-preserved g c =
     let held = to_z-of_z w64 c.args.checking.next (search rules) in
-    let told = c.in_ok-number.ensures in
-    let last = c.next_row_number.new.rows.conn.now in
-    let fits : FitsSigned w64 c.in-Some.number = search rules in
+    let told = c.in_ok-rowid.ensures in
+    let last = c.rowid_of_next.new.rows.conn.now in
+    let fits : FitsSigned w64 c.in-Some.rowid = search rules in
     let moved = subst₂ (λ n o. Moved g.S.Store c.args.table n c.rows.last c.rows.rows.conn.now last (Ok o)) held c.in-Some.is told.moves in
-    let on = walk_goes_on g.S.Store c.args.checking.version c.args.table c.requires c.args.checking.next c.args.conn.now c.rows.rows.conn.now last c.rows.last c.rows.invariant.1 c.rows.invariant.2 c.rows.invariant.3 told.kept told.survives c.in-Some.number fits moved told.same in
-    rw (to_z-of_z w64 c.in-Some.number fits) (
+    let on = walk_goes_on g.S.Store c.args.checking.version c.args.table c.requires c.args.checking.next c.args.conn.now c.rows.rows.conn.now last c.rows.last c.rows.invariant.1 c.rows.invariant.2 c.rows.invariant.3 told.kept told.survives c.in-Some.rowid fits moved told.same in
+    rw (to_z-of_z w64 c.in-Some.rowid fits) (
       told.same_reference ∙ c.rows.invariant.0,
       survived_on g.S.Store c.args.checking.version c.args.table c.requires c.args.checking.next c.args.conn.now c.rows.rows.conn.now last c.rows.last c.rows.invariant.1 c.rows.invariant.2 c.rows.invariant.3 told.kept told.survives,
       keeps_on g.S.Store c.args.checking.version c.args.table c.requires c.args.checking.next c.args.conn.now c.rows.rows.conn.now last c.rows.last c.rows.invariant.1 c.rows.invariant.2 c.rows.invariant.3 told.kept told.survives told.same,
