@@ -26,11 +26,11 @@ pub(crate) fn is_count(number: i64) -> bool
     0 <= number
 }
 
-/// Whether the number has been assigned to a domain; `next` is that of the next.
-fn is_assigned(next: i64, number: i64) -> bool
-    ensures { result ≡ is_assigned next number }
+/// Whether the number has been assigned to a domain; `next_domain` is that of the next.
+fn is_assigned(next_domain: i64, number: i64) -> bool
+    ensures { result ≡ is_assigned next_domain number }
 {
-    is_count(number) && number < next
+    is_count(number) && number < next_domain
 }
 
 /// Whether it stands for a role, for a kind of documents or for whether a document is active.
@@ -64,10 +64,10 @@ fn is_version(bytes: &[u8]) -> bool
 }
 
 /// Whether the column holds a number that has been assigned to a domain.
-pub(crate) fn holds_assigned(row: &Row, at: usize, next: i64) -> bool
-    ensures { result ≡ holds_int (is_assigned next) (column row.now at) }
+pub(crate) fn holds_assigned(row: &Row, at: usize, next_domain: i64) -> bool
+    ensures { result ≡ holds_int (is_assigned next_domain) (column row.now at) }
 {
-    matches!(row.get_ref(at), Ok(ValueRef::Int(number)) if is_assigned(next, number))
+    matches!(row.get_ref(at), Ok(ValueRef::Int(number)) if is_assigned(next_domain, number))
 }
 
 /// Whether the column holds a number that isn't negative.

@@ -30,16 +30,16 @@ fn comes_after(last: Option<i64>, rowid: i64) -> bool
 fn sound_rowid(
     alloc: Global,
     table: CheckedTable,
-    next: i64,
+    next_domain: i64,
     last: Option<i64>,
     row: &Row,
 ) -> Result<i64, OpenError>
-    ensures { TellsRowid table next last row.now result }
+    ensures { TellsRowid table next_domain last row.now result }
 {
     let Some(rowid) = rowid_in(row) else {
         return Err(OpenError::Damaged);
     };
-    if is_sound_row(alloc, table, next, row)? && comes_after(last, rowid) {
+    if is_sound_row(alloc, table, next_domain, row)? && comes_after(last, rowid) {
         Ok(rowid)
     } else {
         Err(OpenError::Damaged)
@@ -50,14 +50,14 @@ fn sound_rowid(
 fn rowid_here<S: Alter>(
     alloc: Global,
     table: CheckedTable,
-    next: i64,
+    next_domain: i64,
     last: Option<i64>,
     rows: &Rows<'_, S>,
 ) -> Result<Option<i64>, OpenError>
-    ensures { TellsNext table next last (row_if rows.now.has_row rows.now.conn.now) result }
+    ensures { TellsNext table next_domain last (row_if rows.now.has_row rows.now.conn.now) result }
 {
     match rows.get() {
-        Some(row) => Ok(Some(sound_rowid(alloc, table, next, last, row)?)),
+        Some(row) => Ok(Some(sound_rowid(alloc, table, next_domain, last, row)?)),
         None => Ok(None),
     }
 }
@@ -66,7 +66,7 @@ fn rowid_here<S: Alter>(
 fn rowid_of_next<S: Alter>(
     alloc: Global,
     table: CheckedTable,
-    next: i64,
+    next_domain: i64,
     last: Option<i64>,
     rows: &mut Rows<'_, S>,
 ) -> Result<Option<i64>, OpenError>
@@ -78,10 +78,10 @@ fn rowid_of_next<S: Alter>(
         → IsKeptOrUndone S.Store rows.old.conn.now rows.new.conn.now }
     ensures moves { HasCleanDisk (state S.Store rows.new.conn.now)
         → (sql : List ℕ) → (given : List SqlRow) → HasGiven S.Store sql [] rows.old.conn.now given
-        → Moves S.Store table next last rows.old.conn.now rows.new.conn.now sql given result }
+        → Moves S.Store table next_domain last rows.old.conn.now rows.new.conn.now sql given result }
 {
     match rows.advance() {
-        Ok(()) => rowid_here(alloc, table, next, last, rows),
+        Ok(()) => rowid_here(alloc, table, next_domain, last, rows),
         Err(error) => Err(error_of_check(error)),
     }
 }
@@ -94,7 +94,7 @@ pub(crate) fn walk<S: Alter>(
     checking: Checking,
 ) -> Result<(), OpenError>
     requires { IsTrue (has_table table checking.version) }
-    ensures { Walked checking.version table checking.next
+    ensures { Walked checking.version table checking.next_domain
         (state S.Store conn.old) (state S.Store conn.new) result }
 {
     let mut last = None;
@@ -105,7 +105,7 @@ pub(crate) fn walk<S: Alter>(
     // Bounded, as no clause of the kit bounds what a query shows; the count never ends a walk that a file
     // could hold. For the proof: the label names the loop.
     'rows: for _ in 0..u64::MAX {
-        match rowid_of_next(alloc, table, checking.next, last, &mut rows)? {
+        match rowid_of_next(alloc, table, checking.next_domain, last, &mut rows)? {
             Some(rowid) => last = Some(rowid),
             None => return Ok(()),
         }

@@ -37,28 +37,28 @@ pub(crate) struct SourcePlace {
 }
 
 /// Whether the row is one of a table of domains.
-fn is_domain(next: i64, row: &Row) -> bool
-    ensures { result ≡ is_sound_row Domains next row.now }
+fn is_domain(next_domain: i64, row: &Row) -> bool
+    ensures { result ≡ is_sound_row Domains next_domain row.now }
 {
-    holds_assigned(row, domain::NUMBER, next)
+    holds_assigned(row, domain::NUMBER, next_domain)
         && holds_name(row, domain::NAME)
         && holds_count(row, domain::EPOCH)
 }
 
 /// Whether the row is one of a table of tokens.
-fn is_token(next: i64, row: &Row) -> bool
-    ensures { result ≡ is_sound_row Tokens next row.now }
+fn is_token(next_domain: i64, row: &Row) -> bool
+    ensures { result ≡ is_sound_row Tokens next_domain row.now }
 {
-    holds_assigned(row, token::NUMBER, next)
+    holds_assigned(row, token::NUMBER, next_domain)
         && holds_digest(row, token::DIGEST)
         && holds_bit(row, token::ROLE)
 }
 
 /// Whether the row is one of a table of roots.
-fn is_root(next: i64, row: &Row) -> bool
-    ensures { result ≡ is_sound_row Roots next row.now }
+fn is_root(next_domain: i64, row: &Row) -> bool
+    ensures { result ≡ is_sound_row Roots next_domain row.now }
 {
-    holds_assigned(row, root::NUMBER, next)
+    holds_assigned(row, root::NUMBER, next_domain)
         && holds_bit(row, root::KIND)
         && holds_text(row, root::ID)
         && holds_pattern_if_any(row, root::PATTERN)
@@ -101,10 +101,10 @@ fn holds_body(alloc: Global, row: &Row) -> Result<bool, AllocError>
 }
 
 /// Whether the row is one of a table of documents.
-fn is_document(alloc: Global, next: i64, row: &Row) -> Result<bool, AllocError>
-    ensures { IfOk result (λ b. b ≡ is_sound_row Documents next row.now) }
+fn is_document(alloc: Global, next_domain: i64, row: &Row) -> Result<bool, AllocError>
+    ensures { IfOk result (λ b. b ≡ is_sound_row Documents next_domain row.now) }
 {
-    if holds_assigned(row, document::NUMBER, next) && holds_bit(row, document::ACTIVE) {
+    if holds_assigned(row, document::NUMBER, next_domain) && holds_bit(row, document::ACTIVE) {
         holds_body(alloc, row)
     } else {
         Ok(false)
@@ -164,10 +164,10 @@ fn holds_typed_value(alloc: Global, row: &Row) -> Result<bool, AllocError>
 }
 
 /// Whether the row is one of a source in schema 1.
-fn is_attribute(alloc: Global, next: i64, row: &Row) -> Result<bool, AllocError>
-    ensures { IfOk result (λ b. b ≡ is_sound_row Attributes next row.now) }
+fn is_attribute(alloc: Global, next_domain: i64, row: &Row) -> Result<bool, AllocError>
+    ensures { IfOk result (λ b. b ≡ is_sound_row Attributes next_domain row.now) }
 {
-    if holds_assigned(row, source::NUMBER, next)
+    if holds_assigned(row, source::NUMBER, next_domain)
         && holds_text(row, source::CATEGORY)
         && holds_text(row, source::ENTITY)
         && holds_text(row, source::ATTRIBUTE)
@@ -179,28 +179,28 @@ fn is_attribute(alloc: Global, next: i64, row: &Row) -> Result<bool, AllocError>
 }
 
 /// Whether the row is one of a source in schema 2.
-fn is_source(alloc: Global, next: i64, row: &Row) -> Result<bool, AllocError>
-    ensures { IfOk result (λ b. b ≡ is_sound_row Sources next row.now) }
+fn is_source(alloc: Global, next_domain: i64, row: &Row) -> Result<bool, AllocError>
+    ensures { IfOk result (λ b. b ≡ is_sound_row Sources next_domain row.now) }
 {
-    Ok(is_attribute(alloc, next, row)? && holds_text_if_any(row, source::ISSUER))
+    Ok(is_attribute(alloc, next_domain, row)? && holds_text_if_any(row, source::ISSUER))
 }
 
-/// Whether the row is one of that table; `next` is the number of the next domain.
+/// Whether the row is one of that table; `next_domain` is the number of the next.
 pub(crate) fn is_sound_row(
     alloc: Global,
     table: CheckedTable,
-    next: i64,
+    next_domain: i64,
     row: &Row,
 ) -> Result<bool, AllocError>
-    ensures { IfOk result (λ b. b ≡ is_sound_row table next row.now) }
+    ensures { IfOk result (λ b. b ≡ is_sound_row table next_domain row.now) }
 {
     match table {
-        CheckedTable::Domains => Ok(is_domain(next, row)),
-        CheckedTable::Tokens => Ok(is_token(next, row)),
-        CheckedTable::Documents => is_document(alloc, next, row),
-        CheckedTable::Roots => Ok(is_root(next, row)),
-        CheckedTable::Attributes => is_attribute(alloc, next, row),
-        CheckedTable::Sources => is_source(alloc, next, row),
+        CheckedTable::Domains => Ok(is_domain(next_domain, row)),
+        CheckedTable::Tokens => Ok(is_token(next_domain, row)),
+        CheckedTable::Documents => is_document(alloc, next_domain, row),
+        CheckedTable::Roots => Ok(is_root(next_domain, row)),
+        CheckedTable::Attributes => is_attribute(alloc, next_domain, row),
+        CheckedTable::Sources => is_source(alloc, next_domain, row),
     }
 }
 

@@ -57,7 +57,7 @@ fn check_table<S: Alter>(
     checking: Checking,
 ) -> Result<(), OpenError>
     requires { IsTrue (has_table table checking.version) }
-    ensures { CheckedBy checking.version (λ db. is_sound_table db checking.next table)
+    ensures { CheckedBy checking.version (λ db. is_sound_table db checking.next_domain table)
         (state S.Store conn.old) (state S.Store conn.new) result }
 {
     walk(alloc, conn, table, checking)?;
@@ -76,7 +76,7 @@ fn check_both<S: Alter>(
     requires first { IsTrue (has_table first checking.version) }
     requires second { IsTrue (has_table second checking.version) }
     ensures { CheckedBy checking.version
-        (λ db. is_sound_table db checking.next first && is_sound_table db checking.next second)
+        (λ db. is_sound_table db checking.next_domain first && is_sound_table db checking.next_domain second)
         (state S.Store conn.old) (state S.Store conn.new) result }
 {
     check_table(alloc, conn, first, checking)?;
@@ -91,8 +91,9 @@ fn check_common<S: Alter>(
     checking: Checking,
 ) -> Result<(), OpenError>
     ensures { CheckedBy checking.version
-        (λ db. (is_sound_table db checking.next Domains && is_sound_table db checking.next Tokens)
-        && (is_sound_table db checking.next Documents && is_sound_table db checking.next Roots))
+        (λ db.
+        (is_sound_table db checking.next_domain Domains && is_sound_table db checking.next_domain Tokens)
+        && (is_sound_table db checking.next_domain Documents && is_sound_table db checking.next_domain Roots))
         (state S.Store conn.old) (state S.Store conn.new) result }
 {
     check_both(
@@ -119,7 +120,7 @@ fn check_tables<S: Alter>(
     checking: Checking,
 ) -> Result<(), OpenError>
     ensures { CheckedBy checking.version
-        (λ db. list_all (is_sound_table db checking.next) (tables_in checking.version))
+        (λ db. list_all (is_sound_table db checking.next_domain) (tables_in checking.version))
         (state S.Store conn.old) (state S.Store conn.new) result }
 {
     check_common(alloc, conn, checking)?;
@@ -197,9 +198,10 @@ fn check_all<S: Alter>(
     ensures asks { AsksOver S.Store checking.version conn.old conn.new result }
     ensures finds { FindsIn S.Store checking.version conn.old conn.new
         (IsDatabase (state S.Store conn.old).now
-        → TellsSound (is_sound checking.version (state S.Store conn.old).now.trees checking.next) result) }
+        → TellsSound (is_sound checking.version (state S.Store conn.old).now.trees checking.next_domain)
+        result) }
 {
-    if !is_count(checking.next) {
+    if !is_count(checking.next_domain) {
         return Err(OpenError::Damaged);
     }
     check_tables(alloc, conn, checking)?;
@@ -231,5 +233,12 @@ pub(crate) fn check<S: Alter>(
     // For the proof: an open store holds a database.
     let _schema = conn.schema();
     let next = next_domain(conn, version)?;
-    check_all(alloc, conn, Checking { version, next })
+    check_all(
+        alloc,
+        conn,
+        Checking {
+            version,
+            next_domain: next,
+        },
+    )
 }

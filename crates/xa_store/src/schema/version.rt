@@ -54,5 +54,5 @@ pub(crate) struct Checking {
     /// Their schema.
     pub(crate) version: SchemaVersion,
     /// The number of the next domain.
-    pub(crate) next: i64,
+    pub(crate) next_domain: i64,
 }

@@ -9,7 +9,7 @@ check_table-requires g c = subst (λ kind. has_table kind c.args.checking.versio
 
 pub returns : goal.returns
 returns g c =
-    let next = c.args.checking.next in
+    let next = c.args.checking.next_domain in
     all_tables next (state g.S.Store c.args.conn.now) (state g.S.Store c.check_table.new.conn) c.check_table.result
     (checked_then (λ db. (is_sound_table db next Domains && is_sound_table db next Tokens) && (is_sound_table db next Documents && is_sound_table db next Roots)) (λ db. is_sound_table db next (sources_in c.args.checking.version))
     (state g.S.Store c.args.conn.now) (state g.S.Store c.check_common.new.conn) (state g.S.Store c.check_table.new.conn) c.in_ok-check_common.field-0 c.check_table.result c.in_ok-check_common.ensures
