@@ -5,7 +5,7 @@ use Rattle.xa_records.specs.declared.listed.Listed.{Listed}
 use Rattle.xa_records.specs.declared.active_text.ActiveText.{ActiveText}
 use Rattle.xa_store.specs.declared.query.document_row.FoundDocument.{FoundDocument}
 use Rattle.xa_store.specs.keeping.Lookup.{FindsDocument, found_of}
-use Rattle.xa_store.specs.Rows.{given as given_by, version_in}
+use Rattle.xa_store.specs.Rows.{if_ok, version_in}
 use Rattle.xa_store.specs.keeping.Columns.{TellsOne, document_told, listed_told, text_told}
 use Rattle.xa_store.specs.keeping.Steps.{is_document}
 use Rattle.xa_store.specs.keeping.Texts.{show_document, show_document_kinds, show_documents, show_active_documents}
@@ -31,7 +31,7 @@ active_plain = show_active_documents_is.2
 
 pub reads_as_version : (version : List ℕ) → read_version (version_text version) ≡ Ok version → version_in (version_text version) ≡ version
 unfolding version_in
-reads_as_version version reads = ap (λ r. unwrap_or (given_by r) []) reads
+reads_as_version version reads = ap (λ r. unwrap_or (if_ok r) []) reads
 
 -- each record is what its row reads as
 abbrev IsBack : DocumentRow → Type 0

@@ -12,7 +12,7 @@ use Rattle.xa_records.specs.declared.gate.Token.{Token}
 use Rattle.xa_records.specs.declared.listed.Listed.{Listed}
 use Rattle.xa_records.specs.declared.active_text.ActiveText.{ActiveText}
 use Rattle.xa_store.specs.declared.query.document_row.FoundDocument.{FoundDocument}
-use Rattle.xa_store.specs.Rows.{flag_in, given, kind_in, role_in, value_in, version_in}
+use Rattle.xa_store.specs.Rows.{flag_in, if_ok, kind_in, role_in, value_in, version_in}
 use Rattle.xa_store.specs.keeping.ShownColumns as shown
 
 -- what is found is what the one row tells, and nothing if there is no row
@@ -57,9 +57,9 @@ abbrev pub root_told : Row → Reference
 root_told row = record {
   kind = kind_in (int_of (column row shown.root_kind));
   id = bytes_of (column row shown.root_id);
-  version = option_and_then (λ t. given (read_pattern t)) (unless_null bytes_of (column row shown.root_pattern));
-  earliest = option_and_then (λ t. given (read_version t)) (unless_null bytes_of (column row shown.root_earliest));
-  latest = option_and_then (λ t. given (read_version t)) (unless_null bytes_of (column row shown.root_latest));
+  version = option_and_then (λ t. if_ok (read_pattern t)) (unless_null bytes_of (column row shown.root_pattern));
+  earliest = option_and_then (λ t. if_ok (read_version t)) (unless_null bytes_of (column row shown.root_earliest));
+  latest = option_and_then (λ t. if_ok (read_version t)) (unless_null bytes_of (column row shown.root_latest));
 }
 
 abbrev pub source_told : Row → SourceRow

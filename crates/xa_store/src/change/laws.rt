@@ -6,7 +6,7 @@ ghost use Rattle.xa_policy.specs.Pattern.{pattern_text, read_pattern};
 ghost use Rattle.xa_policy.specs.Version.{read_version, version_text};
 ghost use Rattle.xa_store.specs.Opened.{is_digest, is_pattern, is_version};
 ghost use Rattle.xa_store.specs.keeping.Plan.{HasRootTexts, RootReads};
-ghost use Rattle.xa_store.specs.Rows.{given, reference_of, root_of};
+ghost use Rattle.xa_store.specs.Rows.{if_ok, reference_of, root_of};
 ghost use Rattle.xa_store.specs.Sound.{AreRootTexts, is_if_any};
 ghost use Rattle.xa_store.specs.keeping.Steps.{KeyReads};
 
@@ -48,7 +48,7 @@ pub(crate) fn key_reads_back(key: &DocumentKey)
 
 /// Law: a pattern reads back from its text.
 fn pattern_reads_back(pattern: &Option<Pattern>)
-    ensures back { option_and_then (λ text. given (read_pattern text)) (option_map pattern_text pattern.now)
+    ensures back { option_and_then (λ text. if_ok (read_pattern text)) (option_map pattern_text pattern.now)
         ≡ pattern.now }
     ensures reads { is_if_any is_pattern (option_map pattern_text pattern.now) ≡ true }
 {
@@ -64,7 +64,7 @@ fn pattern_reads_back(pattern: &Option<Pattern>)
 
 /// Law: a version reads back from its text.
 fn version_reads_back(version: &Option<Version>)
-    ensures back { option_and_then (λ text. given (read_version text)) (option_map version_text version.now)
+    ensures back { option_and_then (λ text. if_ok (read_version text)) (option_map version_text version.now)
         ≡ version.now }
     ensures reads { is_if_any is_version (option_map version_text version.now) ≡ true }
 {
