@@ -29,7 +29,7 @@ fn may_have_one_more_token(count: usize) -> bool
 }
 
 /// The plan that adds a token, if the domain hasn't got it.
-fn plan_put_new<S: Alter>(
+fn plan_put_token_new<S: Alter>(
     alloc: Global,
     conn: &mut Connection<S>,
     domain: FoundDomain,
@@ -56,7 +56,7 @@ fn plan_put_new<S: Alter>(
 }
 
 /// The plan that puts a token into the domain that was found.
-fn plan_put_in_domain<S: Alter>(
+fn plan_put_token_in_domain<S: Alter>(
     alloc: Global,
     conn: &mut Connection<S>,
     domain: FoundDomain,
@@ -76,12 +76,12 @@ fn plan_put_in_domain<S: Alter>(
             };
             Ok(one_step(alloc, step)?)
         }
-        None => plan_put_new(alloc, conn, domain, digest, role),
+        None => plan_put_token_new(alloc, conn, domain, digest, role),
     }
 }
 
 /// The plan that puts a token into a domain, or why there is no plan.
-fn plan_put<S: Alter>(
+fn plan_put_token<S: Alter>(
     alloc: Global,
     conn: &mut Connection<S>,
     name: &Text,
@@ -92,11 +92,11 @@ fn plan_put<S: Alter>(
     ensures plans { PlansIn S.Store (within (token_put digest role)) name.now conn.old conn.new result }
 {
     let domain = domain_to_change(conn, name)?;
-    plan_put_in_domain(alloc, conn, domain, digest, role)
+    plan_put_token_in_domain(alloc, conn, domain, digest, role)
 }
 
 /// Puts a token into the domain of that name, or replaces the role of one that is there.
-pub(crate) fn put<S: Alter>(
+pub(crate) fn put_token<S: Alter>(
     alloc: Global,
     conn: &mut Connection<S>,
     name: &Text,
@@ -106,7 +106,7 @@ pub(crate) fn put<S: Alter>(
     ensures turns { Turns (within (token_put digest role)) name.now
         (state S.Store conn.old) (state S.Store conn.new) result }
 {
-    let planned = plan_put(alloc, conn, name, digest, role);
+    let planned = plan_put_token(alloc, conn, name, digest, role);
     carry_out(alloc, conn, planned)
 }
 

@@ -80,7 +80,7 @@ impl<S: Alter> Records for SqlRecords<S> {
         digest: Digest,
         role: Role,
     ) -> Result<(), ChangeError> {
-        let done = token::put(alloc, &mut self.conn, name, digest, role);
+        let done = token::put_token(alloc, &mut self.conn, name, digest, role);
         self.health.after_change(&mut self.conn, done)
     }
 

@@ -5,10 +5,10 @@ use Rattle.xa_store.proofs.keeper.records.SqlRecordsRecords.put_token.Goals as g
 
 pub invariant_of-self : goal.invariant_of-self
 invariant_of-self g c =
-    keeper_after g.S.Store g.met.S.Store.shut_if_dirty g.met.S.Store.settled c.self.inside.conn c.put-done.new.conn c.after_change.new.conn (are_only_ours c.self.inside.tables) c.self.inside.health.is_open c.after_change.new.self.is_open c.self.inside.health.faults c.after_change.new.self.faults
-    c.self.invariant (within (token_put c.args.digest c.args.role)) c.args.name.now c.put-done.result c.after_change.result c.put-done.ensures.turns c.after_change.ensures
+    keeper_after g.S.Store g.met.S.Store.shut_if_dirty g.met.S.Store.settled c.self.inside.conn c.put_token-done.new.conn c.after_change.new.conn (are_only_ours c.self.inside.tables) c.self.inside.health.is_open c.after_change.new.self.is_open c.self.inside.health.faults c.after_change.new.self.faults
+    c.self.invariant (within (token_put c.args.digest c.args.role)) c.args.name.now c.put_token-done.result c.after_change.result c.put_token-done.ensures.turns c.after_change.ensures
 
 pub returns : goal.returns
 returns g c =
-    is_changing_of g.S.Store g.met.S.Store.shut_if_dirty g.met.S.Store.settled c.self.inside.conn c.put-done.new.conn c.after_change.new.conn (are_only_ours c.self.inside.tables) c.self.inside.health.is_open c.after_change.new.self.is_open c.self.inside.health.faults c.after_change.new.self.faults
-    c.self.invariant (within (token_put c.args.digest c.args.role)) c.args.name.now c.put-done.result c.after_change.result c.put-done.ensures.turns c.after_change.ensures c.args.self.now c.self.view_is
+    is_changing_of g.S.Store g.met.S.Store.shut_if_dirty g.met.S.Store.settled c.self.inside.conn c.put_token-done.new.conn c.after_change.new.conn (are_only_ours c.self.inside.tables) c.self.inside.health.is_open c.after_change.new.self.is_open c.self.inside.health.faults c.after_change.new.self.faults
+    c.self.invariant (within (token_put c.args.digest c.args.role)) c.args.name.now c.put_token-done.result c.after_change.result c.put_token-done.ensures.turns c.after_change.ensures c.args.self.now c.self.view_is

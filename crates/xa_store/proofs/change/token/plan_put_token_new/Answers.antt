@@ -2,7 +2,7 @@ use Rattle.std.proofs.Common.{◌≡◌, true, false, nat_lt, sym, subst, rules,
 use Rattle.xa_store.proofs.Common.{to_z-of_z, state, token_put, within, rows_of}
 use Rattle.xa_store.specs.keeping.Turns.{Plans}
 use Rattle.xa_store.proofs.TokenPlans.{plan_full, plan_token}
-use Rattle.xa_store.proofs.change.token.plan_put_new.Goals as goal
+use Rattle.xa_store.proofs.change.token.plan_put_token_new.Goals as goal
 
 pub returns-then-not-may_have_one_more_token-clause-plans : goal.returns-then-not-may_have_one_more_token-clause-plans
 returns-then-not-may_have_one_more_token-clause-plans g c clean ours name is finds =

@@ -1,7 +1,7 @@
 use Rattle.std.proofs.Common.{◌≡◌, Err, refl, rules}
 use Rattle.xa_store.proofs.Common.{state, token_put, within, rows_of}
 use Rattle.xa_store.proofs.AbsentLemmas.{absent_plan}
-use Rattle.xa_store.proofs.change.token.plan_put.Goals as goal
+use Rattle.xa_store.proofs.change.token.plan_put_token.Goals as goal
 
 pub returns-in_err-domain-clause-plans : goal.returns-in_err-domain-clause-plans
 returns-in_err-domain-clause-plans g c = λ clean ours.
