@@ -45,7 +45,7 @@ fn may_have_one_more_document(count: usize) -> bool
 }
 
 /// Whether the two texts are one. For the proof: in a function of its own, the answer is an equation.
-fn is_same_body(one: &[u8], other: &[u8]) -> bool
+fn is_same_text(one: &[u8], other: &[u8]) -> bool
     ensures { result ≡ bytes_eq one.now other.now }
 {
     one == other
@@ -95,7 +95,7 @@ fn plan_upload_again(
 {
     // For the proof: the key reads back from its row.
     key_reads_back(key);
-    if is_same_body(document.text.as_slice(), text) {
+    if is_same_text(document.text.as_slice(), text) {
         return Ok(Items::new(alloc));
     }
     Err(ChangeError::Refused(Refusal::SameVersionOtherText))
