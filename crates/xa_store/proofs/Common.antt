@@ -90,7 +90,7 @@ pub use Rattle.xa_value.specs.Gives.{◌>>=◌}
 pub use Rattle.xa_value.specs.Order.{type_of}
 pub use Rattle.xa_value.specs.Printing.{printed}
 pub use Rattle.xa_value.specs.Reading.{read, read_as}
-pub use Rattle.xa_store.specs.Meaning.{document_entry, documents_at, domain_entry, domain_of, kept_in, kept_in_schema_1, kept_of, library_of, roles_of, root_at, Rows, rows_of, rows_of_schema_1, source_of, sources_at, state_at, token_entry, tokens_at}
+pub use Rattle.xa_store.specs.Meaning.{document_entry, documents_at, domain_entry, domain_of, kept_in, kept_in_schema_1, kept_of, documents_by_key, roles_of, root_at, Rows, rows_of, rows_of_schema_1, source_of, sources_at, state_at, token_entry, tokens_at}
 pub use Rattle.xa_store.specs.Opened.{are_counted, are_rising, are_sound_rows, as_read, checked, count_from, holds_blob, holds_int, holds_key, holds_text, holds_text_if_any, holds_value, int_in, is_assigned, is_bit, is_count, is_digest, is_empty, is_left_empty, is_number, is_pattern, is_printed, is_sound, is_sound_row, is_sound_table, is_value, is_version, is_whole_row, tables_in, known_next, next_of, number_of, opened, place_in, places_of, read_columns, read_meta, rowid_in, schema_of, sources_in, type_numbered}
 pub use Rattle.xa_store.specs.Rows.{activity_number, document_in, document_row, DocumentRow, domain_in, domain_row, DomainRow, flag_in, if_ok, issuer_columns, kind_in, kind_number, meta_row, meta_row_of, nat_of, next_in, placed_row, placed_row_in, PlacedRow, reference_of, role_in, role_number, root_in, root_of, root_row, RootRow, text_at, token_in, token_row, TokenRow, type_in, type_number, unissued_in, value_text, version_in}
 pub use Rattle.xa_store.specs.Sound.{AreDocuments, AreNumbered, AreRootTexts, AreRows, AreSourceTexts, HaveSoundColumns, HaveWrittenRows, is_if_any, IsKeepersStore, IsOurDatabase, IsSoundStore, LeavesKept, OpensSoundly, place_of, Rests, RestsIn, same_document, same_name, same_place, same_token, SameNow}

@@ -1,6 +1,6 @@
 -- The plans of changes of documents.
 use Rattle.std.proofs.Common.{◌≡◌, ◌≢◌, inr, ℕ, ◌+◌, ◌<◌, ◌^◌, ℤ, List, [], ◌∷◌, ◌++◌, filter, find, Bool, true, false, not, cond, nat_lt, bytes_eq, Option, Some, None, option_map, is_some, Ok, Err, refl, sym, ap, subst, ◌∙◌, int_eq}
-use Rattle.xa_store.proofs.Common.{AllByRecursion, eq_by_cmp, FinMap, get, insert, remove, len, IsKeyedBy, next_key, update_where, delete_where, int_eq_apart, same_int, ◌>>=◌, DocumentKey, compare_keys, Absent, Quota, SameVersionOtherText, StillActive, activity_set, deleted, or_absent, upload_of, uploaded, uploaded_over, with_document, with_documents, within, DomainState, IsDocumentOf, StoredDocument, IsNextEpoch, state_of, keys_exact, keys_total, DomainRow, DocumentRow, nat_of, AreNumbered, HaveSoundColumns, Rows, library_of, state_at, documents_at, kept_of}
+use Rattle.xa_store.proofs.Common.{AllByRecursion, eq_by_cmp, FinMap, get, insert, remove, len, IsKeyedBy, next_key, update_where, delete_where, int_eq_apart, same_int, ◌>>=◌, DocumentKey, compare_keys, Absent, Quota, SameVersionOtherText, StillActive, activity_set, deleted, or_absent, upload_of, uploaded, uploaded_over, with_document, with_documents, within, DomainState, IsDocumentOf, StoredDocument, IsNextEpoch, state_of, keys_exact, keys_total, DomainRow, DocumentRow, nat_of, AreNumbered, HaveSoundColumns, Rows, documents_by_key, state_at, documents_at, kept_of}
 use Rattle.xa_records.specs.declared.upload.Upload.TheVariants.{New, Same}
 use Rattle.xa_records.proofs.FinMapLemmas.{get_put, get_taken, put_again}
 use Rattle.xa_store.specs.declared.query.document_row.FoundDocument.{FoundDocument}
@@ -53,14 +53,14 @@ module _ (rows : Rows) (name : List ℕ) (d : DomainRow) (one : IsOnly name d ro
     abbrev with_rows : List DocumentRow → Rows
     with_rows documents = record rows { documents = documents; domains = with_epoch n epoch rows.domains }
 
-    module _ (documents : List DocumentRow) (target : FinMap compare_keys StoredDocument) (here : library_of (documents_at documents n) ≡ target)
+    module _ (documents : List DocumentRow) (target : FinMap compare_keys StoredDocument) (here : documents_by_key (documents_at documents n) ≡ target)
         (others : (m : ℤ) → m ≢ n → documents_at documents m ≡ documents_at rows.documents m) (differs : state.documents ≢ target) where
       rewrote : Rewrote rows (with_rows documents) d epoch (with_documents target state)
       rewrote = record {
         next = refl;
         domains = refl;
         state = λ i. with_documents (here i) state;
-        others = λ m apart. λ i. with_documents (library_of (others m apart i)) (state_at rows m);
+        others = λ m apart. λ i. with_documents (documents_by_key (others m apart i)) (state_at rows m);
       }
 
       next_epoch : IsNextEpoch state (with_documents target state) (nat_of d.epoch) (nat_of epoch)
@@ -84,7 +84,7 @@ module _ (rows : Rows) (name : List ℕ) (d : DomainRow) (one : IsOnly name d ro
           let documents = update_where (is_document n key) f rows.documents in
           let put : StoredDocument = record { text = x.text; active = active } in
           let target = insert state.documents key put in
-          let here : library_of (documents_at documents n) ≡ target = ap library_of (filter_update ours has_key f (λ x. refl) rows.documents) ∙ entry.updated keys_total keys_exact key_of stored key f (λ x. refl) xs x found in
+          let here : documents_by_key (documents_at documents n) ≡ target = ap documents_by_key (filter_update ours has_key f (λ x. refl) rows.documents) ∙ entry.updated keys_total keys_exact key_of stored key f (λ x. refl) xs x found in
           let others = λ (m : ℤ) (apart : m ≢ n). filter_update_apart ours has_key (λ x. int_eq x.number m) (apart_from m apart) f (λ x. refl) rows.documents in
           let differs : state.documents ≢ target = λ same. other (let both : ◌≡◌ {A = Option StoredDocument} (Some (stored x)) (Some put) = sym present ∙ ap (λ m. get m key) same ∙ get_put keys_total state.documents key put in
           let it : stored x ≡ put = cc in ap (λ (s : StoredDocument). s.active) it) in
@@ -96,7 +96,7 @@ module _ (rows : Rows) (name : List ℕ) (d : DomainRow) (one : IsOnly name d ro
       drop_planned idle =
           let documents = delete_where (is_document n key) rows.documents in
           let target = remove state.documents key in
-          let here : library_of (documents_at documents n) ≡ target = ap library_of (filter_delete ours has_key rows.documents) ∙ entry.deleted keys_total keys_exact key_of stored key xs in
+          let here : documents_by_key (documents_at documents n) ≡ target = ap documents_by_key (filter_delete ours has_key rows.documents) ∙ entry.deleted keys_total keys_exact key_of stored key xs in
           let others = λ (m : ℤ) (apart : m ≢ n). filter_delete_apart ours has_key (λ x. int_eq x.number m) (apart_from m apart) rows.documents in
           let differs : state.documents ≢ target = λ same. let both : ◌≡◌ {A = Option StoredDocument} (Some (stored x)) None = sym present ∙ ap (λ m. get m key) same ∙ get_taken keys_total state.documents key in cc in
           planned rows name d one (deleted key) are (with_documents target state)
@@ -116,8 +116,8 @@ module _ (rows : Rows) (name : List ℕ) (d : DomainRow) (one : IsOnly name d ro
           let documents = rows.documents ++ new ∷ [] in
           let put : StoredDocument = record { text = body; active = false } in
           let target = insert state.documents key put in
-          let here : library_of (documents_at documents n) ≡ target =
-          ap library_of (filter_push ours rows.documents new (own_number n)) ∙ entry.pushed keys_total keys_exact key_of stored xs new (find_none has_key xs (sym among ∙ none)) in
+          let here : documents_by_key (documents_at documents n) ≡ target =
+          ap documents_by_key (filter_push ours rows.documents new (own_number n)) ∙ entry.pushed keys_total keys_exact key_of stored xs new (find_none has_key xs (sym among ∙ none)) in
           let others = λ (m : ℤ) (apart : m ≢ n). filter_push_apart (λ x. int_eq x.number m) rows.documents new (int_eq_apart n m (λ same. apart (sym same))) in
           let differs : state.documents ≢ target = λ same. let both : ◌≡◌ {A = Option StoredDocument} None (Some put) = sym missing ∙ ap (λ m. get m key) same ∙ get_put keys_total state.documents key put in cc in
           planned rows name d one (uploaded key body) are (with_documents target state) (ap (uploaded_over key body state) missing ∙ ap (λ b. cond b (Ok (with_document key body false state)) (Err Quota)) room)

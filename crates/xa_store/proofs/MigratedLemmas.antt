@@ -1,6 +1,6 @@
 -- Tables that were brought into schema 2 are sound, and mean what those of schema 1 meant.
 use Rattle.std.proofs.Common.{◌≡◌, ℕ, ◌+◌, ◌<◌, ℤ, pos, true, ◌&&◌, cond, List, [], ◌∷◌, map, filter, int_cmp, int_eq, int_lt, Ok, Err, refl, sym, ap, subst, ◌∙◌, arith}
-use Rattle.xa_store.proofs.Common.{from_entries, list_all, on, ints, Database, Row, Trees, IsSound, sort_by, filter-map, map-map, map_same, first_of_both, second_of_both, sort_by-map, SourceRow, Damaged, CheckedTable, Domains, Tokens, Documents, Roots, Attributes, Sources, Schema1, Schema2, are_counted, are_rising, are_sound_rows, as_read, is_count, is_empty, is_left_empty, is_sound, is_sound_row, is_sound_table, is_whole_row, checked, tables_in, known_next, opened, place_in, read_meta, rowid_in, PlacedRow, DomainRow, placed_row_in, document_in, domain_in, meta_row, nat_of, next_in, root_in, token_in, unissued_in, sources_at, documents_at, domain_entry, rows_of_schema_1, kept_in_schema_1, library_of, roles_of, root_at, rows_of, source_of, state_at, tokens_at, kept_in}
+use Rattle.xa_store.proofs.Common.{from_entries, list_all, on, ints, Database, Row, Trees, IsSound, sort_by, filter-map, map-map, map_same, first_of_both, second_of_both, sort_by-map, SourceRow, Damaged, CheckedTable, Domains, Tokens, Documents, Roots, Attributes, Sources, Schema1, Schema2, are_counted, are_rising, are_sound_rows, as_read, is_count, is_empty, is_left_empty, is_sound, is_sound_row, is_sound_table, is_whole_row, checked, tables_in, known_next, opened, place_in, read_meta, rowid_in, PlacedRow, DomainRow, placed_row_in, document_in, domain_in, meta_row, nat_of, next_in, root_in, token_in, unissued_in, sources_at, documents_at, domain_entry, rows_of_schema_1, kept_in_schema_1, documents_by_key, roles_of, root_at, rows_of, source_of, state_at, tokens_at, kept_in}
 use Rattle.xa_store.specs.keeping.Migration.{IsDone, IsSoundSchema1, moved_row, moved_rows}
 use Rattle.xa_store.specs.Opening.{IsMigrated}
 use Rattle.xa_store.proofs.MigratingLemmas.{its_meta}
@@ -106,7 +106,7 @@ module _ (first : Trees) (sound : IsSoundSchema1 first) (d : Database) (done : I
   states : (n : ℤ) → state_at (rows_of db) n ≡ state_at (rows_of_schema_1 first) n
   states n = λ i. record {
     tokens = roles_of (tokens_at (map token_in (done.others.1.0 i)) n);
-    documents = library_of (documents_at (map document_in (done.others.1.1.0 i)) n);
+    documents = documents_by_key (documents_at (map document_in (done.others.1.1.0 i)) n);
     root = root_at (map root_in (done.others.1.1.1.0 i)) n;
     source = (ap (λ rows. source_of (sources_at (map placed_row_in rows) n)) done.sources ∙ source_same (first 8) n) i;
   }

@@ -1,6 +1,6 @@
 -- Rows whose numbers were given are those of domains that are apart, and none stands for a number that wasn't.
 use Rattle.std.proofs.Common.{◌≡◌, ◌<◌, ◌≤◌, ◌^◌, ℕ, ℤ, ◌<ℤ◌, pos, negsuc, true, false, cond, List, [], ◌∷◌, filter, find, int_eq, int_lt, Option, Some, None, option_map, refl, sym, ap, ap₂, subst, ◌∙◌, arith}
-use Rattle.xa_store.proofs.Common.{AllByRecursion, get, ints, IsKeyedBy, get_by, int_eq_apart, all_both, all_weaker, filter_none, first_of_both, second_of_both, same_bytes, new_domain, Domain, IsNumbered, is_assigned, is_count, PlacedRow, DocumentRow, DomainRow, RootRow, TokenRow, nat_of, reference_of, AreNumbered, HaveSoundColumns, Rows, domain_of, kept_of, library_of, roles_of, source_of, state_at}
+use Rattle.xa_store.proofs.Common.{AllByRecursion, get, ints, IsKeyedBy, get_by, int_eq_apart, all_both, all_weaker, filter_none, first_of_both, second_of_both, same_bytes, new_domain, Domain, IsNumbered, is_assigned, is_count, PlacedRow, DocumentRow, DomainRow, RootRow, TokenRow, nat_of, reference_of, AreNumbered, HaveSoundColumns, Rows, domain_of, kept_of, documents_by_key, roles_of, source_of, state_at}
 use Rattle.sqlite.specs.Ops.{fits_i64}
 use Rattle.xa_store.specs.keeping.Steps.{is_named}
 use Rattle.xa_store.proofs.ChangeLemmas.{found_all, kept_at, number_of}
@@ -108,7 +108,7 @@ module _ (rows : Rows) (whole : HaveSoundColumns rows) (up : IsKeyedBy number_of
     nothing : state_at rows (pos n) ≡ new_domain
     nothing = λ i. record {
       tokens = roles_of (none_left (λ (t : TokenRow). t.number) (IsWholeToken rows.next) (λ t h. h.0) rows.tokens whole.tokens i);
-      documents = library_of (none_left (λ (d : DocumentRow). d.number) (IsWholeDocument rows.next) (λ d h. h) rows.documents whole.documents i);
+      documents = documents_by_key (none_left (λ (d : DocumentRow). d.number) (IsWholeDocument rows.next) (λ d h. h) rows.documents whole.documents i);
       root = option_map reference_of (find_none (λ (r : RootRow). int_eq r.number (pos n)) rows.roots (none_left (λ (r : RootRow). r.number) (IsWholeRoot rows.next) (λ r h. h.0) rows.roots whole.roots) i);
       source = source_of (none_left (λ (a : PlacedRow). a.number) (IsWholePlacedRow rows.next) (λ a h. h.0) rows.sources whole.sources i);
     }

@@ -1,6 +1,6 @@
 -- The plan of a domain that is removed.
 use Rattle.std.proofs.Common.{◌≡◌, ◌≢◌, ℕ, ◌<◌, ℤ, pos, List, [], ◌∷◌, map, filter, find, not, Bool, true, false, cond, Option, Some, None, option_map, int_cmp, int_eq, slice_get, refl, sym, ap, subst, ◌∙◌, arith}
-use Rattle.xa_store.proofs.Common.{AllByRecursion, eq_by_cmp, get, ints, both_ways, IsKeyedBy, get_by, delete_where, sort_by, int_eq_apart, same_int, all_weaker, slice_get-filter, same_bytes, removed, compare_bytes, Domain, Becomes, IsChanged, IsNextNumber, numbered_changed, count_from, places_of, PlacedRow, DomainRow, RootRow, nat_of, reference_of, AreNumbered, HaveSoundColumns, place_of, Rows, sources_at, roles_of, library_of, root_at, source_of, state_at, domain_of, kept_of}
+use Rattle.xa_store.proofs.Common.{AllByRecursion, eq_by_cmp, get, ints, both_ways, IsKeyedBy, get_by, delete_where, sort_by, int_eq_apart, same_int, all_weaker, slice_get-filter, same_bytes, removed, compare_bytes, Domain, Becomes, IsChanged, IsNextNumber, numbered_changed, count_from, places_of, PlacedRow, DomainRow, RootRow, nat_of, reference_of, AreNumbered, HaveSoundColumns, place_of, Rows, sources_at, roles_of, documents_by_key, root_at, source_of, state_at, domain_of, kept_of}
 use Rattle.xa_store.specs.declared.query.domain.FoundDomain.{FoundDomain}
 use Rattle.xa_store.specs.declared.step.Step.TheVariants.{DropDomain}
 use Rattle.xa_store.specs.keeping.Lookup.{IsDomain}
@@ -55,7 +55,7 @@ module _ (rows : Rows) (name : List ℕ) (d : DomainRow) (up : IsKeyedBy number_
       let other : int_eq d.number n ≡ false = int_eq_apart d.number n (λ same. apart (sym same)) in
       let root : root_at after.roots n ≡ root_at rows.roots n =
       ap (option_map reference_of) (get_by-without_key (λ (r : RootRow). r.number) d.number n rows.roots ∙ ap (λ b. cond b None (get_by (λ r. r.number) rows.roots n)) other) in
-      λ i. record { tokens = roles_of (tokens i); documents = library_of (documents i); root = root i; source = source_of (sources i) }
+      λ i. record { tokens = roles_of (tokens i); documents = documents_by_key (documents i); root = root i; source = source_of (sources i) }
 
   found_again : (other : List ℕ) → other ≢ name → find (is_named other) after.domains ≡ find (is_named other) rows.domains
   found_again other apart =

@@ -51,27 +51,35 @@ rows_of_schema_1 db = record (rows_of db) { sources = map unissued_in (db (tree_
 
 -- ---- the state of the domain of a number
 
+-- the rows of the tokens of the domain of that number
 abbrev pub tokens_at : List TokenRow → ℤ → List TokenRow
 tokens_at tokens number = filter (λ t. int_eq t.number number) tokens
 
+-- the rows of the documents of the domain of that number
 abbrev pub documents_at : List DocumentRow → ℤ → List DocumentRow
 documents_at documents number = filter (λ d. int_eq d.number number) documents
 
+-- the rows of the source of the domain of that number
 abbrev pub sources_at : List PlacedRow → ℤ → List PlacedRow
 sources_at sources number = filter (λ p. int_eq p.number number) sources
 
+-- a token's role, by its digest
 abbrev pub token_entry : TokenRow → List ℕ × Role
 token_entry t = (t.digest, t.role)
 
+-- a document's text, and whether it is active, by its key
 abbrev pub document_entry : DocumentRow → DocumentKey × StoredDocument
 document_entry d = (d.key, record { text = d.text; active = d.active })
 
+-- the roles of the tokens of rows, by their digests
 abbrev pub roles_of : List TokenRow → FinMap compare_bytes Role
 roles_of tokens = from_entries (map token_entry tokens)
 
-abbrev pub library_of : List DocumentRow → FinMap compare_keys StoredDocument
-library_of documents = from_entries (map document_entry documents)
+-- the documents of rows, by their keys
+abbrev pub documents_by_key : List DocumentRow → FinMap compare_keys StoredDocument
+documents_by_key documents = from_entries (map document_entry documents)
 
+-- the root of the domain of that number, if a row has one
 abbrev pub root_at : List RootRow → ℤ → Option Reference
 root_at roots number = option_map reference_of (get_by (λ r. r.number) roots number)
 
@@ -79,22 +87,26 @@ root_at roots number = option_map reference_of (get_by (λ r. r.number) roots nu
 abbrev pub source_of : List PlacedRow → List SourceRow
 source_of sources = map (λ p. p.row) (sort_by (on (λ p. p.place) int_cmp) sources)
 
+-- what the rows keep of the domain of that number: its tokens, its documents, its root and its source
 abbrev pub state_at : Rows → ℤ → DomainState
 state_at rows number = record {
   tokens = roles_of (tokens_at rows.tokens number);
-  documents = library_of (documents_at rows.documents number);
+  documents = documents_by_key (documents_at rows.documents number);
   root = root_at rows.roots number;
   source = source_of (sources_at rows.sources number);
 }
 
 -- ---- all domains
 
+-- a domain: its number and epoch are in its row, and its state in the rows of that number
 abbrev pub domain_of : Rows → DomainRow → Domain
 domain_of rows d = record { number = nat_of d.number; epoch = nat_of d.epoch; state = state_at rows d.number }
 
+-- a domain, by its name
 abbrev pub domain_entry : Rows → DomainRow → List ℕ × Domain
 domain_entry rows d = (d.name, domain_of rows d)
 
+-- all domains, by their names, and the number of the next
 abbrev pub kept_of : Rows → Kept
 kept_of rows = record { domains = from_entries (map (domain_entry rows) rows.domains); next = nat_of rows.next }
 
