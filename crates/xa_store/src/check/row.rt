@@ -17,6 +17,7 @@ use crate::check::cell::{
     holds_pattern_if_any, holds_text, holds_text_if_any, holds_this_text, holds_version_if_any,
 };
 use crate::check::columns::{ROWID, document, domain, meta, root, source, source_place, token};
+use crate::parameter::kind_number;
 use crate::query::cell::type_numbered;
 use crate::schema::checked_table::CheckedTable;
 use crate::schema::version::SchemaVersion;
@@ -71,7 +72,7 @@ fn holds_key_of(alloc: Global, row: &Row, parsed: &Parsed) -> Result<bool, Alloc
     ensures { IfOk result (λ b. b ≡ holds_key_of row.now (Ok parsed.now)) }
 {
     let version = parsed.version().to_text(alloc)?;
-    let kind = i64::from(parsed.kind().place());
+    let kind = kind_number(parsed.kind());
     Ok(
         holds_number(row, document::KIND, kind)
             && holds_this_text(row, document::ID, parsed.id().as_bytes())
