@@ -10,14 +10,12 @@ ghost use Rattle.xa_records.specs.DomainName.{is_domain_name};
 ghost use Rattle.xa_store.specs.Opened.{holds_int, holds_text, holds_text_if_any, holds_blob, is_bit};
 ghost use Rattle.xa_store.specs.Opened.{is_assigned, is_count, is_digest, is_pattern, is_version};
 
+use crate::query::token::DIGEST_BYTES;
 use sqlite::Row;
 use sqlite::types::ValueRef;
 use std::str;
 use xa_policy::{Pattern, Version};
 use xa_records::is_domain_name;
-
-/// How many bytes a SHA-256 digest has (FIPS 180-4): that is what is kept of a token.
-const DIGEST_BYTES: usize = 32;
 
 /// Whether it is an epoch or a number, of which none is negative.
 pub(crate) fn is_count(number: i64) -> bool

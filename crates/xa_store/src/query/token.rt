@@ -21,6 +21,9 @@ use xa_notation::Role;
 use xa_records::{Digest, Failure, Token};
 use xa_value::Items;
 
+/// How many bytes a SHA-256 digest has (FIPS 180-4): that is what is kept of a token.
+pub(crate) const DIGEST_BYTES: usize = 32;
+
 /// Read from the column of `sql::SHOW_ROLE`.
 impl FromRow for Role {
     ghost told = { role_told };
@@ -46,7 +49,7 @@ fn digest_in(row: &Row, at: usize) -> Result<Digest, Failure>
     ensures { IfOk result (λ digest. digest ≡ bytes_of (column row.now at)) }
 {
     let bytes = bytes_in(row, at)?;
-    let bytes = <[u8; 32]>::try_from(bytes.as_slice()).map_err(|_| Failure::Store)?;
+    let bytes = <[u8; DIGEST_BYTES]>::try_from(bytes.as_slice()).map_err(|_| Failure::Store)?;
     Ok(Digest::from_bytes(bytes))
 }
 
