@@ -1,5 +1,5 @@
 -- The plan of a domain that is made.
-use Rattle.std.proofs.Common.{◌≡◌, ◌≢◌, ℕ, ◌+◌, ◌<◌, ◌^◌, ℤ, pos, List, [], ◌∷◌, filter, find, Bool, true, false, cond, Option, Some, None, option_map, Ok, Err, Ordering, Less, Equal, Greater, is_eq, int_cmp, int_eq, int_lt, true≢false, refl, sym, ap, ap₂, subst, ◌∙◌, arith}
+use Rattle.std.proofs.Common.{◌≡◌, ◌≢◌, ℕ, ◌+◌, ◌<◌, ◌^◌, ℤ, pos, List, [], ◌∷◌, filter, find, Bool, true, false, cond, Option, Some, None, is_some, option_map, Ok, Err, Ordering, Less, Equal, Greater, is_eq, int_cmp, int_eq, int_lt, true≢false, refl, sym, ap, ap₂, subst, ◌∙◌, arith}
 use Rattle.xa_store.proofs.Common.{AllByRecursion, match_ordering, get, eq_by_cmp_equiv, nat_list_cmp_total, insert_by, AreApart, int_eq_apart, all_both, all_weaker, created, DomainState, new_domain, Domain, Becomes, IsChanged, IsNextNumber, IsRaised, state_of, numbered_changed, Exists, is_domain_name, is_count, DomainRow, nat_of, AreNumbered, same_name, Rows, state_at, domain_of, kept_of}
 use Rattle.xa_store.specs.declared.query.domain.FoundDomain.{FoundDomain}
 use Rattle.xa_store.specs.keeping.Lookup.{FindsDomain, IsNext}
@@ -127,6 +127,6 @@ plan_created rows name number later named are apart none next raises =
     (create_planned rows are apart name none has later (subst (λ n. RaisesTo n (Ok later)) next.same raises) named)
 
 -- there is a domain of that name
-pub found_exists : (rows : Rows) (name : List ℕ) (found : Option FoundDomain) (one : FoundDomain) → found ≡ Some one → FindsDomain name rows found → created (state_of name (kept_of rows)) ≡ Err Exists
-found_exists rows name None one is finds = absurd cc
-found_exists rows name (Some there) one is finds = ap created (its_state rows name finds.row finds.only)
+pub found_exists : (rows : Rows) (name : List ℕ) (found : Option FoundDomain) → is_some found ≡ true → FindsDomain name rows found → created (state_of name (kept_of rows)) ≡ Err Exists
+found_exists rows name None is finds = absurd (true≢false (sym is))
+found_exists rows name (Some there) is finds = ap created (its_state rows name finds.row finds.only)

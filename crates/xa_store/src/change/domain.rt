@@ -62,7 +62,7 @@ fn plan_create<S: Alter>(
     ensures plans { PlansIn S.Store created name.now conn.old conn.new result }
 {
     let found = domain_named(conn, name)?;
-    if let Some(_) = found {
+    if found.is_some() {
         return Err(ChangeError::Refused(Refusal::Exists));
     }
     let number = next_number(conn)?;
