@@ -1,6 +1,7 @@
 -- How far a reference can lead, which ends the recursion.
 use Rattle.std.proofs.Common.{◌≡◌, ℕ, zero, suc, ◌+◌, ◌*◌, ◌≤◌, List, [], ◌∷◌, map, Option, Some, None, Ok, refl, sym, ap, ◌∙◌, arith}
 use Rattle.std.specs.Prelude.{option_and_then, option_map, slice_get}
+use Rattle.std.specs.Result.{result_ok}
 use denote.Param.Weighed.{most}
 use Rattle.xa_policy.specs.declared.linked.Linked.{Linked}
 use Rattle.xa_policy.specs.declared.linked.Linked.TheVariants.{Unresolved}
@@ -13,7 +14,7 @@ use Rattle.xa_link.specs.declared.active.Active.{Active}
 use Rattle.xa_link.specs.declared.placed.Placed.{Placed}
 use Rattle.xa_link.specs.declared.placed.Placed.TheVariants as part
 use Rattle.xa_link.proofs.placed.Placed.TheLaws.{the_size}
-use Rattle.xa_link.specs.Linking.{document_at, if_read, link, replaced_in, tree_at, tree_within, unless_circular}
+use Rattle.xa_link.specs.Linking.{document_at, link, replaced_in, tree_at, tree_within, unless_circular}
 use Rattle.xa_link.specs.placing.Placed.{led_within, linked, placed, placed_at}
 use Rattle.xa_link.specs.Resolution.{resolve}
 use Rattle.xa_link.specs.placing.Room.{fitted, policy_fitted, set_fitted}
@@ -26,7 +27,7 @@ depth_if all None = 0
 depth_if all (Some p) = the_size (placed (resolve all) p.document)
 
 abbrev pub depth_of : List Active → Active → ℕ
-depth_of all a = depth_if all (if_read (document_of a.text))
+depth_of all a = depth_if all (result_ok (document_of a.text))
 
 abbrev pub greatest_depth : List Active → ℕ
 greatest_depth all = most (depth_of all) all
@@ -50,7 +51,7 @@ at_most all (a ∷ rest) (suc place) found is =
 pub at_greatest : (active : List Active) (place : ℕ) (document : Placed) → placed_at active place ≡ Some document → the_size document ≤ greatest_depth active
 at_greatest active place document is = by_found (slice_get active place) refl
   where
-    by_read : (a : Active) → slice_get active place ≡ Some a → (r : Option Parsed) → if_read (document_of a.text) ≡ r
+    by_read : (a : Active) → slice_get active place ≡ Some a → (r : Option Parsed) → result_ok (document_of a.text) ≡ r
         → option_map (λ (p : Parsed). placed (resolve active) p.document) r ≡ Some document → the_size document ≤ greatest_depth active
     by_read a at None read there = absurd (let f : None ≡ Some document = there in cc)
     by_read a at (Some p) read there =
@@ -60,8 +61,8 @@ at_greatest active place document is = by_found (slice_get active place) refl
         omega (arith, below, depth)
 
     by_found : (o : Option Active) → slice_get active place ≡ o → the_size document ≤ greatest_depth active
-    by_found None at = absurd (let f : None ≡ Some document = sym (ap (λ o. option_map (λ (p : Parsed). placed (resolve active) p.document) (option_and_then (λ (a : Active). if_read (document_of a.text)) o)) at) ∙ is in cc)
-    by_found (Some a) at = by_read a at (if_read (document_of a.text)) refl (sym (ap (λ o. option_map (λ (p : Parsed). placed (resolve active) p.document) (option_and_then (λ (a : Active). if_read (document_of a.text)) o)) at) ∙ is)
+    by_found None at = absurd (let f : None ≡ Some document = sym (ap (λ o. option_map (λ (p : Parsed). placed (resolve active) p.document) (option_and_then (λ (a : Active). result_ok (document_of a.text)) o)) at) ∙ is in cc)
+    by_found (Some a) at = by_read a at (result_ok (document_of a.text)) refl (sym (ap (λ o. option_map (λ (p : Parsed). placed (resolve active) p.document) (option_and_then (λ (a : Active). result_ok (document_of a.text)) o)) at) ∙ is)
 
 -- nothing stands at the place
 pub none_at : (active : List Active) (place : ℕ) (more : ℕ) (path : List ℕ) → placed_at active place ≡ None

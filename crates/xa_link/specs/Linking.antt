@@ -3,6 +3,7 @@
 use Rattle.std.specs.Prelude.{ℕ, zero, suc, ◌+◌, ◌==◌, nat_lt, if◌then◌else◌, List, [], ◌∷◌, sum}
 use Rattle.std.specs.Prelude.{Option, Some, None, option_and_then, slice_get, Result, Ok, Err}
 use Rattle.std.specs.List.{list_any}
+use Rattle.std.specs.Result.{result_ok}
 use Rattle.xa_policy.specs.declared.linked.Linked.{Linked, fold-Linked}
 use Rattle.xa_policy.specs.declared.linked.Linked.TheOpen.{Linked-F}
 use Rattle.xa_policy.specs.declared.linked.Linked.TheVariants.{Unresolved, Policy, PolicySet}
@@ -10,7 +11,6 @@ use Rattle.xa_policy.specs.declared.reference.Reference.{Reference}
 use Rattle.xa_notation.specs.declared.document.Document.{Document, fold-Document}
 use Rattle.xa_notation.specs.declared.document.Document.TheOpen.{Document-F}
 use Rattle.xa_notation.specs.declared.document.Parsed.{Parsed}
-use Rattle.xa_notation.specs.declared.notation_error.NotationError.{NotationError}
 use Rattle.xa_notation.specs.Document.{document_of}
 use Rattle.xa_link.specs.declared.active.Active.{Active}
 use Rattle.xa_link.specs.declared.link_error.LinkError.{LinkError}
@@ -26,15 +26,10 @@ replaced_step replacement (Document-F.Reference reference) = replacement referen
 abbrev pub replaced : (Reference → Linked) → Document → Linked
 replaced replacement = fold-Document Linked (replaced_step replacement)
 
--- the document that a text was read as, if it is one
-abbrev pub if_read : Result Parsed NotationError → Option Parsed
-if_read (Ok parsed) = Some parsed
-if_read (Err _) = None
-
--- the active document at a place, by its text
+-- the document that the active one at a place is, by its text, if it is one
 abbrev pub document_at : List Active → ℕ → Option Parsed
 document_at active place =
-    option_and_then (λ (document : Active). if_read (document_of document.text)) (slice_get active place)
+    option_and_then (λ (document : Active). result_ok (document_of document.text)) (slice_get active place)
 
 -- a document in which each reference is replaced
 abbrev pub replaced_in : (Reference → Linked) → Option Parsed → Linked

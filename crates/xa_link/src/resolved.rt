@@ -2,9 +2,10 @@
 //! once at most.
 ghost use Rattle.std.specs.Prelude.{◌≡◌, ◌≤◌, ◌<◌, ◌==◌, [], length, slice_get};
 ghost use Rattle.std.specs.Prelude.{option_map, Some, None, IfOk, OnErr};
+ghost use Rattle.std.specs.Result.{result_ok};
 ghost use Rattle.xa_notation.specs.Document.{document_of};
 ghost use Rattle.xa_shelf.specs.Allowance.{asked};
-ghost use Rattle.xa_link.specs.Linking.{document_at, if_read};
+ghost use Rattle.xa_link.specs.Linking.{document_at};
 ghost use Rattle.xa_link.specs.placing.Placed.{AreRight, HasPlaced, SamePlaced, held, placed_at};
 ghost use Rattle.xa_link.specs.placing.Progress.{Counted, length_at};
 ghost use Rattle.xa_link.specs.Resolution.{resolve};
@@ -131,7 +132,7 @@ fn found_at(documents: &[Finding], place: usize) -> Result<Finding, AllocError>
 
 /// The document that the text is, if it is one.
 fn read_if(reader: &mut TextReader<'_>, text: &[u8]) -> Result<Option<Shared<Parsed>>, AllocError>
-    ensures value { IfOk result (λ document. document ≡ if_read (document_of text.now)) }
+    ensures value { IfOk result (λ document. document ≡ result_ok (document_of text.now)) }
     ensures spends { reader.new ≡ asked (length text.now) reader.old }
     ensures within { IfOk result (λ _. length text.now ≤ reader.old.left) }
 {

@@ -1,16 +1,11 @@
 -- The key of a document, by the parts of a path.
-use Rattle.std.specs.Prelude.{ℕ, List, Option, Some, None, Result, Ok, Err}
+use Rattle.std.specs.Prelude.{Option, Some, None}
+use Rattle.std.specs.Result.{result_ok}
 use Rattle.xa_http.specs.declared.route.DocumentParts.{DocumentParts}
 use Rattle.xa_policy.specs.declared.document_key.DocumentKey.{DocumentKey}
-use Rattle.xa_policy.specs.declared.version_error.VersionError.{VersionError}
 use Rattle.xa_policy.specs.DocumentKey.{kind_named}
 use Rattle.xa_policy.specs.Version.{read_version}
 use Rattle.xa_value.specs.Text.{text_if}
-
--- the version that a text writes, if it writes one
-abbrev pub version_if : Result (List ℕ) VersionError → Option (List ℕ)
-version_if (Ok version) = Some version
-version_if (Err _) = None
 
 -- the second step is made with the value of the first, if the first gave one
 infixl 10 ◌>>=◌
@@ -25,5 +20,5 @@ key_of_parts parts = do
   kind ← kind_named parts.kind
   id ← text_if parts.id
   text ← text_if parts.version
-  version ← version_if (read_version text)
+  version ← result_ok (read_version text)
   Some (record { kind = kind; id = id; version = version })

@@ -13,6 +13,7 @@ pub use Rattle.std.specs.FinMap.{contains_key, empty, entries, entries-insert, F
 pub use Rattle.std.specs.List.{AllByRecursion, join_with_byte, list_all, list_any}
 pub use Rattle.std.specs.Ordering.{eq_by_cmp, match_ordering, on, ordering_reverse, ordering_then}
 pub use Rattle.std.specs.Prelude.{FitsSigned}
+pub use Rattle.std.specs.Result.{result_ok}
 pub use Rattle.std.specs.Str.{is_utf8, IsAscii, IsUtf8}
 pub use Rattle.sqlite.proofs.Callers.{begins_as, begun_plain, command_of, given_begin, never_commits, one_permutation, one_step, reads_as, runs_as, statement_of, survives_begin, unchanged_then}
 pub use Rattle.sqlite.proofs.StateLemmas.{clean_if_open, survives_then, survives_weaker}
@@ -92,7 +93,7 @@ pub use Rattle.xa_value.specs.Printing.{printed}
 pub use Rattle.xa_value.specs.Reading.{read, read_as}
 pub use Rattle.xa_store.specs.Meaning.{document_entry, documents_at, domain_entry, domain_of, kept_in, kept_in_schema_1, kept_of, documents_by_key, roles_of, root_at, Rows, rows_of, rows_of_schema_1, source_of, sources_at, state_at, token_entry, tokens_at}
 pub use Rattle.xa_store.specs.Opened.{are_counted, are_rising, are_sound_rows, as_read, checked, count_from, holds_blob, holds_int, holds_key, holds_text, holds_text_if_any, holds_value, int_in, is_assigned, is_bit, is_count, is_digest, is_empty, is_left_empty, is_number, is_pattern, is_printed, is_sound, is_sound_row, is_sound_table, is_value, is_version, is_whole_row, tables_in, known_next, next_of, number_of, opened, place_in, places_of, read_columns, read_meta, rowid_in, schema_of, sources_in, type_numbered}
-pub use Rattle.xa_store.specs.Rows.{activity_number, document_in, document_row, DocumentRow, domain_in, domain_row, DomainRow, flag_in, if_ok, issuer_columns, kind_in, kind_number, meta_row, meta_row_of, nat_of, next_in, placed_row, placed_row_in, PlacedRow, reference_of, role_in, role_number, root_in, root_of, root_row, RootRow, text_at, token_in, token_row, TokenRow, type_in, type_number, unissued_in, value_text, version_in}
+pub use Rattle.xa_store.specs.Rows.{activity_number, document_in, document_row, DocumentRow, domain_in, domain_row, DomainRow, flag_in, issuer_columns, kind_in, kind_number, meta_row, meta_row_of, nat_of, next_in, placed_row, placed_row_in, PlacedRow, reference_of, role_in, role_number, root_in, root_of, root_row, RootRow, text_at, token_in, token_row, TokenRow, type_in, type_number, unissued_in, value_text, version_in}
 pub use Rattle.xa_store.specs.Sound.{AreDocuments, AreNumbered, AreRootTexts, AreRows, AreSourceTexts, HaveSoundColumns, HaveWrittenRows, is_if_any, IsKeepersStore, IsOurDatabase, IsSoundStore, LeavesKept, OpensSoundly, place_of, Rests, RestsIn, same_document, same_name, same_place, same_token, SameNow}
 pub use Rattle.xa_store.specs.Tables.{attributes, domains, meta, needed, of_domain, own_key, policies, rising, roots, schema_1, schema_2, sources, text_if_any, tokens, tree_of}
 pub use Rattle.xa_store.specs.declared.error.OpenError.{OpenError}

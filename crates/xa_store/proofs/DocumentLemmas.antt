@@ -1,11 +1,12 @@
 -- What the queries on documents find.
 use Rattle.std.proofs.Common.{◌≡◌, ℕ, ℤ, pos, List, [], ◌∷◌, map, filter, length, Bool, true, false, ◌&&◌, Ordering, Less, is_eq, int_eq, Option, Some, None, option_map, unwrap_or, find, Ok, refl, sym, ap, subst, ◌∙◌, IsPermutation, IsSorted}
+use Rattle.std.specs.Result.{result_ok}
 use Rattle.xa_store.proofs.Common.{IsTotalOrder, get, entries, len, len-entries, length-map, AllByRecursion, on, on_total, IsPermutation-map, IsPermutation-trans, length_permutation, Row, State, Shown, Trees, Int, Text, Blob, IsPlain, understood, Term, col, reads_as, sort_by, all_of, all_weaker, map-map, filter-map, IsPermutation-filter, ascending-map, ascending-filter, sorted_unique, IsPermutation-sort_by, Eq, IsAscending, at_ints, then_term, last_term, DocumentKey, compare_keys, read_version, version_text, StoredDocument, active_text, active_texts, listed_of, listing_of_state, text_in, keys_total, keys_exact, DocumentRow, document_row, document_in, activity_number, kind_number, HaveWrittenRows, IsKeepersStore, same_document, schema_2, Rows, rows_of, state_at, documents_at, document_entry}
 use Rattle.xa_records.specs.declared.listed.Listed.{Listed}
 use Rattle.xa_records.specs.declared.active_text.ActiveText.{ActiveText}
 use Rattle.xa_store.specs.declared.query.document_row.FoundDocument.{FoundDocument}
 use Rattle.xa_store.specs.keeping.Lookup.{FindsDocument, found_of}
-use Rattle.xa_store.specs.Rows.{if_ok, version_in}
+use Rattle.xa_store.specs.Rows.{version_in}
 use Rattle.xa_store.specs.keeping.Columns.{TellsOne, document_told, listed_told, text_told}
 use Rattle.xa_store.specs.keeping.Steps.{is_document}
 use Rattle.xa_store.specs.keeping.Texts.{show_document, show_document_kinds, show_documents, show_active_documents}
@@ -31,7 +32,7 @@ active_plain = show_active_documents_is.2
 
 pub reads_as_version : (version : List ℕ) → read_version (version_text version) ≡ Ok version → version_in (version_text version) ≡ version
 unfolding version_in
-reads_as_version version reads = ap (λ r. unwrap_or (if_ok r) []) reads
+reads_as_version version reads = ap (λ r. unwrap_or (result_ok r) []) reads
 
 -- each record is what its row reads as
 abbrev IsBack : DocumentRow → Type 0

@@ -1,6 +1,6 @@
 -- Sound rows of the table of documents are rows that the keeper writes.
 use Rattle.std.proofs.Common.{◌≡◌, ◌≤◌, ℕ, ℤ, true, false, List, [], ◌∷◌, length, drop, unwrap_or, int_eq, bytes_eq, None, Result, Ok, Err, refl, sym, ap, subst, ◌∙◌, true≢false, arith}
-use Rattle.xa_store.proofs.Common.{Row, column, Trees, Value, Int, Text, IsSound, same_int, first_of_both, second_of_both, agree, are_typed, Eq, int_of, bytes_of, at_ints, at_texts, then_term, last_term, bytes_eq_refl, DocumentKey, DocumentKind, read_version, version_text, Parsed, document_of, IsDocumentOf, Documents, as_read, holds_key, is_assigned, is_bit, is_sound_table, is_whole_row, DocumentRow, activity_number, flag_in, document_in, document_row, if_ok, kind_in, kind_number, AreRows, same_document, schema_2, policies, rising}
+use Rattle.xa_store.proofs.Common.{Row, column, Trees, Value, Int, Text, IsSound, same_int, first_of_both, second_of_both, agree, are_typed, Eq, int_of, bytes_of, at_ints, at_texts, then_term, last_term, bytes_eq_refl, DocumentKey, DocumentKind, read_version, version_text, Parsed, document_of, IsDocumentOf, Documents, as_read, holds_key, is_assigned, is_bit, is_sound_table, is_whole_row, DocumentRow, activity_number, flag_in, document_in, document_row, result_ok, kind_in, kind_number, AreRows, same_document, schema_2, policies, rising}
 use Rattle.sqlite_value.specs.Keys.{first_key}
 use Rattle.xa_notation.specs.declared.notation_error.NotationError.{NotationError}
 use Rattle.xa_store.specs.Rows.{version_in}
@@ -21,7 +21,7 @@ kind_held kind n h = subst (λ m. m ≡ kind_number (kind_in m)) (same_int (kind
 version_held : (version text : List ℕ) → read_version (version_text version) ≡ Ok version → bytes_eq (version_text version) text ≡ true → text ≡ version_text (version_in text)
 unfolding version_in
 version_held version text reads h =
-    subst (λ t. t ≡ version_text (unwrap_or (if_ok (read_version t)) [])) (same_text (version_text version) text h) (ap (λ r. version_text (unwrap_or (if_ok r) [])) (sym reads))
+    subst (λ t. t ≡ version_text (unwrap_or (result_ok (read_version t)) [])) (same_text (version_text version) text h) (ap (λ r. version_text (unwrap_or (result_ok r) [])) (sym reads))
 
 abbrev IsKey : Value → Value → Value → Type 0
 IsKey kind id version = (kind ≡ Int (kind_number (kind_in (int_of kind)))) × (id ≡ Text (bytes_of id)) × (version ≡ Text (version_text (version_in (bytes_of version))))
@@ -38,7 +38,7 @@ key_held kind id version body (Err e) is h = absurd (true≢false (sym h))
 
 version_named : (version : List ℕ) → read_version (version_text version) ≡ Ok version → version_in (version_text version) ≡ version
 unfolding version_in
-version_named version reads = ap (λ r. unwrap_or (if_ok r) []) reads
+version_named version reads = ap (λ r. unwrap_or (result_ok r) []) reads
 
 document_of_key : (kind id version : Value) (body : List ℕ) (r : Result Parsed NotationError) → document_of body ≡ r → holds_key kind id version r ≡ true
     → IsDocumentOf (record { kind = kind_in (int_of kind); id = bytes_of id; version = version_in (bytes_of version) }) body

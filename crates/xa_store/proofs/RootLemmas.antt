@@ -1,6 +1,6 @@
 -- What the query for a root finds.
 use Rattle.std.proofs.Common.{◌≡◌, ℕ, zero, suc, ℤ, List, [], ◌∷◌, map, Bool, int_eq, Option, option_and_then, refl, sym}
-use Rattle.xa_store.proofs.Common.{Row, column, State, Shown, Trees, Int, Text, IsPlain, understood, Term, col, reads_as, all_of, bytes_of, or_null, unless_null, null_back, DocumentKind, Reference, read_pattern, read_version, RootRow, root_row, root_in, if_ok, kind_number, text_at, IsKeepersStore, schema_2, rows_of, state_at}
+use Rattle.xa_store.proofs.Common.{Row, column, State, Shown, Trees, Int, Text, IsPlain, understood, Term, col, reads_as, all_of, bytes_of, or_null, unless_null, null_back, DocumentKind, Reference, read_pattern, read_version, RootRow, root_row, root_in, result_ok, kind_number, text_at, IsKeepersStore, schema_2, rows_of, state_at}
 use Rattle.xa_store.specs.keeping.Lookup.{FindsOne}
 use Rattle.xa_store.specs.Rows.{reference_of}
 use Rattle.xa_store.specs.keeping.Columns.{TellsOne, root_told}
@@ -31,9 +31,9 @@ abbrev made_of : DocumentKind → List ℕ → Option (List ℕ) → Option (Lis
 made_of kind id pattern earliest latest = record {
   kind = kind;
   id = id;
-  version = option_and_then (λ text. if_ok (read_pattern text)) pattern;
-  earliest = option_and_then (λ text. if_ok (read_version text)) earliest;
-  latest = option_and_then (λ text. if_ok (read_version text)) latest;
+  version = option_and_then (λ text. result_ok (read_pattern text)) pattern;
+  earliest = option_and_then (λ text. result_ok (read_version text)) earliest;
+  latest = option_and_then (λ text. result_ok (read_version text)) latest;
 }
 
 root_back : (r : RootRow) → root_told (show_root_row r) ≡ reference_of r

@@ -1,6 +1,6 @@
 -- The plan of a root that is set.
 use Rattle.std.proofs.Common.{◌≡◌, ◌≢◌, inr, ◌+◌, ◌<◌, ◌^◌, ℕ, ℤ, List, [], Bool, true, false, not, cond, Option, Some, None, option_map, option_and_then, Ok, refl, sym, ap, subst, ◌∙◌, int_eq}
-use Rattle.xa_store.proofs.Common.{is_utf8, IsKeyedBy, get_by, insert_by, without_key, all-insert_by, int_eq_apart, Reference, pattern_text, read_pattern, read_version, version_text, within, root_set, DomainState, is_assigned, is_count, is_pattern, is_version, DomainRow, RootRow, if_ok, nat_of, AreNumbered, AreRootTexts, HaveSoundColumns, is_if_any, Rows, root_at, state_at}
+use Rattle.xa_store.proofs.Common.{is_utf8, IsKeyedBy, get_by, insert_by, without_key, all-insert_by, int_eq_apart, Reference, pattern_text, read_pattern, read_version, version_text, within, root_set, DomainState, is_assigned, is_count, is_pattern, is_version, DomainRow, RootRow, result_ok, nat_of, AreNumbered, AreRootTexts, HaveSoundColumns, is_if_any, Rows, root_at, state_at}
 use Rattle.xa_store.specs.declared.query.domain.FoundDomain.{FoundDomain}
 use Rattle.xa_store.specs.keeping.Lookup.{IsDomain}
 use Rattle.xa_store.specs.keeping.Plan.{HasRootTexts, RaisesTo, RootReads, root_steps}
@@ -113,8 +113,8 @@ module _ (rows : Rows) (name : List ℕ) (found : FoundDomain) (there root : Opt
       (root_planned rows name is.row is.only up are next root (reads is.row.number) (texts is.row.number) (λ same. differs (its_root ∙ same)) rises (subst (λ k. k < 2 ^ 63) (sym rises) r.1))
 
 -- a reference reads back from its row, if its parts do
-pub reference_back : (number : ℤ) (r : Reference) → option_and_then (λ text. if_ok (read_pattern text)) (option_map pattern_text r.version) ≡ r.version
-    → option_and_then (λ text. if_ok (read_version text)) (option_map version_text r.earliest) ≡ r.earliest → option_and_then (λ text. if_ok (read_version text)) (option_map version_text r.latest) ≡ r.latest
+pub reference_back : (number : ℤ) (r : Reference) → option_and_then (λ text. result_ok (read_pattern text)) (option_map pattern_text r.version) ≡ r.version
+    → option_and_then (λ text. result_ok (read_version text)) (option_map version_text r.earliest) ≡ r.earliest → option_and_then (λ text. result_ok (read_version text)) (option_map version_text r.latest) ≡ r.latest
     → reference_of (root_of number r) ≡ r
 unfolding reference_of root_of
 reference_back number r version earliest latest = λ i. record { kind = r.kind; id = r.id; version = version i; earliest = earliest i; latest = latest i }

@@ -1,6 +1,6 @@
 -- Sound rows are rows that the keeper writes.
 use Rattle.std.proofs.Common.{◌≡◌, ◌≤◌, ℕ, ℤ, pos, negsuc, ◌<ℤ◌, Bool, true, false, ◌&&◌, ◌==◌, not, cond, unwrap_or, codes, List, [], ◌∷◌, map, length, drop, slice_get, is_some, int_lt, int_eq, bytes_eq, Option, Some, None, Result, Ok, Err, refl, sym, ap, ap₂, ◌∙◌, true≢false, arith}
-use Rattle.xa_store.proofs.Common.{AllByRecursion, is_utf8, ints, Row, column, Value, Null, Int, Real, Text, Blob, IsKeyedBy, AreApart, all_from_test, all_weaker, all_both, all_unmap, ascending_from_map, none_from_any, any_from_none, first_of_both, second_of_both, are_present, are_typed, agree, clashes, differ, suits, is_null, Eq, Ne, IsAscending, int_of, bytes_of, or_null, unless_null, at_ints, then_term, last_term, same_bytes, is_eq-slice_cmp, type_of, printed, read, read_as, CheckedTable, Domains, Tokens, Attributes, Sources, is_domain_name, are_rising, as_read, holds_text, holds_text_if_any, holds_value, is_assigned, is_bit, is_count, is_digest, is_number, is_printed, is_value, is_whole_row, rowid_in, PlacedRow, placed_row_in, placed_row, domain_in, domain_row, if_ok, issuer_columns, nat_of, role_in, role_number, token_in, token_row, type_number, same_place, attributes, domains, needed, own_key, rising, sources, tokens}
+use Rattle.xa_store.proofs.Common.{AllByRecursion, is_utf8, ints, Row, column, Value, Null, Int, Real, Text, Blob, IsKeyedBy, AreApart, all_from_test, all_weaker, all_both, all_unmap, ascending_from_map, none_from_any, any_from_none, first_of_both, second_of_both, are_present, are_typed, agree, clashes, differ, suits, is_null, Eq, Ne, IsAscending, int_of, bytes_of, or_null, unless_null, at_ints, then_term, last_term, same_bytes, is_eq-slice_cmp, type_of, printed, read, read_as, CheckedTable, Domains, Tokens, Attributes, Sources, is_domain_name, are_rising, as_read, holds_text, holds_text_if_any, holds_value, is_assigned, is_bit, is_count, is_digest, is_number, is_printed, is_value, is_whole_row, rowid_in, PlacedRow, placed_row_in, placed_row, domain_in, domain_row, result_ok, issuer_columns, nat_of, role_in, role_number, token_in, token_row, type_number, same_place, attributes, domains, needed, own_key, rising, sources, tokens}
 use Rattle.sqlite.specs.Kind.TheVariants as kinds
 use Rattle.sqlite_schema.specs.declared.schema.Column.{Column}
 use Rattle.sqlite_value.specs.Keys.{first_key}
@@ -134,7 +134,7 @@ unfolding value_in value_text
 typed_back n text t is counts (Err e) reads h = absurd (true≢false (sym h))
 typed_back n text t is counts (Ok v) reads h =
     let value : value_in n text ≡ v =
-    ap (λ o. unwrap_or (if_ok (read (unwrap_or o String) text)) (datum.String text)) is ∙ ap (λ r. unwrap_or (if_ok r) (datum.String text)) reads in
+    ap (λ o. unwrap_or (result_ok (read (unwrap_or o String) text)) (datum.String text)) is ∙ ap (λ r. unwrap_or (result_ok r) (datum.String text)) reads in
     let number : type_number v ≡ n = ap (λ t. pos (place_of t)) (read_type t text v reads) ∙ ap pos (place_is (nat_of n) t is) ∙ count_back n counts in
     (ap Int (sym number) ∙ ap (λ v. Int (type_number v)) (sym value), ap Text (sym (same_text (printed v) text h)) ∙ ap (λ v. Text (value_text v)) (sym value))
 

@@ -1,6 +1,6 @@
 -- The plan of a source that is set.
 use Rattle.std.proofs.Common.{◌≡◌, ◌≢◌, inr, ◌+◌, ◌<◌, ◌≤◌, ◌^◌, ◌<ℤ◌, ℕ, ℤ, pos, ◌+ℤ◌, not, List, [], ◌∷◌, ◌++◌, map, filter, length, Bool, true, false, cond, nat_le, bytes_eq, unwrap_or, Result, Ok, Err, is_gt, refl, sym, ap, subst, ◌∙◌, arith, int_eq, int_cmp, true≢false}
-use Rattle.xa_store.proofs.Common.{AllByRecursion, on, is_utf8, ints, is_eq-slice_cmp, IsKeyedBy, next_key, delete_where, sort_by, insert_sorted, Less-from_lt, int_eq_apart, same_int, all-append, all_weaker, ascending-append, filter_none, first_of_both, second_of_both, sort_by-map, bytes_eq_refl, type_of, printed, read, SourceRow, Quota, source_set, within, DomainState, state_of, count_from, holds_value, is_assigned, is_count, is_printed, is_value, places_of, type_numbered, PlacedRow, DomainRow, if_ok, nat_of, type_number, AreNumbered, HaveSoundColumns, Rows, sources_at, kept_of, source_of, state_at}
+use Rattle.xa_store.proofs.Common.{AllByRecursion, on, is_utf8, ints, is_eq-slice_cmp, IsKeyedBy, next_key, delete_where, sort_by, insert_sorted, Less-from_lt, int_eq_apart, same_int, all-append, all_weaker, ascending-append, filter_none, first_of_both, second_of_both, sort_by-map, bytes_eq_refl, type_of, printed, read, SourceRow, Quota, source_set, within, DomainState, state_of, count_from, holds_value, is_assigned, is_count, is_printed, is_value, places_of, type_numbered, PlacedRow, DomainRow, result_ok, nat_of, type_number, AreNumbered, HaveSoundColumns, Rows, sources_at, kept_of, source_of, state_at}
 use Rattle.xa_value.specs.declared.read_error.ReadError.{ReadError}
 use Rattle.xa_value.specs.declared.value.Value.{Value}
 use Rattle.xa_value.specs.declared.value.Value.TheVariants as value
@@ -26,8 +26,8 @@ use Rattle.xa_store.proofs.WholeLemmas.{IsWholePlacedRow, count_after, epoch_who
 pub value_reads : (v x : Value) (text : List ℕ) → text ≡ printed v → read (type_of v) text ≡ Ok x → x ≡ v → ReadsBack v
 unfolding value_in value_text
 value_reads v x text prints reads same =
-    ap (λ t. unwrap_or (if_ok (read t (printed v))) (value.String (printed v))) (of_type (type_of v)).back
-    ∙ ap (λ (r : Result Value ReadError). unwrap_or (if_ok r) (value.String (printed v))) (ap (read (type_of v)) (sym prints) ∙ reads) ∙ same
+    ap (λ t. unwrap_or (result_ok (read t (printed v))) (value.String (printed v))) (of_type (type_of v)).back
+    ∙ ap (λ (r : Result Value ReadError). unwrap_or (result_ok r) (value.String (printed v))) (ap (read (type_of v)) (sym prints) ∙ reads) ∙ same
 
 -- it stands there in its printed form
 pub value_held : (v x : Value) (text : List ℕ) → text ≡ printed v → is_utf8 text ≡ true → read (type_of v) text ≡ Ok x → x ≡ v → holds_value (type_number v) (value_text v) ≡ true

@@ -2,7 +2,8 @@
 -- with its rowid; if that is a column of the table, that column holds NULL.
 use Rattle.std.specs.Prelude.{ℕ, zero, ℤ, pos, negsuc, Bool, true, false, List, [], ◌∷◌}
 use Rattle.std.specs.Prelude.{map, drop, slice_get, slice_index_or, unwrap_or, Option, Some}
-use Rattle.std.specs.Prelude.{None, is_some, option_map, option_and_then, Result, Ok, Err}
+use Rattle.std.specs.Prelude.{None, is_some, option_map, option_and_then}
+use Rattle.std.specs.Result.{result_ok}
 use Rattle.sqlite.specs.Order.{Row, column}
 use Rattle.sqlite.specs.declared.types.Value.TheVariants.{Null, Int, Text, Blob}
 use Rattle.sqlite_typed.specs.Columns.{int_of, bytes_of, or_null, unless_null}
@@ -55,15 +56,10 @@ abbrev pub kind_in : ℤ → DocumentKind
 kind_in (pos zero) = Policy
 kind_in _ = PolicySet
 
--- what an answer has, if it is no error
-abbrev pub if_ok : {X E : Type 0} → Result X E → Option X
-if_ok (Ok x) = Some x
-if_ok (Err e) = None
-
 -- a version as a text; one that doesn't read gives no numbers, as no version has, so none but the empty text is
 -- written back from them
 unfoldable pub version_in : List ℕ → List ℕ
-version_in text = unwrap_or (if_ok (read_version text)) []
+version_in text = unwrap_or (result_ok (read_version text)) []
 
 -- a data type by its place among all
 abbrev pub type_number : Value → ℤ
@@ -77,7 +73,7 @@ unfoldable pub value_text : Value → List ℕ
 value_text v = printed v
 
 unfoldable pub value_in : ℤ → List ℕ → Value
-value_in number text = unwrap_or (if_ok (read (type_in number) text)) (value.String text)
+value_in number text = unwrap_or (result_ok (read (type_in number) text)) (value.String text)
 
 -- ---- meta: the schema's number, and that of the next domain
 
@@ -181,9 +177,9 @@ unfoldable pub reference_of : RootRow → Reference
 reference_of r = record {
   kind = r.kind;
   id = r.id;
-  version = option_and_then (λ text. if_ok (read_pattern text)) (text_at r.texts 0);
-  earliest = option_and_then (λ text. if_ok (read_version text)) (text_at r.texts 1);
-  latest = option_and_then (λ text. if_ok (read_version text)) (text_at r.texts 2);
+  version = option_and_then (λ text. result_ok (read_pattern text)) (text_at r.texts 0);
+  earliest = option_and_then (λ text. result_ok (read_version text)) (text_at r.texts 1);
+  latest = option_and_then (λ text. result_ok (read_version text)) (text_at r.texts 2);
 }
 
 -- the root that a reference is

@@ -1,5 +1,6 @@
 -- What the rows of the queries tell, by the columns that they show.
 use Rattle.std.specs.Prelude.{◌≡◌, ℕ, List, [], ◌∷◌, Option, Some, None, option_and_then}
+use Rattle.std.specs.Result.{result_ok}
 use Rattle.sqlite.specs.Order.{Row, column}
 use Rattle.sqlite_typed.specs.Columns.{int_of, bytes_of, unless_null}
 use Rattle.xa_policy.specs.declared.document_key.DocumentKey.{DocumentKey}
@@ -12,7 +13,7 @@ use Rattle.xa_records.specs.declared.gate.Token.{Token}
 use Rattle.xa_records.specs.declared.listed.Listed.{Listed}
 use Rattle.xa_records.specs.declared.active_text.ActiveText.{ActiveText}
 use Rattle.xa_store.specs.declared.query.document_row.FoundDocument.{FoundDocument}
-use Rattle.xa_store.specs.Rows.{flag_in, if_ok, kind_in, role_in, value_in, version_in}
+use Rattle.xa_store.specs.Rows.{flag_in, kind_in, role_in, value_in, version_in}
 use Rattle.xa_store.specs.keeping.ShownColumns as shown
 
 -- what is found is what the one row tells, and nothing if there is no row
@@ -57,9 +58,9 @@ abbrev pub root_told : Row → Reference
 root_told row = record {
   kind = kind_in (int_of (column row shown.root_kind));
   id = bytes_of (column row shown.root_id);
-  version = option_and_then (λ t. if_ok (read_pattern t)) (unless_null bytes_of (column row shown.root_pattern));
-  earliest = option_and_then (λ t. if_ok (read_version t)) (unless_null bytes_of (column row shown.root_earliest));
-  latest = option_and_then (λ t. if_ok (read_version t)) (unless_null bytes_of (column row shown.root_latest));
+  version = option_and_then (λ t. result_ok (read_pattern t)) (unless_null bytes_of (column row shown.root_pattern));
+  earliest = option_and_then (λ t. result_ok (read_version t)) (unless_null bytes_of (column row shown.root_earliest));
+  latest = option_and_then (λ t. result_ok (read_version t)) (unless_null bytes_of (column row shown.root_latest));
 }
 
 abbrev pub source_told : Row → SourceRow

@@ -2,11 +2,12 @@
 //! call of it tells the proof what its clause says.
 ghost use Rattle.std.specs.Prelude.{◌≡◌, ℤ, true, option_and_then, option_map};
 ghost use Rattle.std.specs.Str.{is_utf8};
+ghost use Rattle.std.specs.Result.{result_ok};
 ghost use Rattle.xa_policy.specs.Pattern.{pattern_text, read_pattern};
 ghost use Rattle.xa_policy.specs.Version.{read_version, version_text};
 ghost use Rattle.xa_store.specs.Opened.{is_digest, is_pattern, is_version};
 ghost use Rattle.xa_store.specs.keeping.Plan.{HasRootTexts, RootReads};
-ghost use Rattle.xa_store.specs.Rows.{if_ok, reference_of, root_of};
+ghost use Rattle.xa_store.specs.Rows.{reference_of, root_of};
 ghost use Rattle.xa_store.specs.Sound.{AreRootTexts, is_if_any};
 ghost use Rattle.xa_store.specs.keeping.Steps.{KeyReads};
 
@@ -48,8 +49,8 @@ pub(crate) fn key_reads_back(key: &DocumentKey)
 
 /// Law: a pattern reads back from its text.
 fn pattern_reads_back(pattern: &Option<Pattern>)
-    ensures back { option_and_then (λ text. if_ok (read_pattern text)) (option_map pattern_text pattern.now)
-        ≡ pattern.now }
+    ensures back { option_and_then (λ text. result_ok (read_pattern text))
+        (option_map pattern_text pattern.now) ≡ pattern.now }
     ensures reads { is_if_any is_pattern (option_map pattern_text pattern.now) ≡ true }
 {
     match pattern {
@@ -64,8 +65,8 @@ fn pattern_reads_back(pattern: &Option<Pattern>)
 
 /// Law: a version reads back from its text.
 fn version_reads_back(version: &Option<Version>)
-    ensures back { option_and_then (λ text. if_ok (read_version text)) (option_map version_text version.now)
-        ≡ version.now }
+    ensures back { option_and_then (λ text. result_ok (read_version text))
+        (option_map version_text version.now) ≡ version.now }
     ensures reads { is_if_any is_version (option_map version_text version.now) ≡ true }
 {
     match version {

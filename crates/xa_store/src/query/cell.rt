@@ -1,13 +1,14 @@
 //! What one column of a row holds, as a value: a number, a text, bytes, a flag, a role, a kind of documents,
 //! a data type, a version or a pattern.
 ghost use Rattle.std.specs.Prelude.{◌≡◌, option_and_then, IfOk};
+ghost use Rattle.std.specs.Result.{result_ok};
 ghost use Rattle.sqlite.specs.Order.{column};
 ghost use Rattle.sqlite.specs.declared.types.Value.TheVariants.{Int};
 ghost use Rattle.sqlite_typed.specs.Columns.{bytes_of, int_of, unless_null};
 ghost use Rattle.xa_policy.specs.Pattern.{read_pattern};
 ghost use Rattle.xa_policy.specs.Version.{read_version};
 ghost use Rattle.xa_store.specs.Opened.{type_numbered};
-ghost use Rattle.xa_store.specs.Rows.{flag_in, if_ok, kind_in, role_in, type_in, version_in};
+ghost use Rattle.xa_store.specs.Rows.{flag_in, kind_in, role_in, type_in, version_in};
 
 use crate::failure::failure_of;
 use sqlite::Row;
@@ -110,7 +111,8 @@ pub(crate) fn version_in(row: &Row, at: usize) -> Result<Version, Failure>
 /// The version in a column that may hold none.
 pub(crate) fn version_if_any(row: &Row, at: usize) -> Result<Option<Version>, Failure>
     ensures { IfOk result (λ version. version
-        ≡ option_and_then (λ text. if_ok (read_version text)) (unless_null bytes_of (column row.now at))) }
+        ≡ option_and_then (λ text. result_ok (read_version text))
+        (unless_null bytes_of (column row.now at))) }
 {
     text_if_any(row, at)?
         .map(|text| Version::read(text.as_str()).map_err(|_| Failure::Store))
@@ -120,7 +122,8 @@ pub(crate) fn version_if_any(row: &Row, at: usize) -> Result<Option<Version>, Fa
 /// The pattern of versions in a column that may hold none.
 pub(crate) fn pattern_if_any(row: &Row, at: usize) -> Result<Option<Pattern>, Failure>
     ensures { IfOk result (λ pattern. pattern
-        ≡ option_and_then (λ text. if_ok (read_pattern text)) (unless_null bytes_of (column row.now at))) }
+        ≡ option_and_then (λ text. result_ok (read_pattern text))
+        (unless_null bytes_of (column row.now at))) }
 {
     text_if_any(row, at)?
         .map(|text| Pattern::read(text.as_str()).map_err(|_| Failure::Store))
