@@ -1,12 +1,13 @@
 -- Looking at a store, and what is told after that.
-use Rattle.std.proofs.Common.{◌≡◌, inl, inr, ⊎_elim, ℕ, [], List, Bool, true, false, Option, Some, None, Result, Ok, Err, IfErr, IfOk, IsOk, IsTrue, refl, sym, subst, ◌∙◌, true≢false, arith}
+use Rattle.std.proofs.Common.{◌≡◌, inl, inr, ⊎_elim, ℕ, [], List, Bool, true, false, Option, Some, None, Result, Ok, Err, IfErr, IfOk, IsOk, IsTrue, refl, sym, ap, subst, ◌∙◌, true≢false, arith}
 use Rattle.xa_store.proofs.Common.{Row, State, HasCause, HasCleanDisk, IsNoStatement, IsUnchanged, Survives, store_error, Error, Rests, SameNow}
 use Rattle.sqlite.specs.State.{IsNotRun}
 use Rattle.sqlite.specs.declared.error.Error.TheVariants.{SqliteFailure}
 use Rattle.sqlite.specs.declared.error.ErrorCode.TheVariants.{Closed}
 use Rattle.sqlite_trees.specs.declared.error.StoreError.{StoreError}
 use Rattle.sqlite_trees.specs.declared.error.StoreError.TheVariants.{OutOfMemory, Io, Corrupt, Full, Broken, Unstorable}
-use Rattle.xa_store.specs.keeping.Health.{Looks, Sees}
+use Rattle.xa_store.specs.keeping.Health.{FailsToLook, Looks, Sees}
+use Rattle.xa_store.specs.keeping.Texts.{probe}
 use Rattle.xa_store.proofs.AskLemmas.{rolled_same, unchanged_same}
 
 -- ---- a statement that is prepared, or isn't
@@ -73,3 +74,9 @@ module _ {X : Type 0} (P : X → Type 0) (old new : State) (sql : List ℕ) wher
     λ is. absurd cc,
     λ up. absurd (closed_shut old new sql [] (subst (λ (r2 : Result X Error). IfErr r2 (λ e. (params : Row) → IsNotRun old new sql params e)) (shut refl) (err (clean_up up)) []) up),
   )
+
+-- a look that sees nothing has failed, otherwise than at a shut store
+pub prepared_unseen : {X : Type 0} (old new : State) (r : Result X Error) → IfErr r (λ e. (params : Row) → IsNotRun old new probe params e) → (seen : Option Bool)
+    → (IsOk r → seen ≡ Some true) → (r ≡ Err (SqliteFailure Closed) → seen ≡ Some false) → seen ≡ None → FailsToLook old new
+prepared_unseen old new (Ok x) err seen opened shut none = absurd (let there = sym none ∙ opened refl in cc)
+prepared_unseen old new (Err e) err seen opened shut none = (e, (λ closed. absurd (let there = sym none ∙ shut (ap Err closed) in cc)), err)

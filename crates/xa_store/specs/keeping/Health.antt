@@ -1,12 +1,17 @@
 -- What a keeper tells of a call, once it has looked whether its store is open.
-use Rattle.std.specs.Prelude.{◌≡◌, ℕ, Bool, Option, Some, None, Result, Ok, Err, IfOk, IsErrOf, IsTrue, OnOk}
-use Rattle.sqlite.specs.State.{State, HasCleanDisk}
+use Rattle.std.specs.Prelude.{◌≡◌, ◌⊎◌, ℕ, Bool, Option, Some, None, Result, Ok, Err, IfOk, IsErrOf, IsTrue, OnOk}
+use Rattle.sqlite.specs.Order.{Row}
+use Rattle.sqlite.specs.State.{State, HasCleanDisk, IsNotRun}
 use Rattle.sqlite.specs.Tree.{Trees}
+use Rattle.sqlite.specs.declared.error.Error.{Error}
+use Rattle.sqlite.specs.declared.error.Error.TheVariants.{SqliteFailure}
+use Rattle.sqlite.specs.declared.error.ErrorCode.TheVariants.{Closed}
 use Rattle.xa_records.specs.declared.refusal.ChangeError.{ChangeError}
 use Rattle.xa_records.specs.declared.refusal.ChangeError.TheVariants.{Failed, Refused}
 use Rattle.xa_records.specs.declared.refusal.Failure.{Failure}
 use Rattle.xa_records.specs.declared.refusal.Failure.TheVariants.{Memory, Store}
 use Rattle.xa_records.specs.Keeper.{CountsChange, CountsReading, IfAnswered, IsOneMore}
+use Rattle.xa_store.specs.keeping.Texts.{probe}
 use Rattle.xa_store.specs.Sound.{Rests, SameNow}
 
 -- A call that only looks. An open connection was open before, and a clean one clean; it holds what it held, and a
@@ -22,11 +27,21 @@ abbrev pub Sees : State → Option Bool → Type 0
 Sees s None = Unit {0}
 Sees s (Some is) = (IsTrue is → HasCleanDisk s → IsTrue s.is_open) × (IsTrue s.is_open → IsTrue is)
 
--- what is told of a failure of an open keeper: want of memory leaves it open; a failure of the store is counted, and
--- the keeper is open exactly if its store is
-abbrev pub TellsFailure : State → Bool → ℕ → ℕ → Failure → Type 0
-TellsFailure new after faults next Memory = IsTrue after × (next ≡ faults)
-TellsFailure new after faults next Store = IsOneMore faults next × Sees new (Some after)
+-- a look that saw nothing: its statement wasn't prepared, and not since the store is shut
+abbrev pub FailsToLook : State → State → Type 0
+FailsToLook old new =
+    (error : Error) × ¬ (error ≡ SqliteFailure Closed) × ((params : Row) → IsNotRun old new probe params error)
+
+-- want of memory was met, or passes for what a look met that saw nothing
+abbrev pub WantsMemory : State → State → Type 0 → Type 0
+WantsMemory old new met = met ⊎ (HasCleanDisk new → FailsToLook old new)
+
+-- what is told of a failure that an open keeper met: want of memory leaves it open; a failure of the store is counted,
+-- and the keeper is open exactly if its store is
+abbrev pub TellsFailure : State → State → Bool → ℕ → ℕ → Failure → Failure → Type 0
+TellsFailure old new after faults next met Memory =
+    IsTrue after × (next ≡ faults) × WantsMemory old new (met ≡ Memory)
+TellsFailure old new after faults next met Store = (met ≡ Store) × IsOneMore faults next × Sees new (Some after)
 
 -- What is told of a reading: what was read, or a failure. A keeper that was shut before tells that its store failed.
 pub record TellsReading {X : Type 0} (old new : State) (before after : Bool) (faults next : ℕ)
@@ -35,6 +50,7 @@ pub record TellsReading {X : Type 0} (old new : State) (before after : Bool) (fa
   pub answers : IfOk told (λ x. read ≡ Ok x)
   pub stays : OnOk told (IsTrue old.is_open → IsTrue new.is_open)
   pub counts : CountsReading faults next told
+  pub memory : told ≡ Err Memory → WantsMemory old new (read ≡ Err Memory)
   pub was_open : IsTrue after → IsTrue before
   pub stays_open : ¬ IsErrOf told Store → IsTrue after
   pub goes_on : HasCleanDisk new → IsErrOf told Store → IsTrue after → IsTrue new.is_open
@@ -53,6 +69,7 @@ pub record TellsChange {X : Type 0} (old new : State) (before after : Bool) (fau
   pub answers : AnswersAs before done told
   pub stays : IfAnswered told (IsTrue old.is_open → IsTrue new.is_open)
   pub counts : CountsChange faults next told
+  pub memory : told ≡ Err (Failed Memory) → WantsMemory old new (done ≡ Err (Failed Memory))
   pub was_open : IsTrue after → IsTrue before
   pub stays_open : ¬ IsErrOf told (Failed Store) → IsTrue after
   pub goes_on : HasCleanDisk new → IsErrOf told (Failed Store) → IsTrue after → IsTrue new.is_open

@@ -1,6 +1,6 @@
 -- The statements, but those of the check (`Check`), of which `meta_rows` alone stands here. Contracts cite those
--- that make and migrate tables, and `show_document`; proofs cite the others. A number that a statement has first is
--- the domain's.
+-- that make and migrate tables, `show_document` and `probe`; proofs cite the others. A number that a statement has
+-- first is the domain's.
 use Rattle.std.specs.Prelude.{ℕ, List, codes}
 
 -- ---- the tables are made
@@ -133,3 +133,8 @@ drop_source = codes "DELETE FROM sources WHERE number = ?1"
 abbrev pub add_source_row : List ℕ
 add_source_row =
     codes "INSERT INTO sources (number, place, category, entity, attribute, value_type, value, issuer) VALUES (?1, ?2, ?3, ?4, ?5, ?6, ?7, ?8)"
+
+-- ---- a look at the store
+
+abbrev pub probe : List ℕ
+probe = codes "SELECT 1"

@@ -1,11 +1,14 @@
 //! Whether the keeper can go on. If a call fails with `Store`, the store is looked at, and the failure is
 //! counted.
-ghost use Rattle.std.specs.Prelude.{◌≡◌, true, false, Err, IsOk, IsTrue, Some};
+ghost use Rattle.std.specs.Prelude.{◌≡◌, ◌↔◌, true, false, Err, IsOk, IsTrue, None, Some};
 ghost use Rattle.sqlite.specs.Held.{state};
+ghost use Rattle.sqlite.specs.State.{HasCleanDisk};
 ghost use Rattle.sqlite.specs.declared.error.Error.TheVariants.{SqliteFailure};
 ghost use Rattle.sqlite.specs.declared.error.ErrorCode.TheVariants.{Closed};
+ghost use Rattle.xa_records.specs.declared.refusal.Failure.TheVariants.{Store};
 ghost use Rattle.xa_records.specs.Keeper.{IsOneMore};
-ghost use Rattle.xa_store.specs.keeping.Health.{Looks, Sees, TellsChange, TellsFailure, TellsReading};
+ghost use Rattle.xa_store.specs.keeping.Health.{FailsToLook, Looks, Sees, TellsChange, TellsFailure};
+ghost use Rattle.xa_store.specs.keeping.Health.{TellsReading};
 
 use crate::sql;
 use sqlite::{Alter, Connection, Error, ErrorCode, Statement};
@@ -39,13 +42,13 @@ impl Health {
         self.faults = self.faults.saturating_add(1);
     }
 
-    /// Looks whether the store is open still, and counts the failure. Without memory to look it answers
+    /// Looks whether the store is open still, and counts the failure. If the look sees nothing, it answers
     /// `Memory`, and counts nothing.
     fn after_store_failure<S: Alter>(&mut self, conn: &mut Connection<S>) -> Failure
         requires { IsTrue self.old.is_open }
         ensures looks { Looks (state S.Store conn.old) (state S.Store conn.new) }
-        ensures tells { TellsFailure (state S.Store conn.new) self.new.is_open
-            self.old.faults self.new.faults result }
+        ensures tells { TellsFailure (state S.Store conn.old) (state S.Store conn.new) self.new.is_open
+            self.old.faults self.new.faults Store result }
     {
         match look(conn) {
             Some(is_open) => {
@@ -61,8 +64,8 @@ impl Health {
     fn after_failure<S: Alter>(&mut self, conn: &mut Connection<S>, failure: Failure) -> Failure
         requires { IsTrue self.old.is_open }
         ensures looks { Looks (state S.Store conn.old) (state S.Store conn.new) }
-        ensures tells { TellsFailure (state S.Store conn.new) self.new.is_open
-            self.old.faults self.new.faults result }
+        ensures tells { TellsFailure (state S.Store conn.old) (state S.Store conn.new) self.new.is_open
+            self.old.faults self.new.faults failure result }
     {
         match failure {
             Failure::Memory => Failure::Memory,
@@ -114,11 +117,11 @@ impl Health {
     }
 }
 
-/// Whether the store is open, by the answer to a statement that was to be prepared, unless that tells want
-/// of memory. Each call of a shut store is answered by `Closed`, before anything else is looked at.
+/// Whether the store is open, by the answer to a statement that was to be prepared. Each call of a shut
+/// store is answered by `Closed`, before anything else is looked at. Any other error tells nothing.
 fn open_state_of(prepared: Result<Statement, Error>) -> Option<bool>
-    ensures opened { result ≡ Some true → IsOk prepared }
-    ensures shut { result ≡ Some false → prepared ≡ Err (SqliteFailure Closed) }
+    ensures opened { (result ≡ Some true) ↔ IsOk prepared }
+    ensures shut { (result ≡ Some false) ↔ (prepared ≡ Err (SqliteFailure Closed)) }
 {
     match prepared {
         Ok(_) => Some(true),
@@ -127,10 +130,12 @@ fn open_state_of(prepared: Result<Statement, Error>) -> Option<bool>
     }
 }
 
-/// Whether the store is open, as far as there is memory to look.
+/// Whether the store is open. None, if the look fails otherwise than at a shut store, as for want of memory.
 fn look<S: Alter>(conn: &mut Connection<S>) -> Option<bool>
     ensures looks { Looks (state S.Store conn.old) (state S.Store conn.new) }
     ensures sees { Sees (state S.Store conn.new) result }
+    ensures unseen { result ≡ None → HasCleanDisk (state S.Store conn.new)
+        → FailsToLook (state S.Store conn.old) (state S.Store conn.new) }
 {
     let prepared = conn.prepare(sql::PROBE);
     open_state_of(prepared)
