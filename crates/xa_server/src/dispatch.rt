@@ -1,5 +1,9 @@
 //! The reply to one message: the questions in their order, and then what is done on the route that it
 //! takes. Changes, readings and asks are in files of their own.
+//!
+//! These functions aren't methods of `Server`: each takes what it may touch, memory, resources or the keeper,
+//! and so its contract needn't say that the rest stays. `Resources` and the keeper stand apart, since most
+//! functions are given one of them alone.
 ghost use Rattle.std.specs.Prelude.{IsTrue};
 ghost use Rattle.xa_http.specs.declared.route.Route.TheVariants as to;
 ghost use Rattle.xa_records.specs.DomainName.{is_domain_name};

@@ -1,4 +1,5 @@
-//! Steps, of which each change is made: a step is one statement.
+//! Steps, of which each change is made: a step is one statement. Numbers and epochs are integers here, as
+//! columns hold them. One for another would be refused by the contract of the step (`Takes`).
 
 pub(crate) mod document;
 pub(crate) mod domain;

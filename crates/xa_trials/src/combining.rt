@@ -1,4 +1,4 @@
-//! Rows of combining: what an algorithm makes of the children.
+//! Rows of combining: what the public call `combine` makes of decisions and targets that are given.
 use crate::answer::Answer;
 use crate::field::first_field_and_rest;
 use crate::no_answer::NoAnswer;

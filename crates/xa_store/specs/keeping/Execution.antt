@@ -1,4 +1,5 @@
--- What the steps of a change do in their transaction.
+-- What the steps of a change do in their transaction. These words speak of states. That a function gives back the
+-- reference that it was lent stands beside them (`same_reference`), since it is said of the reference itself.
 use Rattle.std.specs.Prelude.{◌≡◌, ◌⊎◌, ℕ, false, List, [], ◌∷◌, Option, Result, Ok, IsTrue, OnOk, OnErr}
 use Rattle.sqlite.specs.Held.{Held, state}
 use Rattle.sqlite.specs.Order.{Row}
