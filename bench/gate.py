@@ -23,6 +23,7 @@ sys.path.insert(0, str(TOP / "tests"))
 sys.dont_write_bytecode = True
 
 import edits  # noqa: E402
+from prove import machine  # noqa: E402
 
 PAGE = TOP / "docs" / "GATE.md"
 
@@ -59,7 +60,7 @@ def gate(folder):
 
 
 def tests(folder):
-    """Runs the tests from nothing, and gives their status and what they took, in words."""
+    """Runs the tests from nothing, and gives their status and what they took, as a line of the page."""
     clone, surroundings = fresh(folder)
     began = time.time()
     ran = subprocess.run(["make", "test"], cwd=clone, stdin=subprocess.DEVNULL, env=surroundings,
@@ -68,22 +69,37 @@ def tests(folder):
     took = resource.getrusage(resource.RUSAGE_CHILDREN)
     last = [line for line in ran.stdout.splitlines() if re.fullmatch(r"\d+ passed, \d+ failed", line)]
     clock, processor = (time.time() - began) / 60, (took.ru_utime + took.ru_stime) / 60
-    return ran.returncode, (f"{clock:.1f} minutes by the clock, {processor:.0f} processor-minutes:\n"
-                            f"{last[-1] if last else 'no last line'}.")
+    return ran.returncode, (f"{measured(machine())}: {clock:.1f} minutes by the clock,\n"
+                            f"{processor:.0f} processor-minutes, on\n"
+                            f"{computer(machine())}: {last[-1] if last else 'no last line'}.")
 
 
 def head():
     return subprocess.check_output(["git", "rev-parse", "--short", "HEAD"], cwd=TOP, text=True).strip()
 
 
+def version(found):
+    """The day, the commit, and the kit of that machine."""
+    return f"{time.strftime('%Y-%m-%d', time.gmtime())}, `{head()}`, `{found['kit'].split()[0]}`"
+
+
+def measured(found):
+    """On how many processors of that machine it was measured, when, of which commit and by which kit."""
+    return f"**{found['processors']} processors**, {version(found)}"
+
+
+def computer(found):
+    """The name of the machine's processor, and its memory."""
+    return f"{found['model']} with {found['memory']} GB"
+
+
 def table(found):
     """What the gate took, as lines of the page."""
     events = sorted([*found["proved"].items(), *found["marks"].items()], key=lambda it: it[1])
     cells = [(f"`{name}`" if name in found["proved"] else name, f"{at:.0f}") for name, at in events]
-    day, kit = time.strftime("%Y-%m-%d", time.gmtime()), found["kit"].split()[0]
-    told = (f"**{found['processors']} processors**, {day}, `{head()}`, `{kit}`: {found['clock']:.0f} minutes by the\n"
+    told = (f"{measured(found)}: {found['clock']:.0f} minutes by the\n"
             f"clock, {found['processor']:.0f} processor-minutes, at the most {found['most']:.1f} GB of memory, on\n"
-            f"{found['model']} with {found['memory']} GB. When each crate was proved, in minutes:")
+            f"{computer(found)}. When each crate was proved, in minutes:")
     rows = ["| " + " | ".join(cell[at] for cell in cells) + " |" for at in (0, 1)]
     return [told, "", rows[0], "|---" * len(cells) + "|", rows[1]]
 
@@ -120,8 +136,7 @@ def main():
         return 1
     processors = len(os.sched_getaffinity(0))
     if sys.argv[1:]:
-        day = time.strftime("%Y-%m-%d", time.gmtime())
-        write(processors, [f"**{processors} processors**, {day}, `{head()}`: {found}"], " test")
+        write(processors, [found], " test")
     else:
         write(processors, table(found))
         edits.write(found["edits"])

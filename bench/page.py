@@ -12,13 +12,12 @@ import io
 import pathlib
 import re
 import sys
-import time
 
 sys.dont_write_bytecode = True
 TOP = pathlib.Path(__file__).resolve().parent.parent
 sys.path += [str(TOP / "bench"), str(TOP / "tests")]
 
-from gate import head  # noqa: E402
+from gate import version  # noqa: E402
 from prove import machine  # noqa: E402
 
 PAGE, WRITES = TOP / "docs" / "PERFORMANCE.md", "--write" in sys.argv[1:]
@@ -36,7 +35,7 @@ def marks(name):
 def heading():
     """When, of which commit and where the figures were measured."""
     found = machine()
-    return (f"{time.strftime('%Y-%m-%d', time.gmtime())}, `{head()}`, `{found['kit'].split()[0]}`, on\n"
+    return (f"{version(found)}, on\n"
             f"{found['model']} with {found['processors']} processors and {found['memory']} GB:")
 
 
