@@ -2,13 +2,14 @@
 """Looks whether what the pages (*.md) have between the comments `pages: ..` and `end of pages` is what is generated of
 the files that it names, whether a line of prose is longer than 110 columns, whether each link leads to a file of the
 repository and to a heading in it, whether files and commands that pages name are there, whether each public call has an
-example in its crate's CALLING.md, and whether all pages together have more words than they may. Takes some seconds.
+example in its crate's CALLING.md, whether numbers that were counted by hand still hold, and whether all pages together
+have more words than they may. Takes some seconds.
 
 usage: tests/pages.py             looks; the last line is 'N passed, M failed'
        tests/pages.py --write     writes what is generated, and wraps prose at 100 columns
        tests/pages.py --words     tells the words of each page: all, and those that are neither generated nor code
 
-tests/page_parts.py has what is generated, by the words of the marks.
+tests/page_parts.py has what is generated, by the words of the marks; tests/page_numbers.py the numbers.
 """
 import functools
 import pathlib
@@ -21,6 +22,7 @@ sys.dont_write_bytecode = True
 TOP = pathlib.Path(__file__).resolve().parent.parent
 sys.path.insert(0, str(TOP / "tests"))
 
+from page_numbers import wrong_numbers  # noqa: E402
 from page_parts import DECISIONS, ITEM, anchor_of, decided, generated, wrapped  # noqa: E402
 
 GREATEST, MOST_WORDS = 110, 32_000
@@ -144,6 +146,7 @@ def faults_of(path):
     for span, name in named_files(plain(text)):
         if not any(each.endswith((name, name.removesuffix(".antt"))) for each in all_files()):
             yield f"no file {span}"
+    yield from wrong_numbers(str(path.relative_to(TOP)))
     if text != generated(text, path.parent):
         yield "what is generated is stale: make pages"
     for number, line in enumerate(plain(text).split("\n"), 1):
