@@ -18,7 +18,7 @@ run: ## serves the ward's example over a file, asks it by curl, and again after 
 test: ## all tests, in minutes: over the proved programs, where they are built of these very sources, else over what is compiled without proof
 	@tests/all.py
 
-prove: ## the gate, in an hour and more: proves everything, tries the wrong bodies, and runs all tests over the proved programs
+prove: ## the CI gate, in an hour and more: proves everything, tries the wrong bodies, and runs all tests over the proved programs
 	@tests/prove.py
 
 # the word after `try`, `check` or `edits` is a crate's name, and no target

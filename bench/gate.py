@@ -1,5 +1,5 @@
 #!/usr/bin/env python3
-"""Measures the gate from nothing: runs `make prove` in a fresh clone of what is committed, by a copy of the
+"""Measures the CI gate from nothing: runs `make prove` in a fresh clone of what is committed, by a copy of the
 toolchain whose store is empty (its files by further names where the disk allows, so that it takes no room), and
 writes what it took into docs/GATE.md, in place of what stood there for as many processors, and what each wrong
 body took. With the word `test` it measures `make test`, which compiles the programs without proof there.

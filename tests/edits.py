@@ -1,5 +1,5 @@
 #!/usr/bin/env python3
-"""Looks whether each wrong body still applies, in crates/X/must-fail (the gate's) and in edits/X: each `old:`
+"""Looks whether each wrong body still applies, in crates/X/must-fail (the CI gate's) and in edits/X: each `old:`
 text stands exactly once in its file, as the pairs before it have left it, the file is one of the crate's
 src/, no two edits of a crate have one name, and the table of edits in docs/GATE.md is right. It proves
 nothing: the gate and `make edits X` do.

@@ -5,7 +5,7 @@ off by a twentieth, or by ten.
   comments and imports, in the first row that names it.
 - README.md: the lines of the reference model, which is that order's first row; those of rows 8 to 13, on which it
   stands; and the stored rows.
-- tests/README.md: the mutations in the gate. This number is exact.
+- tests/README.md: the mutations in the CI gate. This number is exact.
 """
 import functools
 import pathlib
@@ -40,7 +40,7 @@ def numbers():
     yield "README.md", "lines on which it stands", r"\[([\d,]+) more\]", below
     yield "README.md", "stored rows", r"Some\s+([\d,]+)\s+test\s+vectors", rows
     edits = len(list(TOP.glob("crates/*/must-fail/*.edit")))
-    yield "tests/README.md", "mutations in the gate", r"\*\*mutations\*\*.*\| (\d+);", edits
+    yield "tests/README.md", "mutations in the CI gate", r"\*\*mutations\*\*.*\| (\d+);", edits
 
 
 def wrong_numbers(page):

@@ -1,5 +1,5 @@
 #!/usr/bin/env python3
-"""The gate: `rt ci`, whole, and then all tests over the programs that it has proved. It ends with when each
+"""The CI gate: `rt ci`, whole, and then all tests over the programs that it has proved. It ends with when each
 crate was proved, what it took, and 'N passed, M failed'.
 
 usage: tests/prove.py
