@@ -15,7 +15,10 @@ use crate::failure::error_of_check;
 use sqlite::{Alter, Connection, Row};
 
 /// All rows that a query shows, of tables of a schema of which it is a plain one.
-pub(crate) fn rows_checked<S: Alter>(conn: &mut Connection<S>, sql: &str) -> Result<Vec<Row>, OpenError>
+pub(crate) fn rows_checked<S: Alter>(
+    conn: &mut Connection<S>,
+    sql: &str,
+) -> Result<Vec<Row>, OpenError>
     ensures asks { (version : Version) → IsPlain (understood (schema_of version) sql.now)
         → AsksOver S.Store version conn.old conn.new result }
     ensures shows { HasCleanDisk (state S.Store conn.new) → IfOk result (λ rows.
