@@ -14,7 +14,7 @@ ghost use Rattle.std.specs.Prelude.{◌≡◌, IfOk, OnErr, MatchResult, Some};
 ghost use Rattle.xa_http.specs.declared.session.Look.TheVariants as look;
 ghost use Rattle.xa_http.specs.Messages.{IsLook};
 ghost use Rattle.xa_server.specs.handling.Answering.{AnswersIfOpen, AnswersNext, HandsOn, IsFaultGiven};
-ghost use Rattle.xa_server.specs.handling.Answering.{TakesIn};
+ghost use Rattle.xa_server.specs.handling.Answering.{TakesIfOpen};
 ghost use Rattle.xa_server.specs.Front.{IsPlayed, front_is_clean, front_is_sound, front_state, server_state};
 ghost use Rattle.xa_server.specs.FrontLaws.{LinesAreStreams};
 ghost use Rattle.xa_server.specs.Fronting.{AnswersLine, CountsAnswer, CountsOutcome, CountsOutcomes};
@@ -281,7 +281,7 @@ fn answer_line<R: Records>(
     ensures answered { (R.custody server.new.records).sound
         → AnswersIfOpen moment
         (server_state R.custody server.old) (server_state R.custody server.new) line.old line.new result }
-    ensures line { TakesIn line.old line.new result }
+    ensures line { TakesIfOpen line.old line.new result }
     ensures err { OnErr result ((server.new ≡ server.old) × (line.new ≡ line.old)) }
     ensures handed { HandsOn R.custody server.old server.new moment line.old result }
 {

@@ -2,7 +2,7 @@
 -- sources stand at these places in the rows of the tables, too.
 use Rattle.std.specs.Prelude.{ℕ}
 
--- ---- of the row's own number, which each query of rows shows first
+-- ---- of the rowid, which each query of rows shows first
 
 abbrev pub rowid : ℕ
 rowid = 0

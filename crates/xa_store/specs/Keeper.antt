@@ -26,7 +26,7 @@ keeper_code {S} store =
     (λ k. (k.conn, (k.had_only_our_tables, (k.is_open, k.faults))))
     (λ p. record { conn = p.0; had_only_our_tables = p.1.0; is_open = p.1.1.0; faults = p.1.1.1 }) (λ _. refl)
 
--- while its store is open the tables of a keeper of ours are as it writes them, and no keeper is told to be shut
+-- while its store is open, a keeper that had only our tables has them as it writes them, and it isn't told to be shut
 abbrev pub IsKeeper : {S : Type 0} → Ghosts S → Keeper S → Type 0
 IsKeeper g k =
     (IsTrue k.had_only_our_tables → IsTrue (state g k.conn).is_open → IsKeepersStore (state g k.conn))

@@ -1,5 +1,5 @@
 //! Steps, of which each change is made: a step is one statement. Numbers and epochs are integers here, as
-//! columns hold them. One for another would be refused by the contract of the step (`Takes`).
+//! columns hold them. An epoch in place of a number would be refused by the step's contract (`Takes`).
 
 pub(crate) mod document;
 pub(crate) mod domain;

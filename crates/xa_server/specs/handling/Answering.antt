@@ -39,8 +39,8 @@ AnswersIfOpen moment old new line after (Err Memory) =
 AnswersIfOpen moment old new line after (Err _) = ⊥
 
 -- what becomes of a stream that may not be there by an answer, whatever the server does
-abbrev pub TakesIn : Option Stream → Option Stream → Result (Option Answer) FrontError → Type 0
-TakesIn old new result = TakesAt {X = Option Stream} (λ line. line) (λ line _. line) old new result
+abbrev pub TakesIfOpen : Option Stream → Option Stream → Result (Option Answer) FrontError → Type 0
+TakesIfOpen old new result = TakesAt {X = Option Stream} (λ line. line) (λ line _. line) old new result
 
 -- the fault by which a stream ends was answered; without memory nothing was done
 abbrev pub IsFaultGiven : SessionFault → Stream → Stream → Result (Option Answer) FrontError → Type 0

@@ -22,17 +22,17 @@ pub record Looks (old new : State) : Type 0 where
   pub same : HasCleanDisk new → Rests old → IsTrue new.is_open → SameNow old new
   pub crash : HasCleanDisk new → (db : Trees) → new.may_leave db → old.may_leave db
 
--- a look at the store tells whether it is open, if there was memory to look
+-- a look at the store tells whether it is open, unless it saw nothing
 abbrev pub Sees : State → Option Bool → Type 0
 Sees s None = Unit {0}
 Sees s (Some is) = (IsTrue is → HasCleanDisk s → IsTrue s.is_open) × (IsTrue s.is_open → IsTrue is)
 
--- a look that saw nothing: its statement wasn't prepared, and not since the store is shut
+-- a look that saw nothing: its statement wasn't prepared, and not because the store is shut
 abbrev pub FailsToLook : State → State → Type 0
 FailsToLook old new =
     (error : Error) × ¬ (error ≡ SqliteFailure Closed) × ((params : Row) → IsNotRun old new probe params error)
 
--- want of memory was met, or passes for what a look met that saw nothing
+-- want of memory was met; or a look at the store saw nothing, which is told as want of memory
 abbrev pub WantsMemory : State → State → Type 0 → Type 0
 WantsMemory old new met = met ⊎ (HasCleanDisk new → FailsToLook old new)
 

@@ -1,7 +1,7 @@
 //! The columns that the queries of the check show, by the places at which they show them. For definitions
 //! `CheckedColumns` has the numbers.
 
-/// The column of the row's own number, which each query of rows shows first.
+/// The column of the rowid, which each query of rows shows first.
 pub(crate) const ROWID: usize = 0;
 
 /// The columns of `meta`, as `sql::META_ROWS` shows them.

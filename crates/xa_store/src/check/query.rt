@@ -15,7 +15,7 @@ use crate::failure::error_of_check;
 use sqlite::{Alter, Connection, Row};
 
 /// All rows that a query shows, of tables of a schema of which it is a plain one.
-pub(crate) fn rows_checked<S: Alter>(
+pub(crate) fn rows_to_check<S: Alter>(
     conn: &mut Connection<S>,
     sql: &str,
 ) -> Result<Vec<Row>, OpenError>

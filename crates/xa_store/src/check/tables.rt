@@ -16,7 +16,7 @@ ghost use Rattle.xa_store.specs.declared.schema.version.SchemaVersion.TheVariant
 
 use crate::check::cell::is_count;
 use crate::check::cursor::walk;
-use crate::check::query::rows_checked;
+use crate::check::query::rows_to_check;
 use crate::check::row::{SourcePlace, follows, known_next, place_told};
 use crate::error::OpenError;
 use crate::schema::checked_table::CheckedTable;
@@ -44,7 +44,7 @@ fn check_order<S: Alter>(conn: &mut Connection<S>, table: CheckedTable) -> Resul
         → FindsIn S.Store version conn.old conn.new
         (Orders table (state S.Store conn.old).now.trees result) }
 {
-    let rows = rows_checked(conn, table.order_query())?;
+    let rows = rows_to_check(conn, table.order_query())?;
     sound_or_damaged(rows.is_empty())
 }
 
@@ -153,7 +153,7 @@ fn check_places<S: Alter>(conn: &mut Connection<S>, version: SchemaVersion) -> R
         (are_counted (map place_in ((state S.Store conn.old).now.trees (tree_of (sources_in version)))))
         result) }
 {
-    let rows = rows_checked(conn, version.places_query())?;
+    let rows = rows_to_check(conn, version.places_query())?;
     sound_or_damaged(are_consecutive(rows.as_slice()))
 }
 
@@ -162,7 +162,7 @@ fn check_attributes<S: Alter>(conn: &mut Connection<S>) -> Result<(), OpenError>
     ensures { CheckedBy Schema2 (λ db. is_left_empty Schema2 db)
         (state S.Store conn.old) (state S.Store conn.new) result }
 {
-    let rows = rows_checked(conn, SchemaVersion::Schema1.places_query())?;
+    let rows = rows_to_check(conn, SchemaVersion::Schema1.places_query())?;
     sound_or_damaged(rows.is_empty())
 }
 
@@ -215,7 +215,7 @@ fn next_domain<S: Alter>(conn: &mut Connection<S>, version: SchemaVersion) -> Re
         (GivesNext
         (known_next version (map read_meta ((state S.Store conn.old).now.trees meta_tree))) result) }
 {
-    let rows = rows_checked(conn, sql::META_ROWS)?;
+    let rows = rows_to_check(conn, sql::META_ROWS)?;
     match known_next(version, rows.as_slice()) {
         Some(next) => Ok(next),
         None => Err(OpenError::NotThisSchema),

@@ -1,5 +1,5 @@
 //! Whether the keeper can go on. If a call fails with `Store`, the store is looked at, and the failure is
-//! counted.
+//! counted, unless the look saw nothing.
 ghost use Rattle.std.specs.Prelude.{◌≡◌, ◌↔◌, true, false, Err, IsOk, IsTrue, None, Some};
 ghost use Rattle.sqlite.specs.Held.{state};
 ghost use Rattle.sqlite.specs.State.{HasCleanDisk};
@@ -130,7 +130,8 @@ fn open_state_of(prepared: Result<Statement, Error>) -> Option<bool>
     }
 }
 
-/// Whether the store is open. None, if the look fails otherwise than at a shut store, as for want of memory.
+/// Whether the store is open. None if the look failed, but not because the store is shut: for want of
+/// memory, say.
 fn look<S: Alter>(conn: &mut Connection<S>) -> Option<bool>
     ensures looks { Looks (state S.Store conn.old) (state S.Store conn.new) }
     ensures sees { Sees (state S.Store conn.new) result }

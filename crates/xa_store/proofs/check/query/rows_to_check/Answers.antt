@@ -2,7 +2,7 @@ use Rattle.std.proofs.Common.{[], sym, subst}
 use Rattle.xa_store.proofs.Common.{state}
 use Rattle.xa_store.specs.Opening.{IsFailure}
 use Rattle.xa_store.proofs.AskedLemmas.{a_failure, asked, failed_fits, not_asked}
-use Rattle.xa_store.proofs.check.query.rows_checked.Goals as goal
+use Rattle.xa_store.proofs.check.query.rows_to_check.Goals as goal
 
 pub returns-in-Ok-clause-asks : goal.returns-in-Ok-clause-asks
 returns-in-Ok-clause-asks g c version plain =
