@@ -51,7 +51,7 @@ def fresh(folder):
 
 
 def gate(folder):
-    """Runs the gate from nothing, and gives its status and what it took."""
+    """Runs the CI gate from nothing, and gives its status and what it took."""
     clone, surroundings = fresh(folder)
     status = subprocess.run(["make", "prove"], cwd=clone, stdin=subprocess.DEVNULL, env=surroundings,
                             check=False).returncode
@@ -94,7 +94,7 @@ def computer(found):
 
 
 def table(found):
-    """What the gate took, as lines of the page."""
+    """What the CI gate took, as lines of the page."""
     events = sorted([*found["proved"].items(), *found["marks"].items()], key=lambda it: it[1])
     cells = [(f"`{name}`" if name in found["proved"] else name, f"{at:.0f}") for name, at in events]
     told = (f"{measured(found)}: {found['clock']:.0f} minutes by the\n"

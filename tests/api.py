@@ -2,7 +2,7 @@
 """Sends every example of docs/guide/openapi.yaml and of docs/guide/API.md to the real program, each to a fresh server,
 and compares the replies byte for byte.
 
-usage: tests/api.py [PROGRAM]     the program, crates/pdpd/out/pdpd if none is named: the gate and
+usage: tests/api.py [PROGRAM]     the program, crates/pdpd/out/pdpd if none is named: the CI gate and
                                   `make pdpd` leave it there
 
 The two pages have the same examples. Each names the state from which it starts: a list of earlier messages, which are

@@ -6,7 +6,7 @@ import sys
 import time
 
 TOP = pathlib.Path(__file__).resolve().parent.parent
-# where the gate and `make pdpd` leave the program
+# where the CI gate and `make pdpd` leave the program
 BUILT = TOP / "crates" / "pdpd" / "out" / "pdpd"
 MOST_SHOWN = 600  # characters of a value
 

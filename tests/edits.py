@@ -2,7 +2,7 @@
 """Looks whether each wrong body still applies, in crates/X/must-fail (the CI gate's) and in edits/X: each `old:`
 text stands exactly once in its file, as the pairs before it have left it, the file is one of the crate's
 src/, no two edits of a crate have one name, and the table of edits in docs/GATE.md is right. It proves
-nothing: the gate and `make edits X` do.
+nothing: the CI gate and `make edits X` do.
 
 usage: tests/edits.py             looks
        tests/edits.py --write     writes the table anew, with the costs that stand in it (bench/gate.py: with new ones)
@@ -18,7 +18,8 @@ from programs import crates  # noqa: E402
 TOP = pathlib.Path(__file__).resolve().parent.parent
 PAGE = TOP / "docs" / "GATE.md"
 FIRST, LAST = "<!-- tests/edits.py -->\n", "<!-- end of the edits -->"
-HEAD = "| Crate | Its check once more, s | In the gate, with the seconds of each | Beside it |\n" + "|---" * 4 + "|\n"
+HEAD = ("| Crate | Its check once more, s | In the CI gate, with the seconds of each | Beside it |\n"
+        + "|---" * 4 + "|\n")
 
 
 def edits():

@@ -21,12 +21,13 @@ def text_of(name):
 
 @functools.cache
 def lines_in_order():
-    """How many lines of definitions the rows of the order of reading have, by their numbers."""
+    """How many lines of definitions the rows of the order of reading have, by their numbers. A module that isn't
+    there counts nothing: links are looked at elsewhere."""
     found, seen = {}, set()
-    for number, files in re.findall(r"^\| (\d+) \| (.*?) \| [\d,]+ \|", text_of(ORDER), re.M):
-        named = dict.fromkeys(re.findall(r"\(\.\./\.\./(crates/[^)]+\.antt)\)", files))
-        found[int(number)] = sum(text_of(name).count("\n") for name in named if name not in seen)
-        seen.update(named)
+    for number, files in re.findall(r"^\| (\d+) \| (.*?crates/.*?) \| [^|]* \| ", text_of(ORDER), re.M):
+        named = set(re.findall(r"\(\.\./\.\./(crates/[^)]+\.antt)\)", files))
+        found[int(number)] = sum(text_of(name).count("\n") for name in named - seen if (TOP / name).is_file())
+        seen |= named
     return found
 
 
@@ -36,7 +37,7 @@ def numbers():
         yield ORDER, f"lines of row {row}", rf"^\| {row} \| .*? \| ([\d,]+) \|", lines
     below = sum(lines for row, lines in lines_in_order().items() if 8 <= row <= 13)
     rows = sum(not line.startswith("define\t") for line in text_of("crates/xa_trials/stdin").splitlines())
-    yield "README.md", "lines of the reference model", r"is\s+some\s+([\d,]+)\s+lines", lines_in_order()[1]
+    yield "README.md", "lines of the reference model", r"is\s+some\s+([\d,]+)\s+lines", lines_in_order().get(1, 0)
     yield "README.md", "lines on which it stands", r"\[([\d,]+) more\]", below
     yield "README.md", "stored rows", r"Some\s+([\d,]+)\s+test\s+vectors", rows
     edits = len(list(TOP.glob("crates/*/must-fail/*.edit")))
@@ -46,7 +47,9 @@ def numbers():
 def wrong_numbers(page):
     """What is wrong with the numbers of a page."""
     for name, what, pattern, found in numbers():
-        said = re.findall(pattern, text_of(name), re.M) if name == page else []
+        if name != page:
+            continue
+        said = re.findall(pattern, text_of(name), re.M)
         off = 0 if what.startswith("mutations") else max(10, found / 20)
-        if name == page and (len(said) != 1 or abs(int(said[0].replace(",", "")) - found) > off):
+        if len(said) != 1 or abs(int(said[0].replace(",", "")) - found) > off:
             yield f"{' and '.join(said) or 'no number'} for the {what}, which are {found:,}"

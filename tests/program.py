@@ -1,7 +1,7 @@
 #!/usr/bin/env python3
 """Runs the real program from outside: exit statuses, lines on standard error, and what `pdpd replay` reads and writes.
 
-usage: tests/program.py [PROGRAM [PART..]]     the program, crates/pdpd/out/pdpd if none is named: the gate and
+usage: tests/program.py [PROGRAM [PART..]]     the program, crates/pdpd/out/pdpd if none is named: the CI gate and
                                                `make pdpd` leave it there; and the parts that are run, all if none is
                                                named: functions of tests/program_parts
 

@@ -374,7 +374,7 @@ def machine():
 
 
 def figures(watch):
-    """What the gate took."""
+    """What the CI gate took."""
     used = resource.getrusage(resource.RUSAGE_CHILDREN)
     return {**machine(), "clock": watch.minutes(), "processor": (used.ru_utime + used.ru_stime) / 60,
             "most": watch.most / 1e9, "most at": watch.most_at, "held by": watch.held_by, "edits": watch.edits,
@@ -383,7 +383,7 @@ def figures(watch):
 
 
 def tell(found):
-    """Prints what the gate took, and keeps it for bench/gate.py."""
+    """Prints what the CI gate took, and keeps it for bench/gate.py."""
     FIGURES.parent.mkdir(exist_ok=True)
     FIGURES.write_text(json.dumps(found, indent=1) + "\n", encoding="utf-8")
     print("When each crate was proved, and what followed, in minutes after the start:")
@@ -391,7 +391,7 @@ def tell(found):
         print(f"  {name:12} {at:6.1f}")
     if found["kept"]:
         print(f"  kept from earlier runs on this machine: {' '.join(found['kept'])}")
-    print(f"The gate took {found['clock']:.1f} minutes by the clock and {found['processor']:.1f} processor-minutes, "
+    print(f"The CI gate took {found['clock']:.1f} minutes by the clock and {found['processor']:.1f} processor-minutes, "
           f"and {found['most']:.1f} GB of memory at the most,\non {found['processors']} processors "
           f"({found['model']}, {found['memory']} GB; {found['kit']}).")
     by = sorted(found["held by"].items(), key=lambda it: -it[1])

@@ -2,7 +2,7 @@
 """Runs `pdpd serve` from outside, over real sockets and files in a temporary folder: what it answers, keeps and
 refuses, and that it goes on.
 
-usage: tests/serve.py [PROGRAM [PART..]]     the program, crates/pdpd/out/pdpd if none is named: the gate and
+usage: tests/serve.py [PROGRAM [PART..]]     the program, crates/pdpd/out/pdpd if none is named: the CI gate and
                                              `make pdpd` leave it there; and the parts that are run, all if none is
                                              named: functions of tests/serve_parts
 

@@ -2,7 +2,7 @@
 """Holds the tables of `pdpd serve` against Python's own sqlite3: the file is an ordinary one of
 SQLite, in both directions.
 
-usage: tests/tables.py [PROGRAM [PART..]]     the program, crates/pdpd/out/pdpd if none is named: the gate and
+usage: tests/tables.py [PROGRAM [PART..]]     the program, crates/pdpd/out/pdpd if none is named: the CI gate and
                                               `make pdpd` leave it there; and the parts that are run, all if none is
                                               named: functions of tests/tables_parts
 
