@@ -1,4 +1,6 @@
 """Inputs that a tenant may send or upload, of a size: rows for the program xa_trials."""
+import itertools
+import random
 from functools import partial
 
 from functions import V1, V3
@@ -69,6 +71,33 @@ def versions(size, count=250, wanted="1.{}"):
         documents.append(document)
     children = [{"PolicyIdReference": {"Id": "p", "Version": wanted.format(i % count)}} for i in range(size)]
     return ["link", "set|s|||", *map(written, [policy_set("s", children), *documents])]
+
+
+def shapes():
+    """The shapes of patterns: of at most eight parts each a number, here True, or `*`, and the last maybe `+`."""
+    for count in range(9):
+        for parts in itertools.product((True, "*"), repeat=count):
+            yield from ([*parts, *end] for end in ((), ("+",)) if 0 < count + len(end) <= 8)
+
+
+def any_shapes(size, count):
+    """A tree of this many references to so many versions of a policy, of eight numbers each. Their patterns have all
+    shapes in turn, and their bounds pass over half of the versions that match, and leave none."""
+    draw, each = random.Random(0), itertools.cycle(shapes())
+    held = {tuple(draw.randrange(4) for _ in range(8)) for _ in range(2 * count)}
+    held = draw.sample(sorted(held), count)
+    children = []
+    for _ in range(size):
+        first, latest = draw.choice(held), draw.choice(held)
+        pattern = [first[place] if part is True else part for place, part in enumerate(next(each))]
+        bounds = {"EarliestVersion": "9", "LatestVersion": ".".join(map(str, latest))}
+        children.append({"PolicyIdReference": {"Id": "p", "Version": ".".join(map(str, pattern)), **bounds}})
+    sets = [policy_set(f"s{at}", children[at:at + 480]) for at in range(0, size, 480)]
+    root = policy_set("s", [to_set(f"s{at}") for at in range(0, size, 480)])
+    policies = [policy("p") for _ in held]
+    for draft, version in zip(policies, held):
+        draft["Policy"]["Version"] = ".".join(map(str, version))
+    return ["link", "set|s|||", *map(written, [root, *sets, *policies])]
 
 
 def decide(documents, root, request):
@@ -157,8 +186,10 @@ LINES = [
     ("an expression that names n variables", variables, 8_000, LINEAR),
     ("a tree of 1,000 sets with n references each that lead nowhere", lost_references, 600, LINEAR),
     ("a root of n references over 250 versions", versions, 250, LINEAR),
-    ("a root of n references that look at 1,000 versions in vain", partial(versions, count=1_000, wanted="*.1.{}"),
-     600, LINEAR),
+    ("a root of n references by *.1.N over 1,000 versions", partial(versions, count=1_000, wanted="*.1.{}"), 600,
+     LINEAR),
+    ("a tree of n references of all shapes over 1,014 versions", partial(any_shapes, count=1_014), 2_048, LINEAR),
+    ("a tree of 4,096 references of all shapes over n versions", partial(any_shapes, 4_096), 507, LINEAR),
     ("n obligations through 120 nested sets", obligations_carried, 500, LINEAR),
     ("n policies that each of 64 individuals names", policies_named, 499, LINEAR),
     ("a head of n bytes, a byte a piece", head, 4_000, LINEAR),

@@ -6,20 +6,14 @@ from documents import Document, DocumentFault, document_of
 from names import word
 from policies import LEAF, Tree
 from rows import decoded
-from versions import looked_at_in_vain, numbered, reference_of, resolved
+from versions import numbered, reference_of, resolved
 
 MOST_ON_A_PATH, MOST_IN_A_TREE = 17, 1000
-# above how many children documents are looked for in order, and how many may be looked at in vain then
-FEW, MOST_LOOKS = 24, 4_096_000
 Active = collections.namedtuple("Active", "kind id version document")
 
 
 class TooLarge(Exception):
     """The tree has too many policies and sets."""
-
-
-class TooManyLooks(Exception):
-    """References look at too many documents for which they don't stand."""
 
 
 def active_in(held):
@@ -42,41 +36,24 @@ class Linking:
         self.size = 0
         # the places of the documents that were looked into so far, each once, in order
         self.read = {}
-        # the children of the documents that were looked into, and how many documents their references looked at in vain
-        self.children, self.looks = 0, 0
-        # what was found for each reference
+        # the place that was found for each reference
         self.found = {}
 
     def referred(self, reference, path):
         """The tree for which the reference stands, under the documents of the path (7.15): a leaf if there is no
         document, if it stands on the path, or if the path is as long as may be."""
-        place, _ = self.found_for(reference)
+        place = self.place_of(reference)
         if place is None or place in path or len(path) == MOST_ON_A_PATH:
             return LEAF
-        if place not in self.read:
-            self.read[place] = None
-            self.look(self.active[place].document)
+        self.read[place] = None
         return self.tree(self.active[place].document, [*path, place])
 
-    def found_for(self, reference):
-        """The place of the document for which the reference stands, and how many are looked at in vain before it."""
+    def place_of(self, reference):
+        """The place of the document for which the reference stands."""
         told = str(reference)
         if told not in self.found:
-            self.found[told] = resolved(reference, self.keys), looked_at_in_vain(reference, self.keys)
+            self.found[told] = resolved(reference, self.keys)
         return self.found[told]
-
-    def look(self, document):
-        """Counts what the references in a document look at in vain, when it is read."""
-        if document.form != "PolicySet":
-            return
-        self.children += len(document.children)
-        for child in document.children:
-            if isinstance(child, Document):
-                self.look(child)
-            elif self.children > FEW:
-                self.looks += self.found_for(child)[1]
-        if self.looks > MOST_LOOKS:
-            raise TooManyLooks
 
     def tree(self, document, path):
         """The tree of a document that stands under those of the path."""
@@ -125,5 +102,3 @@ def link(root, *texts):
         return tree_shown(linked(active, reference_of(root)))
     except TooLarge:
         return ["!TooLarge"]
-    except TooManyLooks:
-        return ["!Memory"]

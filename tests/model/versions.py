@@ -1,7 +1,6 @@
 """Versions, patterns of versions, and references (XACML 3.0, core, sections 5.10 to 5.13), by the standard's regular
 expressions."""
 import collections
-import itertools
 import re
 
 from rows import encoded, text_of
@@ -64,26 +63,6 @@ def resolved(reference, documents):
     found = [(version, -place) for place, (kind, name, version) in enumerate(documents)
              if is_for(reference, kind, name, version)]
     return -max(found)[1] if found else None
-
-
-def may_fit(reference, version):
-    """Whether a version is one of those among which the reference is looked for: it begins as the pattern does before
-    its first `*` or `+`, or is all of a pattern that has none, and lies within the bounds."""
-    wanted = reference.pattern or ["+"]
-    first = [int(part) for part in itertools.takewhile(str.isdigit, wanted)]
-    begins_so = version[:len(first)] == first if len(first) < len(wanted) else version == first
-    return begins_so and is_within(reference, version)
-
-
-def looked_at_in_vain(reference, documents):
-    """How many documents are looked at, the latest first, before the one for which the reference stands, or if it
-    stands for none."""
-    found = sorted((version, -place) for place, (kind, name, version) in enumerate(documents)
-                   if (kind, name) == (reference.kind, reference.id) and may_fit(reference, version))
-    for count, (version, _) in enumerate(reversed(found)):
-        if is_for(reference, reference.kind, reference.id, version):
-            return count
-    return len(found)
 
 
 def reference_of(field):

@@ -4,6 +4,8 @@ pub mod OrderLemmas
 pub mod PlaceLemmas
 pub mod PlacedLemmas
 pub mod ReadingLemmas
+pub mod ReorderLemmas
 pub mod ResolutionLemmas
 pub mod RoomLemmas
+pub mod SlotLemmas
 pub mod StandingLemmas

@@ -1,6 +1,6 @@
 -- How many bytes are at places, and what is read one document after another.
-use Rattle.std.proofs.Common.{◌≡◌, ℕ, zero, suc, ◌+◌, ◌-◌, ◌<◌, ◌≤◌, Bool, true, false, ◌==◌, List, [], ◌∷◌, length, map, Option, Some, None, Ok, Err, refl, sym, ap, subst, ◌∙◌, arith}
-use Rattle.std.specs.Prelude.{◌||◌, if◌then◌else◌, nat_le, slice_get, Result}
+use Rattle.std.proofs.Common.{◌≡◌, ℕ, zero, suc, ◌+◌, ◌-◌, ◌<◌, ◌≤◌, Bool, true, false, ◌==◌, List, [], ◌∷◌, length, Option, Ok, Err, refl, sym, ap, subst, ◌∙◌, arith}
+use Rattle.std.specs.Prelude.{◌||◌, if◌then◌else◌, nat_le, Result}
 use Rattle.std.proofs.Math.Dec.{eqb-suc-suc, eqb-suc-zero, eqb-zero-suc}
 use Rattle.std.proofs.lemmas.Bool.{eqb-true, le-leb, leb-false, leb-true, true≢false}
 use Rattle.xa_shelf.specs.Allowance.{Allowance, asked}
@@ -8,7 +8,7 @@ use Rattle.xa_link.specs.declared.active.Active.{Active}
 use Rattle.xa_link.specs.declared.placed.Placed.{Placed}
 use Rattle.xa_link.specs.declared.resolved.Finding.{Finding}
 use Rattle.xa_link.specs.declared.resolved.Finding.TheVariants.{NotLooked, Looked}
-use Rattle.xa_link.specs.placing.Placed.{HasPlaced, SamePlaced, held}
+use Rattle.xa_link.specs.placing.Placed.{HasPlaced, held}
 use Rattle.xa_link.specs.placing.Progress.{Counted, Progress, Reads, Refuses, allowed, is_looked, is_read, length_at, marks}
 use Rattle.xa_link.specs.Reading.{bytes_at}
 

@@ -1,14 +1,16 @@
--- Along the order of documents, those before what may fit a reference come first, and those behind it last.
+-- Along the order of documents, those before the ones that fit a reference come first, and those behind them last.
 use Rattle.std.proofs.Common.{◌≡◌, ℕ, ◌≤◌, Bool, true, false, List, [], ◌∷◌, refl, sym, ap, subst, ◌∙◌, arith, bytes_eq, slice_get, Option, Some, None}
-use Rattle.std.specs.Prelude.{not, ◌||◌, ◌==◌, if◌then◌else◌}
+use Rattle.std.specs.Prelude.{not, ◌&&◌, ◌==◌, if◌then◌else◌}
 use Rattle.std.specs.Cmp.{IsTotalOrder, nat_cmp_total, on_total, then_total, back_total}
 use Rattle.std.specs.Cmp.Lexicographic.{on_texts, options_total, slice_cmp}
 use Rattle.std.specs.Option.{option_cmp}
-use Rattle.std.specs.Ordering.{is_gt, is_lt, nat_cmp, ordering_index, ordering_reverse, ordering_then}
+use Rattle.std.specs.Ordering.{is_eq, is_gt, is_lt, nat_cmp, ordering_index, ordering_reverse, ordering_then}
 use Rattle.std.specs.declared.cmp.Ordering.{Ordering}
 use Rattle.std.specs.declared.cmp.Ordering.TheVariants.{Less, Equal, Greater}
 use Rattle.std.proofs.lemmas.Bool.{and_parts, eqb-true, true≢false}
-use Rattle.std.proofs.lemmas.Cmp.{nat_list_cmp_total, tied_itself}
+use Rattle.std.proofs.lemmas.Bool.Decides.{nat_tests}
+use Rattle.std.proofs.lemmas.Cmp.{nat_list_cmp_total, ranked, tied_itself}
+use Rattle.std.proofs.lemmas.Map.Text.{is_eq-slice_cmp}
 use Rattle.std.proofs.lemmas.Slice.Eq.{bytes_eq-Decides}
 use Rattle.xa_policy.specs.declared.pattern.PatternPart.{PatternPart}
 use Rattle.xa_policy.specs.declared.pattern.PatternPart.TheVariants.{Number, AnyNumber, AnyNumbers}
@@ -18,7 +20,8 @@ use Rattle.xa_policy.specs.declared.reference.Reference.{Reference}
 use Rattle.xa_link.specs.declared.active.Active.{Active}
 use Rattle.xa_policy.specs.DocumentKey.{place_of_kind, same_kind}
 use Rattle.xa_policy.specs.Version.{is_before}
-use Rattle.xa_link.specs.placing.Order.{Name, by_pattern, by_version, compare_documents, compare_names, compare_places, is_after_pattern, is_before_pattern, is_too_early, is_too_late, name, name_of, standing, standing_of}
+use Rattle.xa_link.specs.placing.Order.{Group, Name, by_bounds, compare_documents, compare_groups, compare_names, compare_places, group_of, group_wanted, name, name_of, standing, standing_of}
+use Rattle.xa_link.specs.placing.Seen.{seen, seen_by, wanted, wanted_by}
 use Rattle.xa_link.specs.Resolution.{fits, fits_pattern, matches, not_after, not_before}
 
 -- ---- total orders
@@ -26,11 +29,14 @@ use Rattle.xa_link.specs.Resolution.{fits, fits_pattern, matches, not_after, not
 pub names_total : IsTotalOrder compare_names
 names_total = then_total (on_total (λ (n : Name). n.rank) nat_cmp_total) (on_texts (λ (n : Name). n.id))
 
-pub documents_total : IsTotalOrder compare_documents
-documents_total = then_total (on_total name_of names_total) (on_texts (λ (d : Active). d.version))
+pub groups_total : IsTotalOrder compare_groups
+groups_total = then_total (on_texts (λ (g : Group). g.version)) (on_total (λ (g : Group). g.name) names_total)
 
-pub places_total : (active : List Active) → IsTotalOrder (compare_places active)
-places_total active = then_total (back_total (on_total (slice_get active) (options_total documents_total))) nat_cmp_total
+pub documents_total : (pattern : Option (List PatternPart)) → IsTotalOrder (compare_documents pattern)
+documents_total pattern = then_total (on_total (group_of pattern) groups_total) (on_texts (λ (d : Active). d.version))
+
+pub places_total : (pattern : Option (List PatternPart)) (active : List Active) → IsTotalOrder (compare_places pattern active)
+places_total pattern active = then_total (back_total (on_total (slice_get active) (options_total (documents_total pattern)))) nat_cmp_total
 
 -- ---- orderings
 
@@ -115,37 +121,8 @@ module _ {K : Type 0} {A : K → K → Ordering} (o : IsTotalOrder A) (n m r : K
 
 -- ---- versions
 
-pub pattern_up : (parts : List PatternPart) (v w : List ℕ) → ordering_index (slice_cmp nat_cmp v w) ≤ 1 → ordering_index (by_pattern parts v) ≤ ordering_index (by_pattern parts w)
-pattern_up [] [] [] h = omega arith
-pattern_up [] [] (m ∷ w) h = omega arith
-pattern_up [] (n ∷ v) [] h = absurd (omega (arith, h))
-pattern_up [] (n ∷ v) (m ∷ w) h = omega arith
-pattern_up (AnyNumber ∷ parts) v w h = omega arith
-pattern_up (AnyNumbers ∷ parts) v w h = omega arith
-pattern_up (Number k ∷ parts) [] [] h = omega arith
-pattern_up (Number k ∷ parts) [] (m ∷ w) h = omega arith
-pattern_up (Number k ∷ parts) (n ∷ v) [] h = absurd (omega (arith, h))
-pattern_up (Number k ∷ parts) (n ∷ v) (m ∷ w) h = by_first (nat_cmp n m) refl h (pattern_up parts v w)
-  where
-    by_first : (a : Ordering) → nat_cmp n m ≡ a → ordering_index (ordering_then a (slice_cmp nat_cmp v w)) ≤ 1
-        → (ordering_index (slice_cmp nat_cmp v w) ≤ 1 → ordering_index (by_pattern parts v) ≤ ordering_index (by_pattern parts w))
-        → ordering_index (ordering_then (nat_cmp n k) (by_pattern parts v)) ≤ ordering_index (ordering_then (nat_cmp m k) (by_pattern parts w))
-    by_first Less e h rest = strictly_up nat_cmp_total n m k e (by_pattern parts v) (by_pattern parts w)
-    by_first Equal e h rest =
-        subst (λ b. ordering_index (ordering_then (nat_cmp n k) (by_pattern parts v)) ≤ ordering_index (ordering_then b (by_pattern parts w))) (nat_cmp_total.congr n m k e)
-        (then_up (nat_cmp n k) (by_pattern parts v) (by_pattern parts w) (rest h))
-    by_first Greater e h rest = absurd (omega (arith, h))
-
 -- w is no later than v
 module _ (v w : List ℕ) (up : ordering_index (slice_cmp nat_cmp w v) ≤ 1) where
-  after_up : (pattern : Option (List PatternPart)) → is_after_pattern pattern w ≡ true → is_after_pattern pattern v ≡ true
-  after_up None e = e
-  after_up (Some parts) e = greater_up (by_pattern parts w) (by_pattern parts v) (pattern_up parts w v up) e
-
-  before_down : (pattern : Option (List PatternPart)) → is_before_pattern pattern v ≡ true → is_before_pattern pattern w ≡ true
-  before_down None e = e
-  before_down (Some parts) e = less_down (by_pattern parts w) (by_pattern parts v) (pattern_up parts w v up) e
-
   twice : (b : Bool) → not (not b) ≡ b
   twice true = refl
   twice false = refl
@@ -169,11 +146,6 @@ module _ (v w : List ℕ) (up : ordering_index (slice_cmp nat_cmp w v) ≤ 1) wh
   before_earliest (Some l) e =
       twice (is_before w l) ∙ less_down (slice_cmp nat_cmp w l) (slice_cmp nat_cmp v l) (no_later nat_list_cmp_total w v l up) (sym (twice (is_before v l)) ∙ e)
 
-  either : (a b c d : Bool) → (a ≡ true → c ≡ true) → (b ≡ true → d ≡ true) → (a || b) ≡ true → (c || d) ≡ true
-  either true b c d f g e = ap (λ x. x || d) (f refl)
-  either false b true d f g e = refl
-  either false b false d f g e = g e
-
   by_tests : (a b c d : Bool) → (c ≡ true → a ≡ true) → (b ≡ true → d ≡ true)
       → ordering_index (if a then Less else if b then Greater else Equal) ≤ ordering_index (if c then Less else if d then Greater else Equal)
   by_tests true b c d f g = omega arith
@@ -183,50 +155,58 @@ module _ (v w : List ℕ) (up : ordering_index (slice_cmp nat_cmp w v) ≤ 1) wh
   by_tests false false false true f g = omega arith
   by_tests false false false false f g = omega arith
 
-  pub versions_up : (reference : Reference) → ordering_index (by_version reference v) ≤ ordering_index (by_version reference w)
+  pub versions_up : (reference : Reference) → ordering_index (by_bounds reference v) ≤ ordering_index (by_bounds reference w)
   versions_up reference =
-      by_tests (is_too_late reference v) (is_too_early reference v) (is_too_late reference w) (is_too_early reference w)
-      (either (is_after_pattern reference.version w) (not (not_after reference.latest w)) (is_after_pattern reference.version v) (not (not_after reference.latest v)) (after_up reference.version) (past_latest reference.latest))
-      (either (is_before_pattern reference.version v) (not (not_before reference.earliest v)) (is_before_pattern reference.version w) (not (not_before reference.earliest w)) (before_down reference.version) (before_earliest reference.earliest))
+      by_tests (not (not_after reference.latest v)) (not (not_before reference.earliest v)) (not (not_after reference.latest w)) (not (not_before reference.earliest w))
+      (past_latest reference.latest) (before_earliest reference.earliest)
 
 -- ---- documents
 
-pub documents_up : (reference : Reference) (d e : Active) → ordering_index (compare_documents e d) ≤ 1 → ordering_index (standing_of reference d) ≤ ordering_index (standing_of reference e)
-documents_up reference d e h = by_names (compare_names (name_of e) (name_of d)) refl h
+pub documents_up : (reference : Reference) (d e : Active) → ordering_index (compare_documents reference.version e d) ≤ 1 → ordering_index (standing_of reference d) ≤ ordering_index (standing_of reference e)
+documents_up reference d e h = by_groups (compare_groups there here) refl h
   where
-    wanted : Name
-    wanted = name reference.kind reference.id
+    -- the groups of the two, and the one that is wanted
+    here : Group
+    here = group_of reference.version d
 
-    by_names : (a : Ordering) → compare_names (name_of e) (name_of d) ≡ a → ordering_index (ordering_then a (slice_cmp nat_cmp e.version d.version)) ≤ 1
-        → ordering_index (ordering_then (compare_names (name reference.kind reference.id) (name_of d)) (by_version reference d.version))
-        ≤ ordering_index (ordering_then (compare_names (name reference.kind reference.id) (name_of e)) (by_version reference e.version))
-    by_names Less is h =
-        strictly_up (back_total names_total) (name_of d) (name_of e) (name reference.kind reference.id) is (by_version reference d.version) (by_version reference e.version)
-    by_names Equal is h =
-        let same : compare_names (name reference.kind reference.id) (name_of d) ≡ compare_names (name reference.kind reference.id) (name_of e) =
-        (back_total names_total).congr (name_of d) (name_of e) (name reference.kind reference.id) is in
-        subst (λ b. ordering_index (ordering_then (compare_names (name reference.kind reference.id) (name_of d)) (by_version reference d.version)) ≤ ordering_index (ordering_then b (by_version reference e.version))) same
-        (then_up (compare_names (name reference.kind reference.id) (name_of d)) (by_version reference d.version) (by_version reference e.version) (versions_up d.version e.version h reference))
-    by_names Greater is h = absurd (omega (arith, h))
+    there : Group
+    there = group_of reference.version e
 
-pub found_up : (reference : Reference) (d e : Option Active) → ordering_index (option_cmp compare_documents e d) ≤ 1 → ordering_index (standing reference d) ≤ ordering_index (standing reference e)
+    by_groups : (a : Ordering) → compare_groups there here ≡ a → ordering_index (ordering_then a (slice_cmp nat_cmp e.version d.version)) ≤ 1
+        → ordering_index (ordering_then (compare_groups (group_wanted reference) here) (by_bounds reference d.version))
+        ≤ ordering_index (ordering_then (compare_groups (group_wanted reference) there) (by_bounds reference e.version))
+    by_groups Less is h =
+        strictly_up (back_total groups_total) here there (group_wanted reference) is (by_bounds reference d.version) (by_bounds reference e.version)
+    by_groups Equal is h =
+        let same : compare_groups (group_wanted reference) here ≡ compare_groups (group_wanted reference) there =
+        (back_total groups_total).congr here there (group_wanted reference) is in
+        subst (λ b. ordering_index (ordering_then (compare_groups (group_wanted reference) here) (by_bounds reference d.version)) ≤ ordering_index (ordering_then b (by_bounds reference e.version))) same
+        (then_up (compare_groups (group_wanted reference) here) (by_bounds reference d.version) (by_bounds reference e.version) (versions_up d.version e.version h reference))
+    by_groups Greater is h = absurd (omega (arith, h))
+
+pub found_up : (reference : Reference) (d e : Option Active) → ordering_index (option_cmp (compare_documents reference.version) e d) ≤ 1 → ordering_index (standing reference d) ≤ ordering_index (standing reference e)
 found_up reference None None h = omega arith
 found_up reference None (Some e) h = absurd (omega (arith, h))
 found_up reference (Some d) None h = at_most_two (standing_of reference d)
 found_up reference (Some d) (Some e) h = documents_up reference d e h
 
--- ---- what fits is among those that may fit
+-- ---- what fits is what is neither before what fits nor behind it
 
-pub matches_equal : (parts : List PatternPart) (v : List ℕ) → matches parts v ≡ true → by_pattern parts v ≡ Equal
-matches_equal [] [] e = refl
-matches_equal [] (n ∷ v) e = absurd (true≢false (sym e))
-matches_equal (Number m ∷ parts) [] e = absurd (true≢false (sym e))
-matches_equal (Number m ∷ parts) (n ∷ v) e =
+matches_wanted : (parts : List PatternPart) (v : List ℕ) → matches parts v ≡ true → wanted parts ≡ seen parts v
+matches_wanted [] [] e = refl
+matches_wanted [] (n ∷ v) e = absurd (true≢false (sym e))
+matches_wanted (Number m ∷ parts) [] e = absurd (true≢false (sym e))
+matches_wanted (Number m ∷ parts) (n ∷ v) e =
     let both = and_parts (m == n) (matches parts v) e in
-    let first : nat_cmp n m ≡ Equal = ap (nat_cmp n) (eqb-true m n both.0) ∙ tied_itself nat_cmp_total n in
-    ap (λ a. ordering_then a (by_pattern parts v)) first ∙ matches_equal parts v both.1
-matches_equal (AnyNumber ∷ parts) v e = refl
-matches_equal (AnyNumbers ∷ parts) v e = refl
+    ap (λ k. k ∷ wanted parts) (eqb-true m n both.0) ∙ ap (λ ns. n ∷ ns) (matches_wanted parts v both.1)
+matches_wanted (AnyNumber ∷ parts) [] e = absurd (true≢false (sym e))
+matches_wanted (AnyNumber ∷ parts) (n ∷ v) e = ap (λ ns. 0 ∷ ns) (matches_wanted parts v e)
+matches_wanted (AnyNumbers ∷ parts) [] e = absurd (true≢false (sym e))
+matches_wanted (AnyNumbers ∷ parts) (n ∷ v) e = refl
+
+pattern_wanted : (pattern : Option (List PatternPart)) (v : List ℕ) → fits_pattern pattern v ≡ true → wanted_by pattern ≡ seen_by pattern v
+pattern_wanted None v e = refl
+pattern_wanted (Some parts) v e = matches_wanted parts v e
 
 kinds_alike : (a b : DocumentKind) → same_kind a b ≡ true → place_of_kind a ≡ place_of_kind b
 kinds_alike Policy Policy e = refl
@@ -234,18 +214,9 @@ kinds_alike Policy PolicySet e = absurd (true≢false (sym e))
 kinds_alike PolicySet Policy e = absurd (true≢false (sym e))
 kinds_alike PolicySet PolicySet e = refl
 
-not_after_pattern : (pattern : Option (List PatternPart)) (v : List ℕ) → fits_pattern pattern v ≡ true → is_after_pattern pattern v ≡ false
-not_after_pattern None v e = refl
-not_after_pattern (Some parts) v e = ap is_gt (matches_equal parts v e)
-
-not_before_pattern : (pattern : Option (List PatternPart)) (v : List ℕ) → fits_pattern pattern v ≡ true → is_before_pattern pattern v ≡ false
-not_before_pattern None v e = refl
-not_before_pattern (Some parts) v e = ap is_lt (matches_equal parts v e)
-
 -- what fits, in parts
 pub record Fitting (reference : Reference) (d : Active) : Type 0 where
-  pub name : name reference.kind reference.id ≡ name_of d
-  pub pattern : fits_pattern reference.version d.version ≡ true
+  pub group : group_wanted reference ≡ group_of reference.version d
   pub earliest : not_before reference.earliest d.version ≡ true
   pub latest : not_after reference.latest d.version ≡ true
 
@@ -256,10 +227,10 @@ fitting reference d e =
     let pattern = and_parts _ (fits_pattern reference.version d.version) earliest.0 in
     let id = and_parts (same_kind reference.kind d.kind) (bytes_eq reference.id d.id) pattern.0 in
     record {
-      name =
-          ap (λ k. record { rank = k; id = reference.id }) (kinds_alike reference.kind d.kind id.0)
-          ∙ ap (λ i. record { rank = place_of_kind d.kind; id = i }) ((bytes_eq-Decides reference.id d.id).0 id.1);
-      pattern = pattern.1;
+      group =
+          ap (λ v. record { version = v; name = name reference.kind reference.id }) (pattern_wanted reference.version d.version pattern.1)
+          ∙ ap (λ k. record { version = seen_by reference.version d.version; name = record { rank = k; id = reference.id } }) (kinds_alike reference.kind d.kind id.0)
+          ∙ ap (λ i. record { version = seen_by reference.version d.version; name = record { rank = place_of_kind d.kind; id = i } }) ((bytes_eq-Decides reference.id d.id).0 id.1);
       earliest = earliest.1;
       latest = latest.1;
     }
@@ -267,12 +238,57 @@ fitting reference d e =
 pub fits_among : (reference : Reference) (d : Active) → fits reference d ≡ true → standing_of reference d ≡ Equal
 fits_among reference d e =
     let parts = fitting reference d e in
-    let names : compare_names (name reference.kind reference.id) (name_of d) ≡ Equal =
-    ap (λ n. compare_names n (name_of d)) parts.name ∙ tied_itself names_total (name_of d) in
-    let late : is_too_late reference d.version ≡ false =
-    ap (λ b. b || not (not_after reference.latest d.version)) (not_after_pattern reference.version d.version parts.pattern) ∙ ap not parts.latest in
-    let early : is_too_early reference d.version ≡ false =
-    ap (λ b. b || not (not_before reference.earliest d.version)) (not_before_pattern reference.version d.version parts.pattern) ∙ ap not parts.earliest in
-    ap (λ a. ordering_then a (by_version reference d.version)) names
-    ∙ ap (λ b. if b then Less else if is_too_early reference d.version then Greater else Equal) late
-    ∙ ap (λ b. if b then Greater else Equal) early
+    let groups : compare_groups (group_wanted reference) (group_of reference.version d) ≡ Equal =
+    ap (λ g. compare_groups g (group_of reference.version d)) parts.group ∙ tied_itself groups_total (group_of reference.version d) in
+    ap (λ a. ordering_then a (by_bounds reference d.version)) groups
+    ∙ ap (λ b. if not b then Less else if not (not_before reference.earliest d.version) then Greater else Equal) parts.latest
+    ∙ ap (λ b. if not b then Greater else Equal) parts.earliest
+
+then_equal : (a b : Ordering) → ordering_then a b ≡ Equal → (a ≡ Equal) × (b ≡ Equal)
+then_equal Less b e = absurd (let f : Less ≡ Equal = e in cc)
+then_equal Equal b e = (refl, e)
+then_equal Greater b e = absurd (let f : Greater ≡ Equal = e in cc)
+
+seen_matches : (parts : List PatternPart) (v : List ℕ) → slice_cmp nat_cmp (wanted parts) (seen parts v) ≡ Equal → matches parts v ≡ true
+seen_matches [] [] e = refl
+seen_matches [] (n ∷ v) e = absurd (let f : Less ≡ Equal = e in cc)
+seen_matches (Number m ∷ parts) [] e = absurd (let f : Greater ≡ Equal = e in cc)
+seen_matches (Number m ∷ parts) (n ∷ v) e =
+    let both = then_equal (nat_cmp m n) (slice_cmp nat_cmp (wanted parts) (seen parts v)) e in
+    let same : m ≡ n = ranked m n Equal (sym both.0) in
+    let tests : (m == n) ≡ true = grind (arith, nat_tests, same) in
+    ap (λ b. b && matches parts v) tests ∙ seen_matches parts v both.1
+seen_matches (AnyNumber ∷ parts) [] e = absurd (let f : Greater ≡ Equal = e in cc)
+seen_matches (AnyNumber ∷ parts) (n ∷ v) e = seen_matches parts v e
+seen_matches (AnyNumbers ∷ parts) [] e = absurd (let f : Greater ≡ Equal = e in cc)
+seen_matches (AnyNumbers ∷ parts) (n ∷ v) e = refl
+
+seen_fits : (pattern : Option (List PatternPart)) (v : List ℕ) → slice_cmp nat_cmp (wanted_by pattern) (seen_by pattern v) ≡ Equal → fits_pattern pattern v ≡ true
+seen_fits None v e = refl
+seen_fits (Some parts) v e = seen_matches parts v e
+
+kinds_same : (a b : DocumentKind) → nat_cmp (place_of_kind a) (place_of_kind b) ≡ Equal → same_kind a b ≡ true
+kinds_same Policy Policy e = refl
+kinds_same Policy PolicySet e = absurd (let f : Less ≡ Equal = e in cc)
+kinds_same PolicySet Policy e = absurd (let f : Greater ≡ Equal = e in cc)
+kinds_same PolicySet PolicySet e = refl
+
+bounds_hold : (a b : Bool) → (if not a then Less else if not b then Greater else Equal) ≡ Equal → (a ≡ true) × (b ≡ true)
+bounds_hold false b e = absurd (let f : Less ≡ Equal = e in cc)
+bounds_hold true false e = absurd (let f : Greater ≡ Equal = e in cc)
+bounds_hold true true e = (refl, refl)
+
+pub among_fits : (reference : Reference) (d : Active) → standing_of reference d ≡ Equal → fits reference d ≡ true
+among_fits reference d e =
+    let parts = then_equal (compare_groups (group_wanted reference) (group_of reference.version d)) (by_bounds reference d.version) e in
+    let group = then_equal (slice_cmp nat_cmp (wanted_by reference.version) (seen_by reference.version d.version)) (compare_names (name reference.kind reference.id) (name_of d)) parts.0 in
+    let names = then_equal (nat_cmp (place_of_kind reference.kind) (place_of_kind d.kind)) (slice_cmp nat_cmp reference.id d.id) group.1 in
+    let bounds = bounds_hold (not_after reference.latest d.version) (not_before reference.earliest d.version) parts.1 in
+    let kind : same_kind reference.kind d.kind ≡ true = kinds_same reference.kind d.kind names.0 in
+    let id : bytes_eq reference.id d.id ≡ true = sym (is_eq-slice_cmp reference.id d.id) ∙ ap is_eq names.1 in
+    let pattern : fits_pattern reference.version d.version ≡ true = seen_fits reference.version d.version group.0 in
+    all_hold (same_kind reference.kind d.kind) (bytes_eq reference.id d.id) (fits_pattern reference.version d.version) (not_before reference.earliest d.version) (not_after reference.latest d.version)
+    kind id pattern bounds.1 bounds.0
+  where
+    all_hold : (a b c d e : Bool) → a ≡ true → b ≡ true → c ≡ true → d ≡ true → e ≡ true → (a && b && c && d && e) ≡ true
+    all_hold a b c d e f g h i j = rw (f, g, h, i, j) refl

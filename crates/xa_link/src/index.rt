@@ -1,47 +1,46 @@
 //! The active documents, among which is found the one that a reference stands for.
-ghost use Rattle.std.specs.Prelude.{◌≡◌, find, IfOk, slice_get};
-ghost use Rattle.xa_link.specs.placing.Order.{IsOrder, IsOrderIfAny, IsFalling, fits_at};
+ghost use Rattle.std.specs.Prelude.{◌≡◌, IfOk};
+ghost use Rattle.xa_link.specs.placing.Order.{IsOrderIfAny};
 ghost use Rattle.xa_link.specs.Resolution.{resolve};
 
 use crate::active::Active;
-use crate::order::{places_in_order, standing_at};
-use crate::resolution::{fits, resolve};
+use crate::order::{places_in_order, reordered, resolve_by_order};
+use crate::orders::{keep_order, order_in, slot_of};
+use crate::resolution::resolve;
 use std::alloc::{AllocError, Global};
 use std::marker::Model;
-use xa_policy::Reference;
+use xa_policy::{Pattern, Reference};
+use xa_value::Items;
 
 /// For at most this many children of policy sets the documents are looked at one after another, since to
 /// put them in order would take longer.
 const MAX_UNSORTED_CHILDREN: usize = 24;
-
-/// How many documents may be looked at in vain for one tree, once they are in order: they take some 0.2
-/// seconds. A reference whose pattern begins with `*` may look at each version of its id. A tree of 1,000
-/// policies, each of which is found after 1,023 others, takes a quarter of it.
-const MAX_LOOKS: u32 = 4_096_000;
 
 /// Active documents, which are put in order when so many references are to be resolved that this pays.
 /// Clauses see the documents.
 #[derive(Debug, Drop)]
 pub(crate) struct Index<'a> {
     active: &'a [Active],
-    /// Their places in order; none as long as they aren't put in order.
+    /// Their places in the order for references without a pattern; none as long as they aren't put in order.
     order: Vec<usize>,
+    /// The orders for the shapes of patterns that were met, each in its slot.
+    orders: Vec<Items<usize>>,
     /// How many children of policy sets have been met: each may be a reference.
     children: usize,
-    /// How many more documents may be looked at in vain.
-    looks: u32,
 }
 
 impl<'a> Model for Index<'a> {
-    ghost use Rattle.std.specs.Prelude.{List};
+    ghost use Rattle.std.specs.Prelude.{List, None};
     ghost use Rattle.xa_link.specs.declared.active.Active.{Active as Document};
+    ghost use Rattle.xa_link.specs.placing.Orders.{AreOrders};
     ghost use Rattle.xa_link.specs.placing.Order.{IsOrderIfAny};
 
     ghost Value = { List Document };
 
     ghost view = { λ i. i.active.now };
 
-    ghost invariant = { λ i. IsOrderIfAny i.active.now i.order.items };
+    ghost invariant = { λ i.
+        IsOrderIfAny None i.active.now i.order.items × AreOrders i.active.now i.orders.items };
 }
 
 impl<'a> Index<'a> {
@@ -52,8 +51,8 @@ impl<'a> Index<'a> {
         Index {
             active,
             order: Vec::new(alloc),
+            orders: Vec::new(alloc),
             children: 0,
-            looks: MAX_LOOKS,
         }
     }
 
@@ -76,64 +75,41 @@ impl<'a> Index<'a> {
         Ok(())
     }
 
-    /// The place of the document for which the reference stands. If more than [`MAX_LOOKS`] documents were
-    /// looked at in vain, it is answered as if memory were wanting.
-    pub(crate) fn resolve(&mut self, reference: &Reference) -> Result<Option<usize>, AllocError>
+    /// Puts the documents in the order for patterns of this one's shape too, if they are in order and weren't
+    /// put in that one before.
+    fn expect_pattern(&mut self, alloc: Global, pattern: &Option<Pattern>) -> Result<(), AllocError>
+        ensures kept { self.new ≡ self.old }
+    {
+        let slot = slot_of(pattern);
+        if !self.order.is_empty() && order_in(self.orders.as_slice(), slot).is_empty() {
+            let order = reordered(self.active, pattern, self.order.clone()?)?;
+            keep_order(alloc, &mut self.orders, slot, Items::from_vec(order))?;
+        }
+        Ok(())
+    }
+
+    /// The place of the document for which the reference stands.
+    pub(crate) fn resolve(
+        &mut self,
+        alloc: Global,
+        reference: &Reference,
+    ) -> Result<Option<usize>, AllocError>
         ensures value { IfOk result (λ place. place ≡ resolve self.old reference.now) }
         ensures kept { self.new ≡ self.old }
     {
-        if self.order.is_empty() {
-            return Ok(resolve(self.active, reference));
-        }
-        let places = places_from(self.active, self.order.as_slice(), reference);
-        first_that_fits(self.active, places, reference, &mut self.looks)
+        self.expect_pattern(alloc, &reference.version)?;
+        let order = order_in(self.orders.as_slice(), slot_of(&reference.version));
+        Ok(resolve_among(self.active, order, reference))
     }
 }
 
-/// Whether the document at the place fits.
-fn fits_at(active: &[Active], place: usize, reference: &Reference) -> bool
-    ensures { result ≡ fits_at active.now reference.now place }
+/// The place of the document for which the reference stands, by the order for its pattern, if there is one.
+fn resolve_among(active: &[Active], order: &[usize], reference: &Reference) -> Option<usize>
+    requires { IsOrderIfAny reference.now.version active.now order.now }
+    ensures { result ≡ resolve active.now reference.now }
 {
-    match active.get(place) {
-        Some(document) => fits(reference, document),
-        None => false,
+    if order.is_empty() {
+        return resolve(active, reference);
     }
-}
-
-/// The first of the places whose document fits. The search ends at the first place after those that may
-/// fit. Each look in vain before that takes one of those that are left; without one it is answered as if
-/// memory were wanting.
-fn first_that_fits(
-    active: &[Active],
-    places: &[usize],
-    reference: &Reference,
-    looks: &mut u32,
-) -> Result<Option<usize>, AllocError>
-    requires { IsFalling active.now reference.now places.now }
-    ensures { IfOk result (λ found. found ≡ find (fits_at active.now reference.now) places.now) }
-{
-    for place in places {
-        if fits_at(active, *place, reference) {
-            return Ok(Some(*place));
-        }
-        if standing_at(active, *place, reference).is_gt() {
-            return Ok(None);
-        }
-        let Some(fewer) = looks.checked_sub(1) else {
-            return Err(AllocError);
-        };
-        *looks = fewer;
-    }
-    Ok(None)
-}
-
-/// The places from the first document on that may fit the reference. Of n documents some log n are
-/// compared.
-fn places_from<'o>(active: &[Active], order: &'o [usize], reference: &Reference) -> &'o [usize]
-    requires { IsOrder active.now order.now }
-    ensures falling { IsFalling active.now reference.now result.now }
-    ensures first { find (fits_at active.now reference.now) result.now ≡ resolve active.now reference.now }
-{
-    let start = order.partition_point(|place| standing_at(active, *place, reference).is_lt());
-    order.split_at(start).1
+    resolve_by_order(active, order, reference)
 }

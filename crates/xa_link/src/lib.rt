@@ -1,9 +1,10 @@
 //! The documents that references stand for, and the trees that they are linked to (XACML 3.0, core,
 //! sections 5.10 to 5.13).
 //!
-//! `resolution` says which of the active documents (`active`) a reference stands for, and `index` finds it
-//! by `order` if many are asked for. `resolved` reads a document once and has its references resolved
-//! (`placed`); `linking` makes the tree of it, which has no more parts than `room` leaves.
+//! `resolution` says which of the active documents (`active`) a reference stands for. If many are asked for,
+//! `index` finds it by an `order`, by what patterns of one shape see of versions (`seen`), and keeps one for
+//! each shape (`orders`). `resolved` reads a document once and has its references resolved (`placed`);
+//! `linking` makes the tree of it, which has no more parts than `room` leaves.
 #![tactic(auto)]
 
 mod active;
@@ -11,10 +12,12 @@ mod index;
 mod link_error;
 mod linking;
 mod order;
+mod orders;
 mod placed;
 mod resolution;
 mod resolved;
 mod room;
+mod seen;
 
 pub use active::Active;
 pub use link_error::LinkError;

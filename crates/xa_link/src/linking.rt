@@ -249,9 +249,11 @@ fn linked_children(
 /// and 7.15). A reference that leads to no document, back to one on its path, or past 17 documents is
 /// left unresolved. Rules are shared with the documents. A document is read, and its references are
 /// resolved, once, however often the tree holds it, and not at all if the root doesn't lead to it.
-/// Once a document is resolved, a reference in it that leads nowhere costs its leaf alone. If the
-/// reader's limit is reached, or references look at too many documents that they don't stand for, it is
-/// answered as if memory were wanting.
+/// Once a document is resolved, a reference in it that leads nowhere costs its leaf alone. It fails for
+/// want of memory only if an allocation failed, or if the reader's limit is reached.
+///
+/// Of n active documents a reference compares some log n. Each shape of patterns, of which there are 765,
+/// costs once some n log n comparisons more.
 #[tactic(auto, using(crate::proofs::LinkingLemmas::link_is_led))]
 pub fn link(
     alloc: Global,

@@ -37,7 +37,7 @@ pub(crate) fn with_places(
             let children = children_with_places(alloc, index, children.as_slice())?;
             Ok(Placed::PolicySet(set.clone()?, children))
         }
-        Document::Reference(reference) => Ok(Placed::Reference(index.resolve(reference)?)),
+        Document::Reference(reference) => Ok(Placed::Reference(index.resolve(alloc, reference)?)),
     }
 }
 

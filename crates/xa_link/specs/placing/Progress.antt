@@ -1,5 +1,5 @@
 -- How far reading for a tree has come.
-use Rattle.std.specs.Prelude.{◌≡◌, ℕ, zero, suc, ◌+◌, ◌<◌, ◌==◌, Bool, true, false, ◌||◌, List, []}
+use Rattle.std.specs.Prelude.{◌≡◌, ℕ, zero, suc, ◌+◌, ◌<◌, Bool, true, false, ◌||◌, List, []}
 use Rattle.std.specs.Prelude.{◌∷◌, length, map, Option, Some, None, slice_get, Result, Ok, Err}
 use Rattle.std.specs.List.{list_any}
 use Rattle.xa_shelf.specs.Allowance.{Allowance}
@@ -8,7 +8,7 @@ use Rattle.xa_link.specs.declared.placed.Placed.{Placed, fold-Placed}
 use Rattle.xa_link.specs.declared.placed.Placed.TheOpen.{Placed-F}
 use Rattle.xa_link.specs.declared.resolved.Finding.{Finding}
 use Rattle.xa_link.specs.declared.resolved.Finding.TheVariants.{NotLooked, Looked}
-use Rattle.xa_link.specs.Linking.{document_at, unless_circular}
+use Rattle.xa_link.specs.Linking.{unless_circular}
 use Rattle.xa_link.specs.Reading.{bytes_at, is_at_or_below, leads_within}
 
 -- the active documents, and which of them were read

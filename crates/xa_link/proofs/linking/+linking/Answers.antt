@@ -1,4 +1,4 @@
-use Rattle.std.proofs.Common.{rules, [], true, ◌==◌, ◌++◌, map, drop, take, drop-cons, add-one, suc, Err, ◌≡◌, ◌∷◌, ◌+◌, ◌-◌, ◌≤◌, Some, None, Ok, sym, ap, subst, ◌∙◌, arith}
+use Rattle.std.proofs.Common.{rules, [], ◌==◌, ◌++◌, map, drop, take, drop-cons, add-one, suc, Err, ◌≡◌, ◌∷◌, ◌+◌, ◌-◌, ◌≤◌, Some, None, Ok, sym, ap, subst, ◌∙◌, arith}
 use Rattle.std.specs.Prelude.{◌||◌}
 use Rattle.xa_value.specs.declared.or_memory.OrMemory.TheVariants.{Memory}
 use Rattle.xa_value.specs.Gives.{Gives}
@@ -10,7 +10,7 @@ use Rattle.xa_link.specs.placing.Progress.{Progress, Reads, Refuses, led_at, led
 use Rattle.xa_link.specs.placing.Room.{all_fitted, fitted, fitted_behind}
 use Rattle.xa_link.proofs.placed.Placed.TheLaws.{the_size}
 use Rattle.xa_link.proofs.LedLemmas.{led_document, led_further, led_here, led_one_more, led_set, led_taken}
-use Rattle.xa_link.proofs.ReadingLemmas.{counted_err, counted_same, counted_then, or_false, reads_none, reads_then, refuses_then, refuses_up}
+use Rattle.xa_link.proofs.ReadingLemmas.{counted_err, counted_same, counted_then, reads_none, reads_then, refuses_then, refuses_up}
 use Rattle.xa_link.proofs.LinkingLemmas.{at_greatest, further, greatest_depth, linked_where_found, none_at, policy_fits_linked, set_fits_linked}
 use Rattle.xa_link.proofs.RoomLemmas.{no_room_behind, room_behind, unresolved_fits}
 use Rattle.xa_link.proofs.linking.+linking.Goals.{linked_children-then-leads_nowhere+in_ok-push, linked_children-else-leads_nowhere+in_ok-fitted+in_ok-push-2}

@@ -1,5 +1,5 @@
 -- From the root, where nothing was read before.
-use Rattle.std.proofs.Common.{◌≡◌, [], ap, ◌∙◌}
+use Rattle.std.proofs.Common.{[], ap, ◌∙◌}
 use Rattle.xa_link.specs.placing.Progress.{Progress, led_to_within}
 use Rattle.xa_link.proofs.LedLemmas.{reading_is, reading_is_more}
 use Rattle.xa_link.proofs.linking.link.Goals as goal

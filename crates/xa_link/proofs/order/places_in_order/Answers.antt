@@ -1,4 +1,4 @@
-use Rattle.std.proofs.Common.{◌≡◌, ◌∙◌, ◌+◌, length, refl, arith, rules, subst, Ok}
+use Rattle.std.proofs.Common.{◌≡◌, ◌∙◌, ◌+◌, length, refl, arith, rules, subst, None, Ok}
 use Rattle.std.specs.Cmp.{nat_eq_equiv}
 use Rattle.std.specs.List.{range_with_len}
 use Rattle.std.specs.List.Sorted.{IsPermutation}
@@ -23,10 +23,10 @@ returns c =
     items_from_collect {E = AllocError} (Ok c.in_ok-order.order) c.in_ok-order.ensures.ran (YieldsList-from_range 0 count count refl (omega arith)) in
     let moved : IsPermutation (range_with_len 0 count) after = subst (λ places. IsPermutation places after) all c.sort_by.ensures.permutation in
     let long = length-range_with_len 0 count in
-    let compares = always_returns_same _ (λ a r. is_lt r ≡ is_lt (compare_places active a.0.now a.1.0.now)) _ (λ a r f called. search rules) in
+    let compares = always_returns_same _ (λ a r. is_lt r ≡ is_lt (compare_places None active a.0.now a.1.0.now)) _ (λ a r f called. search rules) in
     record {
       all = λ place h.
           list_any-from_Contains nat_eq_equiv place after (Contains-permutation (range_with_len 0 count) after place moved
           (place, (let l = long in omega (arith, h, l)), get_or-range_with_len 0 count place place h ∙ (let zero_more : 0 + place ≡ place = omega arith in zero_more)));
-      sorted = c.in_ok-sort_by.ensures.sorted (λ x y. is_lt (compare_places active x y)) (ranks_by (places_total active) (λ p. p)) compares;
+      sorted = c.in_ok-sort_by.ensures.sorted (λ x y. is_lt (compare_places None active x y)) (ranks_by (places_total None active) (λ p. p)) compares;
     }

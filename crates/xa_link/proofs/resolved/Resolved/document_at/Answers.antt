@@ -1,7 +1,7 @@
 -- What was found before is neither read nor counted again.
-use Rattle.std.proofs.Common.{rules, ◌≡◌, ◌==◌, false, true, Err, sym, ap, ◌∙◌}
+use Rattle.std.proofs.Common.{rules, ◌≡◌, ◌==◌, false, true, Err, ap, ◌∙◌}
 use Rattle.xa_link.specs.declared.resolved.Finding.TheVariants.{NotLooked, Looked}
-use Rattle.xa_link.specs.placing.Placed.{held, placed_at}
+use Rattle.xa_link.specs.placing.Placed.{held}
 use Rattle.xa_link.specs.placing.Progress.{is_looked, is_read, marks}
 use Rattle.xa_link.proofs.PlacedLemmas.{right_same}
 use Rattle.xa_link.proofs.ReadingLemmas.{counted_err, marks_is, marks_put, one_read, one_refused, read_before}
