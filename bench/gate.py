@@ -1,8 +1,8 @@
 #!/usr/bin/env python3
 """Measures the CI gate from nothing: runs `make prove` in a fresh clone of what is committed, by a copy of the
 toolchain whose store is empty (its files by further names where the disk allows, so that it takes no room), and
-writes what it took into docs/GATE.md, in place of what stood there for as many processors, and what each wrong
-body took. With the word `test` it measures `make test`, which compiles the programs without proof there.
+writes what it took into docs/GATE.md, in place of what stood there for this kit and as many processors, and what
+each wrong body took. With the word `test` it measures `make test`, which compiles the programs without proof there.
 
 usage: bench/gate.py [test]                     with all processors, and nothing else running
        taskset -c 0,1 bench/gate.py [test]      with two
@@ -23,13 +23,16 @@ sys.path.insert(0, str(TOP / "tests"))
 sys.dont_write_bytecode = True
 
 import edits  # noqa: E402
-from prove import machine  # noqa: E402
+from edit_costs import EditCosts  # noqa: E402
+from kit import machine  # noqa: E402
 
 PAGE = TOP / "docs" / "GATE.md"
 
 
-def marks(processors, word=""):
-    return f"<!-- bench/gate.py{word}, {processors} processors -->", f"<!-- end of{word} {processors} processors -->"
+def marks(found, word=""):
+    """The comments before and behind what stands for a kit and a number of processors."""
+    told = f"{found['kit'].split()[0]}, {found['processors']} processors"
+    return f"<!-- bench/gate.py{word}, {told} -->", f"<!-- end of{word} {told} -->"
 
 
 def copy_of_kit(folder):
@@ -53,10 +56,13 @@ def fresh(folder):
 def gate(folder):
     """Runs the CI gate from nothing, and gives its status and what it took."""
     clone, surroundings = fresh(folder)
+    costs = EditCosts()
     status = subprocess.run(["make", "prove"], cwd=clone, stdin=subprocess.DEVNULL, env=surroundings,
                             check=False).returncode
     figures = clone / "build" / "gate.json"
-    return status, json.loads(figures.read_text(encoding="utf-8")) if figures.is_file() else None
+    if not figures.is_file():
+        return status, None
+    return status, {**json.loads(figures.read_text(encoding="utf-8")), "edits": costs.took}
 
 
 def tests(folder):
@@ -104,10 +110,10 @@ def table(found):
     return [told, "", rows[0], "|---" * len(cells) + "|", rows[1]]
 
 
-def write(processors, lines, word=""):
-    """Writes the lines between their marks; of a number of processors that the page doesn't have, behind the
+def write(found, lines, word=""):
+    """Writes the lines between their marks; of a kit or a number of processors that the page doesn't have, behind the
     others."""
-    first, last = marks(processors, word)
+    first, last = marks(found, word)
     text, block = PAGE.read_text(encoding="utf-8"), "\n".join([first, *lines, last])
     if first in text:
         text = re.sub(f"{re.escape(first)}.*?{re.escape(last)}", lambda _: block, text, flags=re.S)
@@ -134,13 +140,12 @@ def main():
         print(f"It ended with status {status}{', and took what earlier runs had kept' if kept else ''}: "
               "nothing is written.")
         return 1
-    processors = len(os.sched_getaffinity(0))
     if sys.argv[1:]:
-        write(processors, [found], " test")
+        write(machine(), [found], " test")
     else:
-        write(processors, table(found))
+        write(found, table(found))
         edits.write(found["edits"])
-    print(f"docs/GATE.md has what it took on {processors} processors.")
+    print("docs/GATE.md has what it took.")
     return 0
 
 
