@@ -59,7 +59,7 @@ def nginx(folder):
 events {{ worker_connections 512; }}
 http {{ access_log off; default_type application/xacml+json; client_body_temp_path {folder}/b; proxy_temp_path {folder}/p;
   fastcgi_temp_path {folder}/f; uwsgi_temp_path {folder}/u; scgi_temp_path {folder}/s;
-  server {{ listen 127.0.0.1:7100; location / {{ return 200 '{REPLY}'; }} }} }}
+  server {{ listen 127.0.0.1:{machine.port(0)}; location / {{ return 200 '{REPLY}'; }} }} }}
 """)
     return subprocess.Popen(["nginx", "-c", f"{folder}/nginx.conf", "-p", str(folder)], stdout=subprocess.DEVNULL,
                             stderr=subprocess.DEVNULL)
@@ -86,7 +86,7 @@ def measure(made):
         made.set(**{name: value})
         print_line(f"1 shard, {name}={value}", 100, clients.wrk(script, 100, SECONDS))
         made.set(**{name: usual})
-    print_line("pdpd alone, no proxy", 1, clients.wrk(script, 1, SECONDS, "http://127.0.0.1:7100"))
+    print_line("pdpd alone, no proxy", 1, clients.wrk(script, 1, SECONDS, f"http://127.0.0.1:{machine.port(0)}"))
     machine.sh("sv down /etc/service/pdpd-0 && sleep 1")
     server = nginx(made.folder)
     time.sleep(1)

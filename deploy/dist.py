@@ -1,9 +1,11 @@
 #!/usr/bin/env python3
-"""Packs the proved program, what deploys it, the pages and their checksums into build/pdpd-VERSION.tar.gz.
+"""Packs the proved program, what deploys it, the policy author's desk as one file, the pages and their checksums into
+build/pdpd-VERSION.tar.gz.
 
 Without more words it takes the program that is proved and built of these very sources.
 """
 import argparse
+import gzip
 import hashlib
 import io
 import pathlib
@@ -14,8 +16,9 @@ import tempfile
 
 sys.dont_write_bytecode = True
 TOP = pathlib.Path(__file__).resolve().parent.parent
-sys.path.insert(0, str(TOP / "tests"))
+sys.path[:0] = [str(TOP / "tests"), str(TOP / "tools" / "policy")]
 
+import pack as policy_desk  # noqa: E402
 import programs  # noqa: E402
 
 PAGES = ("README.md", *sorted(str(path.relative_to(TOP)) for path in (TOP / "docs").rglob("*")
@@ -34,7 +37,8 @@ def program_of(named):
         raise SystemExit(f"deploy/dist.py: {fault}") from None
     if path is None:
         raise SystemExit("deploy/dist.py: pdpd isn't proved and built of these very sources: `make prove` or "
-                         "`make pdpd` does it")
+                         "`make pdpd` does it. Another one is named: `make dist PROGRAM=PATH`, or "
+                         "`deploy/dist.py --program PATH`; the file PROGRAM then says so")
     return path, ("This program was proved and built of the sources of checksum "
                   f"{programs.fingerprint('pdpd')}\nby {first_line_of('rt', 'version')}.")
 
@@ -48,6 +52,7 @@ def files(program, line):
     yield "pdpd", program.read_bytes(), True
     line_of_program = f"{first_line_of(program, '--version')}, SHA-256 {programs.sum_of(program)}\n{line}\n"
     yield "PROGRAM", line_of_program.encode(), False
+    yield "policy.pyz", policy_desk.packed(), True
     for page in PAGES:
         yield page, (TOP / page).read_bytes(), False
     for path in sorted((TOP / "deploy").rglob("*")):
@@ -62,7 +67,9 @@ def pack(program, line, folder):
     sums = "".join(f"{hashlib.sha256(data).hexdigest()}  {file}\n" for file, data, _ in held)
     path = folder / f"{name}.tar.gz"
     folder.mkdir(exist_ok=True)
-    with tarfile.open(path, "w:gz") as archive:
+    # without the time at which it is packed: the same files give the same bytes
+    with open(path, "wb") as made, gzip.GzipFile("", "wb", fileobj=made, mtime=0) as packed, \
+            tarfile.open(fileobj=packed, mode="w") as archive:
         for file, data, is_run in [*held, ("SHA256SUMS", sums.encode(), False)]:
             entry = tarfile.TarInfo(f"{name}/{file}")
             entry.size, entry.mode = len(data), 0o755 if is_run else 0o644

@@ -4,43 +4,39 @@ local connections = os.getenv("PDPD_MAXCONN")
 local inner = "unix@" .. os.getenv("PDPD_RUN") .. "/inner.sock"
 local map = Map.new(os.getenv("PDPD_MAP"), Map._str)
 
--- ---- queues
---
--- Where a client goes while its message is tried again at a shard that is away, HAProxy 2.6 leaves the
--- shard's queue alone, though nothing is under way, for as long as messages come. To set the number of
--- connections to what it is has it look.
-
-core.register_task(function()
-    while true do
-        core.msleep(100)
-        for shard = 0, shards - 1 do
-            core.backends["shard" .. shard].servers["pdpd"]:set_maxconn(connections)
-        end
-    end
-end)
+local function seconds()
+    local now = core.now()
+    return now.sec + now.usec / 1000000
+end
 
 -- ---- held back
 --
--- HELD in the map is the second until which something is held, SHARD0 stands there for a shard that is
--- restarted, and `moving` is the place of a domain that moves. None of these is a domain's name. The tool
--- renews HELD for as long as it runs, and ends its shards' programs meanwhile: so a message that has waited
--- for ten seconds is answered with 503, as one that gets no turn in a queue, and never goes on.
+-- HELD in the map is SECONDS/NAME: something is held for so long from the moment on at which this HAProxy first
+-- sees that name. So no other clock counts, and none that is set. SHARD0 stands there for a shard that is
+-- restarted, and `moving` is the place of a domain that moves. None of these is a domain's name. The tool renews
+-- HELD, by another name, for as long as it runs, and ends its shards' programs meanwhile: so a message that has
+-- waited for ten seconds is answered with 503, as one that gets no turn in a queue, and never goes on.
+
+local seen, ends = nil, 0
+
+local function is_anything_held()
+    local lease = map:lookup("HELD")
+    if lease ~= seen then
+        local length = lease and tonumber(lease:match("^(%d+)/"))
+        seen, ends = lease, seconds() + (length or 0)
+    end
+    return lease ~= nil and seconds() < ends
+end
 
 local function place_of(name, converters)
     return map:lookup(name) or tostring(converters:crc32(name) % shards)
 end
 
 local function is_held(domain, converters)
-    local until_when = tonumber(map:lookup("HELD") or "0")
-    if until_when < core.now().sec then return false end
+    if not is_anything_held() then return false end
     if not domain then return true end  -- the list is of all shards
     local place = place_of(domain, converters)
     return place == "moving" or map:lookup("SHARD" .. place) ~= nil
-end
-
-local function seconds()
-    local now = core.now()
-    return now.sec + now.usec / 1000000
 end
 
 -- whether it is held no more, at the latest after ten seconds
@@ -55,6 +51,22 @@ end
 
 core.register_action("pdpd_wait", { "http-req" }, function(txn)
     if not is_let_go(txn:get_var("txn.domain"), txn.c) then txn:set_var("txn.held", true) end
+end)
+
+-- ---- queues
+--
+-- Where a client goes while its message is tried again at a shard that is away, HAProxy 2.6 leaves the
+-- shard's queue alone, though nothing is under way, for as long as messages come. To set the number of
+-- connections to what it is has it look. (That a lease is seen soon is wanted, too.)
+
+core.register_task(function()
+    while true do
+        core.msleep(100)
+        is_anything_held()
+        for shard = 0, shards - 1 do
+            core.backends["shard" .. shard].servers["pdpd"]:set_maxconn(connections)
+        end
+    end
 end)
 
 -- ---- the list
@@ -75,7 +87,7 @@ end
 -- the fields of a message to a shard: the token that was shown, and which shard it is
 local function fields(applet, shard)
     -- the URL has an address, since a name would be looked up
-    local found = { host = { "pdpd" }, ["x-shard"] = { tostring(shard) } }
+    local found = { host = { "pdpd" }, ["x-shard"] = { tostring(shard) }, ["x-turn"] = { "1" } }
     local shown = applet.headers["authorization"]
     if shown then
         found["authorization"] = {}

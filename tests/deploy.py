@@ -1,11 +1,12 @@
 #!/usr/bin/env python3
 """Tries deploy/ with the real parts, from the archive on: four shards behind HAProxy, under runit.
 
-usage: tests/deploy.py [PROGRAM] [PART..]   the program, or that which is proved and built of these very sources
+usage: tests/deploy.py [PROGRAM] [PART..]   the program, or that which is proved and built of these very sources; the
+                                            word `attacks` names all parts that play an adversary
 
 It runs in namespaces of its own (mounts, processes, network), in which all paths and users are those of a
 real machine, and leaves nothing behind. It takes the rights of root and Debian's packages haproxy, runit,
-curl, wrk, openssl and strace; where something is missing it says so and ends with status 2. It gives the commands
+curl, wrk, openssl, strace and gcc; where something is missing it says so and ends with status 2. It gives the commands
 of docs/guide/OPERATING.md word for word. What is expected is worked out from the pages and RFC 9110 and 9112,
 and never by the program.
 """
@@ -21,7 +22,9 @@ TOP = pathlib.Path(__file__).resolve().parent.parent
 sys.path.insert(0, str(TOP / "tests"))
 
 from checks import Checks  # noqa: E402
-from deployed import backups, changes, clients, failures, machine, replies, slowness, units  # noqa: E402
+from deployed import (  # noqa: E402
+    attacks_front, attacks_local, attacks_pdpd, backups, changes, clients, failures, machine, replies, slowness,
+    units)
 from deployed.clients import Operator  # noqa: E402
 
 PARTS = (
@@ -30,9 +33,15 @@ PARTS = (
     slowness.slow, slowness.slow_readers, slowness.rates,
     failures.restarts, failures.kills, failures.stuck, failures.watched, failures.unkilled,
     failures.unstarted, failures.holding,
-    backups.backups, backups.anew,
+    backups.backups, backups.checkpoints, backups.anew,
     changes.moves, changes.crossed, changes.killed, changes.keeping,
-    units.certificate, units.upgrade, changes.growth, units.status, units.secrets)
+    *attacks_front.ATTACKS, *attacks_local.ATTACKS, *attacks_pdpd.ATTACKS,
+    units.certificate, units.want_of_memory, units.upgrade, changes.growth, changes.miscounted, units.status,
+    units.secrets)
+# words that name several of them
+GROUPS = {"attacks_front": attacks_front.ATTACKS, "attacks_local": attacks_local.ATTACKS,
+          "attacks_pdpd": attacks_pdpd.ATTACKS,
+          "attacks": (*attacks_front.ATTACKS, *attacks_local.ATTACKS, *attacks_pdpd.ATTACKS)}
 
 
 # of so many names is told what became of them, and so many lines of each log are kept
@@ -74,6 +83,11 @@ def differences(found, wanted):
     return "\n".join(lines)
 
 
+def members(word):
+    """The names of the parts that a word names."""
+    return [part.__name__ for part in GROUPS[word]] if word in GROUPS else [word]
+
+
 def run(folder, program, names):
     """Runs the parts of these names on a machine of the test's own, or all; the walk is always the first."""
     checks, made = Logged("tests/deploy.py", machine.log_of(folder)), machine.Machine(folder)
@@ -104,6 +118,7 @@ def main():
     words = sys.argv[1:]
     is_named = words and (os.sep in words[0] or os.path.isfile(words[0]))
     program = os.path.abspath(words.pop(0)) if is_named else None
+    words = [name for word in words for name in members(word)]
     # (a name that no part has ends it here)
     Checks("tests/deploy.py").named_parts(PARTS, words)
     if lacks := list(machine.missing(program)):

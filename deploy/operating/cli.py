@@ -23,12 +23,18 @@ import sqlite3
 import subprocess
 import sys
 
-from . import backups, moving, proxy, status, supervisor, talk, watchdog
-from .settings import DOMAIN, ENDS, Wrong, alone, errors_of, number_in_word, read
+from . import backups, listener, moving, proxy, restoring, status, supervisor, talk, watchdog
+from .settings import DOMAIN, ENDS, Wrong, alone, errors_of, harmless, number_in_word, read
 
 
 def say(what):
-    print(f"pdpd-shards: {what}", flush=True)
+    print(harmless(f"pdpd-shards: {what}"), flush=True)
+
+
+def warn(settings):
+    """Tells where other users of the machine can take the shards' ports."""
+    if found := listener.warning(settings):
+        print(f"pdpd-shards: WARNING: {found}", file=sys.stderr, flush=True)
 
 
 def shards_in(settings, words):
@@ -38,17 +44,16 @@ def shards_in(settings, words):
 
 def config(settings, words):
     if words == ["--write"]:
-        count = talk.shards_in_configuration(settings)
-        if count not in (None, settings.shards):
-            raise Wrong(f"SHARDS is {settings.shards}, and there are {count}: write {count} again; pdpd-shards grow "
-                        "makes more")
         talk.write_configuration(settings)
+        warn(settings)
         say(f"{settings.haproxy_etc}/haproxy.cfg is written and valid; pdpd-shards reload has HAProxy read it")
     else:
         print(proxy.configuration(settings), end="")
 
 
 def services(settings, words):
+    talk.refuse_other_count(settings)
+    warn(settings)
     by = supervisor.of(settings)
     by.set_up(range(settings.shards))
     by.start_proxy()
@@ -60,14 +65,14 @@ def services(settings, words):
 def reload(settings, words):
     talk.check(f"{settings.haproxy_etc}/haproxy.cfg")
     # a process that begins while another tool holds messages back would know nothing of it
-    with alone(settings):
+    with alone():
         talk.reload(settings, supervisor.of(settings))
     say("HAProxy has read its files")
 
 
 def restart(settings, words):
     for shard in shards_in(settings, words):
-        with alone(settings), moving.restart_between_messages(settings, shard):
+        with alone(), moving.restart_between_messages(settings, shard):
             pass
         say(f"shard {shard} is restarted")
 
@@ -75,7 +80,8 @@ def restart(settings, words):
 def upgrade(settings, words):
     by = supervisor.of(settings)
     talk.write_configuration(settings)
-    with alone(settings):
+    warn(settings)
+    with alone():
         by.renew()
         talk.reload(settings, by)
     say("HAProxy, the watchdog and the backups run what is installed")
@@ -86,7 +92,7 @@ def show_status(settings, words):
     lines, wrong = status.report(settings)
     print("\n".join(lines))
     for what in wrong:
-        print(f"WRONG: {what}")
+        print(harmless(f"WRONG: {what}"))
     return 1 if wrong else 0
 
 
@@ -99,7 +105,7 @@ def where(settings, words):
 
 def backup(settings, words):
     for shard in shards_in(settings, words):
-        with alone(settings):
+        with alone():
             path, domains, took = backups.backup(settings, shard)
         say(f"backup of shard {shard}: {backups.summary(path, domains, took)}")
 
@@ -112,14 +118,14 @@ def list_backups(settings, words):
 
 def put_back(settings, words):
     shard, name = words
-    with alone(settings):
-        domains, aside = backups.put_back(settings, settings.shard_in(shard), name)
+    with alone():
+        domains, aside = restoring.put_back(settings, settings.shard_in(shard), name)
     say(f"shard {shard} is that of {name}: {len(domains)} domains; the files before are in {aside}")
 
 
 def move(settings, words):
     domain, one, other = words
-    with alone(settings):
+    with alone():
         took = moving.move(settings, domain, settings.shard_in(one), settings.shard_in(other))
     say(f"{domain} is in shard {other}; both shards were away for {took:.2f} s")
 
@@ -128,7 +134,7 @@ def grow(settings, words):
     shards = number_in_word(*words)
     if shards is None:
         raise Wrong("a number of shards is wanted")
-    with alone(settings):
+    with alone():
         count = moving.grow(settings, shards)
     say(f"there are {shards} shards; {count} domains stay where they were")
 
@@ -176,5 +182,5 @@ def main(words):
         return call(read(), words[1:]) or 0
     except (Wrong, OSError, sqlite3.Error, subprocess.SubprocessError) as fault:
         for error in errors_of(fault):
-            print(f"pdpd-shards: {error}", file=sys.stderr)
+            print(harmless(f"pdpd-shards: {error}"), file=sys.stderr)
         return 1

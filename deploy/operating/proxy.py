@@ -2,33 +2,52 @@
 
 pdpd serves one connection after another. So HAProxy lets one message at a time to each shard (maxconn),
 and the others queue in it. What pdpd would answer by closing a connection, and what could hold it up,
-ends here.
+ends here. So does what one client could take away from all others: connections, messages under way, memory.
 """
 
 JSON = "content-type application/json string"
 # Which bytes no field may have; pdpd would close the connection (RFC 9110, section 5.5).
 CONTROLS = r"[\x00-\x08\x0b\x0c\x0e-\x1f\x7f]"
+# The longest message (16,384 bytes more) and the longest reply that a client gets each fit into a buffer. So pdpd gets
+# no message before its last byte is here, and is rid of its reply whether the client takes it or not.
+MOST_BODY, MOST_REPLY, BUFFER = 524_288, 1_000_000, 1_048_576
+# lists of all domains that are put together at a time
+LISTS = 4
+# connections of the tools, of the watchdog and of lists, beside those of clients
+SPARE = 200
+# whose a message is: an address, of IPv6 the network that one machine may have
+SOURCE = "src,ipmask(32,64)"
 
 
-def answers(status, code):
+def answers(status, code, fields="", how="return"):
     """The end of a rule that answers with an error."""
-    return f"""return status {status} {JSON} '{{"Error":"{code}"}}'"""
+    return f"""{how} status {status} {JSON} '{{"Error":"{code}"}}'{fields}"""
+
+
+def has_two_steps(settings):
+    """Whether messages go through HAProxy twice: to be sent once more; or since a connection that is kept to a shard
+    is free for others only once the reply has gone, which the second step takes whole."""
+    return settings.retry or settings.keep
 
 
 def global_part(settings):
     user = settings.haproxy_user
     rights = f"    user {user}\n    group {user}\n" if user else ""
+    most = settings.clients + (settings.under_way if has_two_steps(settings) else 0) + SPARE
     return f"""\
 global
     nbthread {settings.threads}
 {rights}\
     # a second HAProxy that is started by mistake would share the ports, and the shards
     noreuseport
-    maxconn 4000
-    # A whole message fits (16,384 + 524,288 bytes), so that pdpd gets none before its last byte is here.
-    tune.bufsize 589824
+    # clients have fewer, so the tools always have room
+    maxconn {most}
+    tune.bufsize {BUFFER}
+    # the most memory: a buffer for each connection, and two for each message
+    tune.buffers.limit {most + 2 * settings.under_way}
     tune.maxrewrite 1024
     tune.http.maxhdr 128
+    tune.h2.max-concurrent-streams 10
     hard-stop-after 15s
     stats socket {settings.haproxy_run}/admin.sock mode 660 level admin expose-fd listeners
     log {settings.log}
@@ -46,16 +65,18 @@ def connections(settings):
     """How messages come to a shard."""
     if settings.keep:
         return """\
-    # One connection is kept to each shard. A reload under load stalls until the old process has gone.
+    # One connection is kept to each shard. A reload under load stalls until the old process has gone. Newer versions
+    # pass an empty body of HTTP/2 on as a chunked one, behind which pdpd would end that connection.
+    .if version_atleast(2.7)
+    .alert "KEEP=1 is for HAProxy 2.6 alone"
+    .endif
     http-reuse always
-    retry-on conn-failure
 """
-    return f"""\
+    return """\
     # Each message has a connection of its own, which pdpd closes behind the reply: none is idle while others
     # wait, and no message can be taken for a part of another one's.
     http-reuse never
     option http-server-close
-    retry-on conn-failure{" empty-response" if settings.retry else ""}
 """
 
 
@@ -71,14 +92,17 @@ defaults
     # Neither fields nor bodies are logged, so no token is.
     log-format "%ci:%cp %ft %b %HM %{{+Q}}HPO %ST %Tq/%Tw/%Tc/%Tr/%Ta %tsc %sq/%bq %rc %B"
     timeout http-request 5s
-    timeout http-keep-alive 60s
-    timeout client 10s
+    # how long a handshake of TLS may take, a connection may be idle, and a client may take nothing of its reply
+    timeout client 5s
+    # how long a source waits for each reply that has asked too much without a token
+    timeout tarpit 1s
     # also the pause before a refused connection is tried again: 15 make 3 s, in which a pdpd has to be back
     timeout connect 200ms
     retries 15
+    retry-on conn-failure
     # whoever has left the queue isn't asked for
     option abortonclose
-    # how long a message waits for its turn, and then for its reply; the watchdog acts after 5 s
+    # how long a message waits for its turn, and then for its reply
     timeout queue 10s
     timeout server 12s
 {connections(settings)}\
@@ -88,11 +112,29 @@ defaults
 
 
 def binds(settings):
-    """Where clients come in."""
+    """Where clients come in, and how many may."""
     lines = f"    bind {settings.plain_bind}\n" if settings.plain_bind else ""
     if settings.tls_bind:
         lines += f"    bind {settings.tls_bind} ssl crt {settings.certificate} alpn h2,http/1.1\n"
-    return lines
+    return f"{lines}    maxconn {settings.clients}\n"
+
+
+def source_rules(settings):
+    """What one client may have at a time."""
+    most = settings.of_source
+    connections_end = f"    tcp-request connection reject if {{ sc0_conn_cur gt {most} }}\n" if most else ""
+    messages_end = f"    http-request {answers(429, 'TooMany')} if {{ sc1_conn_cur gt {most} }}\n" if most else ""
+    return f"""\
+    tcp-request connection track-sc0 {SOURCE} table connections_of_source
+{connections_end}\
+    http-request track-sc1 {SOURCE} table messages_of_source
+{messages_end}"""
+
+
+DOMAIN_RULES = """\
+    http-request set-var(txn.domain) path,field(3,/) if { path_beg /domains/ }
+    http-request set-var(txn.domain) path,field(4,/) if { path_beg /operator/domains/ }
+"""
 
 
 def head_rules():
@@ -100,7 +142,7 @@ def head_rules():
     return f"""\
     http-request {answers(405, "BadMethod")} if METH_HEAD
     http-request {answers(505, "Version")} unless {{ req.ver -m str 1.1 2.0 }}
-    http-request {answers(413, "BodyTooLarge")} if {{ req.hdr_val(content-length) gt 524288 }}
+    http-request {answers(413, "BodyTooLarge")} if {{ req.hdr_val(content-length) gt {MOST_BODY} }}
     http-request set-var(txn.head) req.hdrs,length
     http-request set-var(txn.line) url,length
     http-request set-var(txn.head) var(txn.head),add(txn.line)
@@ -109,30 +151,72 @@ def head_rules():
     http-request {answers(431, "HeadTooLarge")} if {{ req.fhdr_cnt gt 63 }}
     http-request {answers(400, "BadHead")} if {{ req.hdrs -m reg '{CONTROLS}' }}
     # pdpd decodes the domain's part once it has found the route, and no domain's name needs a percent
-    http-request set-var(txn.domain) path,field(3,/) if {{ path_beg /domains/ }}
-    http-request set-var(txn.domain) path,field(4,/) if {{ path_beg /operator/domains/ }}
     http-request {answers(400, "BadDomain")} if {{ var(txn.domain) -m sub % }}
+    # The list of all domains is asked of all shards: who shows no token asks none of them.
+    acl is_list path /operator/domains
+    acl has_token req.hdr(authorization) -m found
+    http-request {answers(401, "Unauthorized", " hdr www-authenticate Bearer")} if is_list METH_GET !has_token
 """
 
 
-def rate_rules(settings):
-    if not settings.rate:
-        return ""
+def token_rules(settings):
+    """What a token may ask that was accepted lately, and what is left to those without one.
+
+    The digest of a token and of its domain (of none, if it is the operator's) is kept once a reply was success. So
+    nobody uses up what is another's.
+    """
+    refuses, rate = "", ""
+    if settings.refusals:
+        refuses = f"""\
+    http-request {answers(429, "TooMany", how="tarpit")} if !is_accepted {{ sc1_gpc0_rate gt {settings.refusals} }}
+    http-request {answers(429, "TooMany", how="tarpit")} if !is_accepted {{ sc1_gpc1_rate gt {10 * settings.refusals} }}
+"""
+    if settings.rate:
+        rate = f"""\
+    http-request {answers(429, "TooMany")} if is_accepted of_tenant {{ sc2_http_req_rate gt {settings.rate} }}
+"""
     return f"""\
-    acl is_name var(txn.domain) -m reg ^[a-z0-9][a-z0-9-]{{0,31}}$
-    http-request track-sc0 var(txn.domain) table per_domain if is_name
-    http-request {answers(429, "TooMany")} if {{ sc0_http_req_rate gt {settings.rate} }}
+    acl of_tenant path_beg /domains/
+    http-request set-var(txn.tenant) path,field(3,/) if of_tenant
+    acl has_one_token req.fhdr_cnt(authorization) eq 1
+    http-request set-var(txn.who) "req.fhdr(authorization),word(-1,' '),concat(/,txn.tenant),sha2(256)" if has_one_token
+    http-request set-var(txn.accepted) int(1) if {{ var(txn.who),table_gpt0(accepted) eq 1 }}
+    acl is_accepted var(txn.accepted) -m found
+    http-request track-sc2 var(txn.who) table accepted if is_accepted
+    http-request sc-inc-gpc1(1) if !is_accepted
+    # All together. (A message has counters of its own beside those of its connection.)
+    http-request track-sc0 int(0) table messages_under_way
+    http-request {answers(503, "Unavailable")} if {{ sc0_conn_cur gt {settings.under_way} }}
+    http-request {answers(503, "Unavailable")} if !is_accepted {{ sc0_conn_cur gt {settings.under_way // 2} }}
+{refuses}{rate}\
+    acl has_success status 200:299
+    http-response track-sc2 var(txn.who) table accepted if has_success {{ var(txn.who) -m found }}
+    http-response sc-set-gpt0(2) 1 if has_success
+    http-response sc-set-gpt0(2) 0 if {{ status 401 }}
+    http-response sc-inc-gpc0(1) if {{ status 400:499 }} !is_accepted
 """
 
 
 def body_rules():
-    """The whole body first: a slow client holds no shard. One without a length (chunked, HTTP/2) gets one."""
+    """The whole body first: a slow client holds no shard. One without a length (chunked, HTTP/2) gets one.
+
+    HAProxy 3.0 passes a chunked body that gets a length on as an empty one, and no version between was tried.
+    """
     return f"""\
     http-request wait-for-body time 5s
-    http-request {answers(413, "BodyTooLarge")} if {{ req.body_size gt 524288 }}
+    http-request {answers(413, "BodyTooLarge")} if {{ req.body_size gt {MOST_BODY} }}
     acl has_length req.hdr(content-length) -m found
-    http-request del-header transfer-encoding if !has_length
-    http-request set-header content-length %[req.body_len] if !has_length {{ req.body_len gt 0 }}
+    acl has_coding req.hdr(transfer-encoding) -m found
+    acl has_body req.body_len gt 0
+    .if version_before(2.7)
+    # (an empty body of HTTP/2 would be passed on as a chunked one)
+    http-request set-header content-length %[req.body_len] if !has_length has_coding
+    http-request set-header content-length %[req.body_len] if !has_length {{ req.ver 2.0 }}
+    http-request del-header transfer-encoding if has_length
+    .else
+    http-request {answers(501, "TransferCoding")} if has_coding
+    http-request {answers(501, "TransferCoding")} if !has_length has_body
+    .endif
 """
 
 
@@ -151,12 +235,10 @@ def route_rules(settings):
     acl makes_domain method PUT
     acl is_stopped str(NEW),map({file}) -m found
     http-request {answers(503, "Unavailable")} if makes_domain {{ path_beg /operator/domains/ }} is_stopped
-    # only what changes nothing is sent twice
-    acl asks path_reg ^/domains/[^/]+/pdp$
-    http-request disable-l7-retry unless {{ method GET }} or {{ method POST }} asks
-    # a reply that fits into no buffer would let a client that doesn't read it hold the shard
-    http-response {answers(503, "Unavailable")} if has_domain {{ res.hdr_val(content-length) gt 1000000 }}
-    http-request use-service lua.pdpd_domains if {{ method GET }} {{ path /operator/domains }}
+    # a reply that fits into no buffer, or that is passed on before it is whole, would let a client hold the shard
+    http-response {answers(503, "Unavailable")} if has_domain {{ res.hdr_val(content-length) gt {MOST_REPLY} }}
+    http-response wait-for-body time 12s
+    use_backend lists if METH_GET {{ path /operator/domains }}
     use_backend shard%[var(txn.shard)] if has_shard
     use_backend shard0 if !has_domain
     # the map names a shard that isn't there
@@ -164,27 +246,84 @@ def route_rules(settings):
 """
 
 
-def other_parts(settings):
+def frontends(settings):
+    """Where clients come in, up to the shards' queues."""
+    first = binds(settings) + source_rules(settings) + DOMAIN_RULES + token_rules(settings) + head_rules()
+    if not has_two_steps(settings):
+        return f"\nfrontend pdp\n{first}{body_rules()}{route_rules(settings)}"
+    again = """\
+    # what changes nothing is sent once more if its connection to the shard was lost, and finds its way anew
+    acl asks path_reg ^/domains/[^/]+/pdp$
+    http-request disable-l7-retry unless METH_GET or { method POST } asks
+    retries 1
+    retry-on conn-failure 502
+"""
+    return f"""
+frontend pdp
+{first}{body_rules()}\
+    http-response wait-for-body time 12s
+    default_backend again
+
+backend again
+    http-reuse never
+    option http-server-close
+{again if settings.retry else ""}\
+    # held back, in the queue, until the shard is back, and for the reply
+    timeout server 40s
+    server routes unix@{settings.haproxy_run}/routes.sock
+
+frontend routes
+    option dontlog-normal
+    bind unix@{settings.haproxy_run}/routes.sock {rights(settings)}
+{DOMAIN_RULES}{route_rules(settings)}"""
+
+
+def rights(settings):
+    """Who may connect to a socket of HAProxy's own."""
     user = settings.haproxy_user
-    rights = f"mode 660 user {user} group {user}" if user else "mode 660"
-    table = """
-backend per_domain
-    stick-table type string len 32 size 100k expire 60s store http_req_rate(10s)
-""" if settings.rate else ""
-    return f"""{table}
+    return f"mode 660 user {user} group {user}" if user else "mode 660"
+
+
+def other_parts(settings):
+    """The frontend of the tools, the list of all domains, and what is counted."""
+    return f"""
 # For the watchdog and the tools, which name the shard: before all others in its queue, or in their turn.
 frontend inner
     option dontlog-normal
-    bind unix@{settings.haproxy_run}/inner.sock {rights}
+    bind unix@{settings.haproxy_run}/inner.sock {rights(settings)}
     http-request set-priority-class int(-100) unless {{ req.hdr(x-turn) -m found }}
     http-request set-var(txn.shard) req.hdr(x-shard)
     http-request del-header x-shard
     http-request del-header x-turn
     use_backend shard%[var(txn.shard)]
 
+# A few lists are put together at a time, and the others wait.
+backend lists
+    timeout server 40s
+    server self unix@{settings.haproxy_run}/lists.sock maxconn {LISTS}
+
+frontend list
+    option dontlog-normal
+    bind unix@{settings.haproxy_run}/lists.sock {rights(settings)}
+    http-request use-service lua.pdpd_domains
+
 # where a domain is that moves for too long
 backend shardmoving
     http-request {answers(503, "Unavailable")}
+
+backend connections_of_source
+    stick-table type ipv6 size 100k expire 60s store conn_cur
+
+# without a token that was accepted lately: gpc1 all messages, gpc0 those that a shard answered with 4xx
+backend messages_of_source
+    stick-table type ipv6 size 100k expire 60s store conn_cur,gpc0_rate(10s),gpc1_rate(10s)
+
+backend messages_under_way
+    stick-table type integer size 1 expire 60s store conn_cur
+
+# by the digest of a token and a domain; gpt0 is 0 once it is refused
+backend accepted
+    stick-table type binary len 32 size 100k expire 10m store gpt0,http_req_rate(10s)
 """
 
 
@@ -199,5 +338,5 @@ def configuration(settings):
     """The whole file."""
     return "".join((
         "# Written by `pdpd-shards config`, of /etc/pdpd/shards.conf: what is changed here is lost.\n",
-        global_part(settings), defaults_part(settings), "\nfrontend pdp\n", binds(settings), head_rules(),
-        rate_rules(settings), body_rules(), route_rules(settings), other_parts(settings), backends(settings)))
+        global_part(settings), defaults_part(settings), frontends(settings), other_parts(settings),
+        backends(settings)))

@@ -1,12 +1,15 @@
 """What the operator has set: lines NAME=VALUE of a file that the shell reads as well."""
 import contextlib
 import fcntl
+import json
 import os
 import pathlib
 import re
 import shlex
 import signal
+import sys
 import tempfile
+import time
 
 LIBRARY = pathlib.Path(__file__).resolve().parent.parent
 FILE = pathlib.Path(os.environ.get("PDPD_SETTINGS", "/etc/pdpd/shards.conf"))
@@ -15,14 +18,34 @@ NUMBERS = {
     "SHARDS": (1, 64), "FIRST_PORT": (1, 65_000), "KEEP_BACKUPS": (1, 100_000), "CONNECTIONS": (1, 1_000_000),
     "WORK": (0, 2 ** 63), "READING": (0, 2 ** 63), "IDLE": (0, 86_400), "THREADS": (1, 64), "KEEP": (0, 1),
     "RETRY": (0, 1), "MAXCONN": (1, 128), "RATE": (0, 1_000_000),
+    "CLIENTS": (1, 100_000), "UNDER_WAY": (10, 100_000), "OF_SOURCE": (0, 100_000), "REFUSALS": (0, 1_000_000),
 }
 # the signals to end, as of a terminal that is closed
 ENDS = (signal.SIGINT, signal.SIGTERM, signal.SIGHUP)
 DOMAIN = re.compile(r"[a-z0-9][a-z0-9-]{0,31}")
+# the file in a shard's folder that is there while a backup replaces its files: pdpd-run starts no program beside it
+MARK = "put-back-unfinished"
+# where the tools' lock is: a folder that root alone can write into
+LOCKS = pathlib.Path("/run/pdpd")
 
 
 class Wrong(Exception):
     """What the operator has to mend, in words."""
+
+
+def domains_in(body, whose):
+    """The names in a reply to the operator's list of domains. Whoever is in the place of a program may write anything
+    there, and the names go into commands to HAProxy."""
+    with contextlib.suppress(ValueError, RecursionError, TypeError, KeyError):
+        names = json.loads(body)["Domain"]
+        if isinstance(names, list) and all(isinstance(name, str) and DOMAIN.fullmatch(name) for name in names):
+            return names
+    raise Wrong(f"{whose} answers with no list of domains: it isn't pdpd, or is damaged")
+
+
+def harmless(text):
+    """A text without what would steer a terminal."""
+    return "".join(letter if letter.isprintable() or letter == "\n" else "?" for letter in text)
 
 
 def errors_of(fault):
@@ -81,13 +104,9 @@ class Settings:
         """Where a shard's files are."""
         return pathlib.Path(self.data) / str(shard)
 
-    def unfinished_put_back(self, shard):
-        """The file that is there while a backup replaces a shard's files: pdpd-run starts no program beside it."""
-        return self.folder(shard) / "put-back-unfinished"
-
     def refuse_unfinished_put_back(self, shard):
         """An error if a backup was put back in part: what stands there is no store."""
-        mark = self.unfinished_put_back(shard)
+        mark = self.folder(shard) / MARK
         if mark.exists():
             raise Wrong(f"a backup was put back in part ({mark}): give pdpd-shards put-back again")
 
@@ -118,10 +137,21 @@ def read():
 
 
 @contextlib.contextmanager
-def alone(settings):
-    """One tool at a time stops, copies or changes shards: another one waits here."""
-    with open(pathlib.Path(settings.data) / ".lock", "w", encoding="ascii") as lock:
-        fcntl.flock(lock, fcntl.LOCK_EX)
+def alone():
+    """One tool at a time stops, copies or changes shards: another one waits here, and says for whom."""
+    LOCKS.mkdir(mode=0o711, exist_ok=True)
+    # who can open it can hold it
+    file = os.open(LOCKS / "lock", os.O_RDWR | os.O_CREAT | os.O_NOFOLLOW | os.O_CLOEXEC, 0o600)
+    with open(file, "r+", encoding="utf-8") as lock:
+        try:
+            fcntl.flock(lock, fcntl.LOCK_EX | fcntl.LOCK_NB)
+        except BlockingIOError:
+            print(f"pdpd-shards: waits for {lock.read().strip() or 'another one'}", file=sys.stderr, flush=True)
+            fcntl.flock(lock, fcntl.LOCK_EX)
+        lock.seek(0)
+        lock.truncate()
+        now = time.strftime("%H:%M:%S UTC", time.gmtime())
+        print("pdpd-shards", *sys.argv[1:], f"(process {os.getpid()}, since {now})", file=lock, flush=True)
         yield
 
 

@@ -2,19 +2,24 @@
 import shutil
 import time
 
-from . import backups, talk
+from . import listener, talk, trial
+from .backups import backups_of
+from .settings import Wrong
 
 # when a backup is too old, in seconds; how full a disk may be
 OLD, FULL = 2 * 3600 + 600, 0.9
 
 
 def size(path):
-    return path.stat().st_size / 2 ** 20 if path.exists() else 0.0
+    try:
+        return path.lstat().st_size / 2 ** 20
+    except OSError:
+        return 0.0
 
 
 def age(settings, shard):
     """How many seconds old the newest backup is; None where there is none."""
-    folders = backups.backups_of(settings, shard)
+    folders = backups_of(settings, shard)
     return time.time() - folders[-1].stat().st_mtime if folders else None
 
 
@@ -32,15 +37,16 @@ def of_shard(settings, shard, known):
         names = talk.domains_of(settings, shard)
         count = str(len(names))
         wrong += copies(settings, shard, known, names)
-    except backups.Wrong as fault:
-        state = "up" if isinstance(fault, talk.OtherToken) else "down"
+    except Wrong as fault:
+        states = {talk.OtherToken: "up", listener.Impostor: "taken"}
+        state = states.get(type(fault), "down")
         wrong.append(str(fault))
     old = age(settings, shard)
     if old is None or old > OLD:
         wrong.append(f"shard {shard} has no backup of the last two hours")
     folder = settings.folder(shard)
     last = "none" if old is None else f"{old / 60:.0f} min ago"
-    sizes = [f"{size(folder / name):.1f}" for name in backups.FILES]
+    sizes = [f"{size(folder / name):.1f}" for name in trial.FILES]
     return [str(shard), state, count, *sizes, last], wrong
 
 
@@ -64,4 +70,5 @@ def report(settings):
     moving = [name for name, value in known.items() if value == "moving"]
     wrong += ["no domain can be made: a growth was cut; give pdpd-shards grow again" if name == "NEW" else
               f"{name} is moving: if nobody moves it now, give pdpd-shards move again" for name in moving]
+    wrong += [found for found in (talk.other_count(settings), listener.warning(settings)) if found]
     return lines, list(dict.fromkeys(wrong))

@@ -5,7 +5,7 @@ import shutil
 import subprocess
 import time
 
-from .settings import LIBRARY, Wrong
+from .settings import LIBRARY, Wrong, write_whole
 
 # how long a process that is told to end may take
 PATIENCE = 7
@@ -24,6 +24,7 @@ def run(*words):
 
 class Systemd:
     """Units pdpd@N, pdpd-backup@N.timer, pdpd-watchdog and haproxy."""
+    PLACES = pathlib.Path("/etc/systemd/system/pdpd-backup@.service.d/backups.conf")
 
     def __init__(self, settings):
         self.settings = settings
@@ -41,8 +42,16 @@ class Systemd:
     def reload_proxy(self):
         run("systemctl", "reload", "haproxy")
 
+    def allow_backups(self):
+        """Has the unit of backups, which may change nothing else, write where BACKUPS says."""
+        place = pathlib.Path(self.settings.backups)
+        place.mkdir(mode=0o711, exist_ok=True)
+        self.PLACES.parent.mkdir(mode=0o755, exist_ok=True)
+        write_whole(self.PLACES, f'[Service]\nReadWritePaths="-{str(place).replace("%", "%%")}"\n')
+
     def set_up(self, shards):
         """Has these shards, and what belongs to them, run now and after each start of the machine."""
+        self.allow_backups()
         timers = [f"pdpd-backup@{shard}.timer" for shard in shards]
         run("systemctl", "daemon-reload")
         run("systemctl", "enable", "--now", *(f"pdpd@{shard}" for shard in shards), *timers, "pdpd-watchdog")
@@ -53,6 +62,7 @@ class Systemd:
 
     def renew(self):
         """Has services run what is installed now, but for the shards and HAProxy."""
+        self.allow_backups()
         run("systemctl", "daemon-reload")
         run("systemctl", "restart", "pdpd-watchdog")
 

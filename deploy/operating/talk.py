@@ -1,17 +1,19 @@
 """What is asked of HAProxy while it runs, by its admin socket, and of a shard, through the frontend `inner`."""
 import contextlib
 import http.client
-import json
 import os
 import re
+import secrets
 import socket
 import subprocess
 import threading
 import time
 import zlib
 
+from . import listener
+from .owned import owner_of
 from .proxy import configuration
-from .settings import LIBRARY, Wrong, put_off_signals, write_whole
+from .settings import FILE, LIBRARY, Wrong, domains_in, put_off_signals, write_whole
 
 # how long a message may wait for its turn, and then for its reply (`timeout queue`, `timeout server`)
 QUEUE, SERVER = 10, 12
@@ -70,18 +72,34 @@ def shard_reply(settings, shard, method, path, token, *, in_turn=False, timeout=
 
 
 def is_up(settings, shard, timeout=5.0):
-    """Whether the shard answers."""
+    """Whether the shard answers, by its own program."""
     try:
         # without a token: 401
-        return shard_reply(settings, shard, "GET", "/operator/domains", "-", timeout=timeout)[0] == 401
+        status, _ = shard_reply(settings, shard, "GET", "/operator/domains", "-", timeout=timeout)
+        return status == 401 and listener.is_own(settings, shard)
     except NO_REPLY:
         return False
 
 
+def refuse_another(settings, shard):
+    """An error where another program takes a shard's connections. HAProxy sends another user's nothing from here on:
+    it would answer in the shard's place."""
+    try:
+        listener.refuse_another(settings, shard)
+    except listener.Impostor as fault:
+        if fault.found.uid == owner_of(settings.folder(shard)).uid:
+            raise
+        with contextlib.suppress(OSError):  # (a HAProxy that isn't there sends nothing)
+            admin_reply(settings, f"set server shard{shard}/pdpd state maint")
+        why = f"{fault}. Messages to the shard are answered with 503 until pdpd-shards restart {shard} succeeds"
+        raise listener.Impostor(why, fault.found) from None
+
+
 def wait_until_up(settings, shard, seconds=30.0):
-    """Waits until the shard answers."""
+    """Waits until the shard answers, by its own program."""
     end = time.time() + seconds
     while not is_up(settings, shard):
+        refuse_another(settings, shard)
         if time.time() > end:
             raise Wrong(f"shard {shard} doesn't answer; its log says why")
         time.sleep(0.05)
@@ -108,8 +126,12 @@ def wait_for_turn(settings, shard):
 
 
 def domains_of(settings, shard):
-    """The names of the domains that a shard has."""
+    """The names of the domains that a shard has. Its own program alone is shown the operator's token."""
+    listener.wait_for_own(settings, shard)
     try:
+        if asked_port(settings, shard) != settings.port(shard):
+            raise Wrong(f"HAProxy asks shard {shard} at another port than FIRST_PORT says: pdpd-shards config --write, "
+                        f"and pdpd-shards restart {shard}")
         status, body = shard_reply(settings, shard, "GET", "/operator/domains", settings.operator())
     except NO_REPLY as fault:
         why = getattr(fault, "strerror", None) or fault
@@ -119,7 +141,7 @@ def domains_of(settings, shard):
         raise OtherToken(f"shard {shard} was started with another operator's token: pdpd-shards restart {shard}")
     if status != 200:
         raise Wrong(f"shard {shard} answers {status} to the operator's list of domains")
-    return json.loads(body)["Domain"]
+    return domains_in(body, f"shard {shard}'s program")
 
 
 # ---- the map
@@ -161,12 +183,33 @@ def set_while_it_runs(settings, changes):
             raise Wrong(f"HAProxy: {fault}")
 
 
+def lease():
+    """How long something is held, and a name that no lease had before: HAProxy counts from when it first sees it."""
+    return f"{LEASE}/{secrets.token_hex(8)}"
+
+
+def asked_port(settings, shard):
+    """The port at which the HAProxy that runs asks a shard."""
+    rows = [line.split() for line in admin_reply(settings, f"show servers state shard{shard}").splitlines()]
+    heads = next((row[1:] for row in rows if row[:1] == ["#"]), [])
+    return next((int(row[heads.index("srv_port")]) for row in rows if row[1:2] == [f"shard{shard}"]), None)
+
+
+def lead(settings, shard):
+    """Has the HAProxy that runs ask a shard, which was just started, and at the port of the settings."""
+    said = admin_reply(settings, f"set server shard{shard}/pdpd addr 127.0.0.1 port {settings.port(shard)}").strip()
+    # (either `port changed from ..` or `no need to change the port`)
+    if " port" not in said:
+        raise Wrong(f"HAProxy: {said}")
+    admin_reply(settings, f"set server shard{shard}/pdpd state ready")
+
+
 def renew_lease(settings, is_over):
     """Renews what is held until that is over."""
     while not is_over.wait(1):
         # (a HAProxy that isn't there holds nothing)
         with contextlib.suppress(OSError, Wrong):
-            set_while_it_runs(settings, {"HELD": int(time.time()) + LEASE})
+            set_while_it_runs(settings, {"HELD": lease()})
 
 
 @contextlib.contextmanager
@@ -190,10 +233,11 @@ def hold_messages(settings, *shards):
 
     So nothing is lost where their programs are ended. Should this be killed, it lets them go by itself after a while.
     """
+    for shard in shards:
+        refuse_another(settings, shard)
     keys = [f"SHARD{shard}" for shard in shards]
-    until = int(time.time()) + LEASE
     # LAST comes last: a list that sees it anew sees what is held, too
-    set_while_it_runs(settings, {**{key: "held" for key in keys}, "HELD": until, "LAST": time.time_ns()})
+    set_while_it_runs(settings, {**{key: "held" for key in keys}, "HELD": lease(), "LAST": time.time_ns()})
     try:
         with keep_lease(settings):
             time.sleep(TURN)
@@ -214,8 +258,30 @@ def check(path):
         raise Wrong(f"HAProxy doesn't take {path}:\n{result.stderr.strip()}")
 
 
-def write_configuration(settings):
-    """Writes what HAProxy reads, if it finds no fault in it."""
+def other_count(settings):
+    """What is wrong where SHARDS isn't what HAProxy's file has: a domain that the map hasn't is led by that number,
+    and would be looked for in another shard. Nothing where it is the same."""
+    count = shards_in_configuration(settings)
+    if count in (None, settings.shards):
+        return None
+    heals = f"write SHARDS={count} again into {FILE}"
+    if settings.shards > count:
+        heals += f"; pdpd-shards grow {settings.shards} makes more"
+    else:
+        heals += f", or give pdpd-shards grow {count}, which looks where each domain is"
+    return f"SHARDS is {settings.shards}, and HAProxy's file has {count}: {heals}"
+
+
+def refuse_other_count(settings):
+    """An error there."""
+    if found := other_count(settings):
+        raise Wrong(found)
+
+
+def write_configuration(settings, *, is_growth=False):
+    """Writes what HAProxy reads, if it finds no fault in it. A growth alone may change the number of shards."""
+    if not is_growth:
+        refuse_other_count(settings)
     if not settings.map.exists():
         write_whole(settings.map, "")
     write_whole(settings.map.with_name("domains.lua"), (LIBRARY / "domains.lua").read_text())
@@ -254,9 +320,11 @@ def reload(settings, supervisor):
     end = time.time() + 2 * LONGEST
     while time.time() < end:
         time.sleep(0.1)
-        try:
+        with contextlib.suppress(OSError):
             if info(settings, "Pid") != old and not os.path.exists(f"/proc/{old}"):
-                return
-        except OSError:
-            continue
-    raise Wrong(f"HAProxy isn't reloaded after {2 * LONGEST} s; its log says why")
+                break
+    else:
+        raise Wrong(f"HAProxy isn't reloaded after {2 * LONGEST} s; its log says why")
+    # the new process asks all shards, also one that the process before was kept from
+    for shard in range(settings.shards):
+        refuse_another(settings, shard)

@@ -1,54 +1,102 @@
 """Kills a pdpd that is stuck, so that its supervisor starts it again.
 
-Each second each shard is asked for a decision through HAProxy, before all others in its queue: so the
-question waits for the message that is being answered, and for no other. Stuck is a program that takes
-connections and gives no reply for five seconds, which is more than a decision request may take under the
+Each second each shard is asked for a decision, on a connection of the watchdog's own: so nothing that clients do
+at HAProxy counts. The question waits for the message that is being answered, and for no other. Stuck is a program
+that takes connections and gives no reply for five seconds, which is more than a decision request may take under the
 limit of work that is set by default. Its process is killed; what it has answered is kept. A shard that takes no
-connections is down, or still opening its file: its supervisor's affair. So is one that has begun to take
-them meanwhile.
+connections is down, or still opening its file: its supervisor's affair. So is one that has begun to take them
+meanwhile. One whose port another program has is taken, and nothing is killed.
+
+With KEEP=1 HAProxy has the one connection that a program serves. Then it is asked through HAProxy, and stuck is what
+gives HAProxy itself no reply on an established connection (504), which takes from 12 to 24 seconds.
 """
 import contextlib
+import http.client
 import os
-import pathlib
 import signal
 import sys
 import threading
 import time
 
+from . import listener, supervisor, talk
 from . import settings as setting
-from . import supervisor, talk
 
 LIMIT, PAUSE = 5.0, 1.0
+# for so many seconds after a kill no other shard is killed by one look alone
+ROUND = 10.0
+# a domain that isn't there, and no token: 401 shows that it answers
+QUESTION = "POST", "/domains/watchdog/pdp", b"{}"
 
 
-def listener(port):
-    """The number of the socket at which a program takes connections at 127.0.0.1 and that port, or None.
+class Kills:
+    """The last kill. If several shards give no reply at once it may be the machine that is busy."""
 
-    Another program has another one.
-    """
-    for line in pathlib.Path("/proc/net/tcp").read_text(encoding="ascii").splitlines():
-        words = line.split()
-        if words[1:4] == [f"0100007F:{port:04X}", "00000000:0000", "0A"]:
-            return words[9]
-    return None
+    def __init__(self):
+        self.lock, self.shard, self.moment = threading.Lock(), None, 0.0
+
+    def wants_second_look(self, shard):
+        """Whether another shard was to be killed a moment ago; if not, this one is."""
+        with self.lock:
+            now = time.monotonic()
+            if self.shard not in (None, shard) and now - self.moment < ROUND:
+                return True
+            self.shard, self.moment = shard, now
+            return False
+
+
+KILLS = Kills()
+# the socket of each shard that was seen to be its own program's
+OWN = {}
+
+
+def asked(settings, shard):
+    """Whether a shard is `up`, is `silent` though it takes a connection, or is `down`: on a connection of our own."""
+    method, path, body = QUESTION
+    connection = http.client.HTTPConnection("127.0.0.1", settings.port(shard), timeout=LIMIT)
+    try:
+        connection.request(method, path, body, {"Connection": "close"})
+        connection.getresponse()
+    except TimeoutError:
+        return "silent"
+    except talk.NO_REPLY:
+        return "down"
+    finally:
+        connection.close()
+    return "up"
+
+
+def asked_by_proxy(settings, shard):
+    """The same through HAProxy, by what it says of its own connection to the shard."""
+    method, path, body = QUESTION
+    try:
+        status, _ = talk.shard_reply(settings, shard, method, path, "-", timeout=talk.LONGEST + 5, body=body)
+    except talk.NO_REPLY:
+        return "down"  # HAProxy isn't there, has no room for the question, or has cut its reply
+    return {502: "down", 503: "down", 504: "silent"}.get(status, "up")
+
+
+def is_own(settings, shard, socket):
+    """Whether a socket is that of the shard's own program. (A supervisor is asked once for each.)"""
+    if OWN.get(shard) != socket:
+        if listener.another(settings, shard):
+            return False
+        OWN[shard] = socket
+    return True
 
 
 def shard_state(settings, shard):
-    """`up`, `stuck`, or `down`, and the socket of the program that was there before."""
-    before = listener(settings.port(shard))
-    try:
-        # a domain that isn't there, and no token: 401 shows that it answers
-        path = "/domains/watchdog/pdp"
-        status, _ = talk.shard_reply(settings, shard, "POST", path, "-", timeout=LIMIT, body=b"{}")
-    except TimeoutError:
-        status = 504
-    except talk.NO_REPLY:
-        return "down", before  # HAProxy isn't there, or has cut its reply
-    if status == 504:
+    """`up`, `stuck`, `down` or `taken`, and the socket that took connections before."""
+    port = settings.port(shard)
+    before = listener.at_port(port)
+    if before is None:
+        return "down", None
+    if not is_own(settings, shard, before):
+        return "taken", before
+    now = (asked_by_proxy if settings.keep else asked)(settings, shard)
+    if now == "silent":
         # (the question may have waited for a program that has only just begun)
-        is_same = before and listener(settings.port(shard)) == before
-        return "stuck" if is_same else "down", before
-    return "down" if status in (502, 503) else "up", before
+        now = "stuck" if listener.at_port(port) == before else "down"
+    return now, before
 
 
 def kill(settings, shard, before):
@@ -57,10 +105,10 @@ def kill(settings, shard, before):
     A tool may have started another one.
     """
     process = supervisor.of(settings).pid(shard)
-    if listener(settings.port(shard)) != before:
+    if listener.at_port(settings.port(shard)) != before:
         raise setting.Wrong("the program that was stuck has gone meanwhile")
-    if not process:
-        raise setting.Wrong("no program of it runs, and another one has its port")
+    if not process or not listener.has_open(process, before):
+        raise setting.Wrong("its program doesn't run, and another one has its port")
     with contextlib.suppress(ProcessLookupError):
         os.kill(process, signal.SIGKILL)
 
@@ -71,12 +119,22 @@ def tell(what):
     sys.stderr.flush()
 
 
+def told_state(settings, shard, before):
+    """The state of a shard, and its socket; it is told if it is another one than before."""
+    now, socket = shard_state(settings, shard)
+    if now != before:
+        why = f": {listener.another(settings, shard)}" if now == "taken" else ""
+        tell(f"shard {shard} is {now}{why}")
+    return now, socket
+
+
 def look(shard, before):
     """Looks at a shard, tells if it is otherwise than before, kills what is stuck, and gives how it is now."""
     settings = setting.read()
-    now, socket = shard_state(settings, shard)
-    if now != before:
-        tell(f"shard {shard} is {now}")
+    now, socket = told_state(settings, shard, before)
+    if now == "stuck" and KILLS.wants_second_look(shard):
+        tell(f"shard {shard} is looked at once more, since another one was stuck a moment ago")
+        now, socket = told_state(settings, shard, now)
     if now == "stuck":
         try:
             kill(settings, shard, socket)

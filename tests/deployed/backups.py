@@ -10,6 +10,7 @@ import tempfile
 import threading
 import time
 import zlib
+from unittest import mock
 
 from checks import Between
 
@@ -67,7 +68,7 @@ def backups(machine, checks):
             time.sleep(0.05)
             with makers.lock, uploads.lock:
                 made, held = set(makers.acknowledged), dict(uploads.kept)
-            with alone(settings):
+            with alone():
                 path, domains, took = kit.backup(settings, shard)
             longest = max(longest, took)
             checks.expect(f"backup {number}: acknowledged domains that aren't there", made - set(domains), set())
@@ -81,6 +82,45 @@ def backups(machine, checks):
     checks.say(f"{BACKUPS} backups, of {len(made)} domains at last; a shard stood still for "
                f"{longest * 1000:.0f} ms at the most")
     put_back(machine, checks, shard)
+
+
+def checkpoints(machine, checks):
+    """Between the copies of its two files a shard writes nothing, though it is asked for so much that its log would
+    begin anew: what the log had before is in the backup."""
+    sys.path.insert(0, str(LIBRARY))
+    from operating import backups as kit, trial
+    from operating.settings import alone, read
+    machine.operator.clear()
+    machine.operator.makes("acme")
+    shard, uploads, copy = int(shards("where", "acme")), Uploads("acme"), trial.copy_file
+    log = pathlib.Path(f"/var/lib/pdpd/{shard}/pdpd.db-wal")
+
+    def copy_slowly(source, target, name, user=None):
+        copy(source, target, name, user)
+        if source.path == log.parent and name != log.name:
+            wait_for_log(uploads, log)
+
+    sh("sv down /etc/service/pdpd-watchdog")  # it would kill a program that stands still for so long
+    with Load(uploads.upload, 1), mock.patch.object(trial, "copy_file", copy_slowly), alone():
+        wait_until(lambda: len(uploads.kept) >= TEXTS, "nothing is uploaded")
+        held = {name: policy("Permit", name, description="z" * 30_000) for name in map("urn:h{}".format, range(5))}
+        for text in held.values():
+            found = status(once(message("POST", "/domains/acme/pap/policies", "acme-token-1", text)))
+            checks.expect("a text is taken", found, 201)
+        path, _, _ = kit.backup(read(), shard)
+    sh("sv up /etc/service/pdpd-watchdog")
+    texts = texts_in(path)
+    lost = [name for name, text in held.items() if texts.get(name) != text]
+    checks.expect("acknowledged texts that aren't there, or are others", lost, [])
+
+
+def wait_for_log(uploads, log):
+    """Waits until a shard's log has begun anew, or no text was uploaded for two seconds."""
+    before, last, end = log.read_bytes()[:32], None, time.time()
+    while log.read_bytes()[:32] == before and time.time() < end + 2:
+        if (now := max(uploads.kept, default=0)) != last:
+            last, end = now, time.time()
+        time.sleep(0.05)
 
 
 def put_back(machine, checks, shard):
@@ -104,18 +144,19 @@ def cut_put_backs(machine, checks, shard, name):
     """
     ask = message("POST", "/domains/acme/pdp", "acme-token-1", '{"Request":{}}')
     marks = []
-    for call in ("rename", "unlink"):
+    for call, *paths in (("renameat",), ("unlinkat", "put-back-unfinished")):
         for number in itertools.count(1):
             once(machine.operator.message("DELETE", "/acme"))
             old, what = machine.operator.names(), f"a put-back that is killed at {call} {number}"
-            found, said = ended_shards(machine.folder, ("KILL", call, number), "put-back", shard, name)
+            found, said = ended_shards(machine.folder, ("KILL", call, number, *paths), "put-back", shard,
+                                        name)
             if found == 0:
                 break
             checks.expect(f"{what}: {said}", found, -signal.SIGKILL)
             marks.append(stands_cut(machine, checks, what, shard, ask))
             aside = shards("put-back", shard, name).strip().rpartition(" are in ")[2]
             checks.expect(f"{what}, given again", decision(once(ask)), "Permit")
-            checks.expect(f"{what}: the old files", domains_in(pathlib.Path(aside)), sorted(old))
+            checks.expect(f"{what}: the old files", domains_in(shard, pathlib.Path(aside)), sorted(old))
     checks.within(f"moments with a mark: {marks}", marks.count(True), Between(3))
     checks.within("moments without one", marks.count(False), Between(1))
     checks.say(f"a put-back was killed at {len(marks)} moments; {marks.count(True)} of them left a mark")
@@ -140,12 +181,12 @@ def stands_cut(machine, checks, what, shard, ask):
     return True
 
 
-def domains_in(folder):
+def domains_in(shard, folder):
     """The domains in a folder with a shard's files, as pdpd lists them over a copy of it."""
     sys.path.insert(0, str(LIBRARY))
-    from operating import backups as kit
+    from operating import trial
     from operating.settings import read
-    return sorted(kit.domains_in_backup(read(), folder))
+    return sorted(trial.domains_in_backup(read(), shard, folder))
 
 
 def anew(machine, checks):

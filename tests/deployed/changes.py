@@ -2,6 +2,7 @@
 import itertools
 import os
 import pathlib
+import re
 import signal
 import sqlite3
 import sys
@@ -13,7 +14,7 @@ from checks import Between
 
 from . import clients
 from .clients import Deciders, Load, Makers, decision, many, message, once, read, status
-from .machine import LIBRARY, admin, ended_shards, pid, sh, shards, wait_until
+from .machine import LIBRARY, SETTINGS, admin, ended_shards, pid, port, sh, shards, wait_until
 
 
 def shown_of(name):
@@ -30,10 +31,12 @@ def moves(machine, checks):
     operator.clear()
     asks = many(machine, 8)
     moving = operator.makes("mover", "Deny")
-    rows = '{"Row":[{"AttributeId":"a","Category":"Action","DataType":"string","Entity":"e","Value":"v"}]}'
+    rows = ('{"Row":[{"AttributeId":"a","Category":"Action","DataType":"string","Entity":"e","Issuer":"i","Value":"v"},'
+            '{"AttributeId":"a","Category":"Action","DataType":"string","Entity":"e","Value":"w"}]}')
     checks.expect("rows", status(once(message("PUT", "/domains/mover/pip", "mover-token-1", rows))), 200)
     before, took, lists = shown_of("mover"), [], []
     checks.expect("what it shows", [found[0] for found in before], [200] * 4)
+    checks.expect("the issuer of a row", b'"Issuer":"i"' in before[2][2], True)
     lister = Load(lambda _number: lists.append(operator.names()), 1)
     with Deciders(asks, 6) as deciders, Deciders([(moving, "Deny")], 2) as movers, lister:
         for _ in range(3):
@@ -65,10 +68,10 @@ def cut_moves(machine, checks, before):
     checks.expect("a move that was cut", shown_of("mover"), before)
     checks.expect("it is listed once", machine.operator.names().count("mover"), 1)
     # a domain of the same name, made at another shard by mistake
-    port = 7100 + one
-    checks.expect("a second one", status(once(machine.operator.creates("mover"), port)), 201)
+    place = port(one)
+    checks.expect("a second one", status(once(machine.operator.creates("mover"), place)), 201)
     said = shards("move", "mover", other, one, status=1)
-    behind = status(once(machine.operator.message("GET", ""), port))
+    behind = status(once(machine.operator.message("GET", ""), place))
     found = "both shards have" in said, behind
     checks.expect("it isn't moved, and its shards answer behind that", found, (True, 200))
     checks.expect("and shows what it did", shown_of("mover"), before)
@@ -76,7 +79,7 @@ def cut_moves(machine, checks, before):
     warning = f"WRONG: shard {one} has mover, whose messages go to shard {other}"
     checks.expect("the second one is told", warning in shards("status", status=1), True)
     removes = machine.operator.message("DELETE", "/mover")
-    checks.expect("the second one goes", status(once(removes, port)), 200)
+    checks.expect("the second one goes", status(once(removes, place)), 200)
 
 
 def crossed(machine, checks):
@@ -106,8 +109,9 @@ def status_and_names(machine):
 
 
 # How a move is ended, at the entries of which system calls, and at each how manyth of them. It renames the map's
-# file, has the disk keep the shards' files (fdatasync), and connects to HAProxy.
-ENDINGS = (("KILL", "rename", 1), ("KILL", "fdatasync", 1), ("HUP", "rename", 1), ("HUP", "connect", 4))
+# file, its program that carries the rows has the disk keep the shards' files (fdatasync), and it connects to HAProxy.
+ENDINGS = (("KILL", "rename", 1), ("CHILD", "fdatasync", 1), ("HUP", "rename", 1), ("HUP", "connect", 4))
+STATUSES = {"KILL": -signal.SIGKILL, "CHILD": 1, "HUP": 128 + signal.SIGHUP}
 
 
 def killed(machine, checks):
@@ -127,7 +131,7 @@ def killed(machine, checks):
             found, said = ended_shards(machine.folder, (how, call, number), "move", "mover", one, other)
             if found == 0:
                 break
-            checks.expect(f"{what}: {said}", found, -signal.SIGKILL if how == "KILL" else 128 + signal.SIGHUP)
+            checks.expect(f"{what}: {said}", found, STATUSES[how])
             stands(machine, checks, what, before, (how, one, other))
             shards("move", "mover", one, other)
             checks.expect(f"{what}, given again", (shown_of("mover"), operator.names()), (before, ["mover"]))
@@ -139,7 +143,7 @@ def killed(machine, checks):
 def stands(machine, checks, what, before, ending):
     """How the domain stands behind a move that was ended, also once the machine has been started again."""
     how, one, other = ending
-    if how == "HUP":
+    if how != "KILL":
         wait_until(lambda: pid(one) and pid(other), f"{what}: a shard stays away", 10)
     else:
         sh(f"sv up /etc/service/pdpd-{one} /etc/service/pdpd-{other}")
@@ -154,9 +158,9 @@ def stands(machine, checks, what, before, ending):
 def copied(source, target):
     """Copies the domain as a move that is cut behind its copy leaves it."""
     sys.path.insert(0, str(LIBRARY))
-    from operating import moving
+    from operating import carrying
     one, other = (sqlite3.connect(path, isolation_level=None) for path in (source, target))
-    moving.put_rows(one, other, "mover")
+    carrying.put_rows(one, other, "mover")
     other.execute("COMMIT")
     one.close()
     other.close()
@@ -183,7 +187,7 @@ def growth(machine, checks):
     checks.expect("domains that are made", makers.wrong + makers.unanswered, [])
     names = operator.names()
     checks.expect("a domain of which another shard has a copy", int(shards("where", twice)), place)
-    checks.expect("the copy goes", status(once(operator.message("DELETE", f"/{twice}"), 7103)), 200)
+    checks.expect("the copy goes", status(once(operator.message("DELETE", f"/{twice}"), port(3))), 200)
     checks.expect("each is there once", sorted(names), sorted(set(names)))
     wanted = {*makers.acknowledged, *(f"d{number}" for number in range(12))}
     checks.expect("each that was acknowledged, and no other", set(names), wanted)
@@ -194,7 +198,44 @@ def growth(machine, checks):
     checks.expect("a domain of before", decision(once(asks[0][0])), asks[0][1])
     checks.say(f"growth: {took:.0f} s, in which {len(makers.refused)} new domains were refused; "
                f"{len(makers.acknowledged)} were made")
-    checks.expect("SHARDS can't be set back", "write 6 again" in refused_configuration(), True)
+    checks.expect("SHARDS can't be set back", "write SHARDS=6 again" in refused_configuration(), True)
+
+
+def miscounted(machine, checks):
+    """SHARDS is changed by hand: no tool writes or starts anything, and each says what heals. Where HAProxy has been
+    given another number all the same, as an earlier version did, the advice leads each domain to where it is."""
+    operator = machine.operator
+    operator.clear()
+    # (a domain that is in the map stays where it is, whatever the number)
+    names = [f"counted{number}" for number in range(12)]
+    asks = [operator.makes(name) for name in names]
+    count = int(re.search(r"(?m)^SHARDS=(\d+)", SETTINGS.read_text())[1])
+    before = pathlib.Path("/etc/haproxy/haproxy.cfg").read_text()
+    for words in (("config", "--write"), ("upgrade",), ("services",), ("status",)):
+        set_count(count + 2)
+        said = shards(*words, status=1)
+        wanted = f"write SHARDS={count} again"
+        checks.expect(f"{words} with more: {said}", (wanted in said, f"grow {count + 2}" in said), (True, True))
+    checks.expect("what is written", pathlib.Path("/etc/haproxy/haproxy.cfg").read_text() == before, True)
+    checks.expect("what is started", os.path.exists(f"/etc/service/pdpd-{count}"), False)
+    pathlib.Path("/etc/haproxy/haproxy.cfg").unlink()
+    shards("config", "--write")
+    shards("reload")
+    set_count(count)
+    checks.within("domains that are away", [decision(once(ask)) for ask in asks].count(401), Between(1))
+    for words in (("config", "--write"), ("upgrade",), ("status",)):
+        said = shards(*words, status=1)
+        checks.expect(f"{words} with fewer: {said}", f"pdpd-shards grow {count + 2}" in said, True)
+    said = shards("grow", count, status=1)
+    checks.expect(f"fewer than there are: {said}", f"now they are {count + 2}" in said, True)
+    shards("grow", count + 2)
+    checks.expect("each domain is found again", [decision(once(ask)) for ask in asks], ["Permit"] * 12)
+    checks.expect("and listed once", operator.names(), sorted(names))
+
+
+def set_count(count):
+    """Writes SHARDS into the settings by hand."""
+    sh(f"sed -i 's/^SHARDS=.*/SHARDS={count}/' {SETTINGS}")
 
 
 def copied_by_mistake(machine):
@@ -203,7 +244,7 @@ def copied_by_mistake(machine):
         place = int(shards("where", name))
         if place != 3:
             break
-    made = status(once(machine.operator.creates(name), 7103))
+    made = status(once(machine.operator.creates(name), port(3)))
     if made != 201:
         raise RuntimeError(f"{name} isn't made a second time: {made}")
     return name, place
@@ -211,9 +252,9 @@ def copied_by_mistake(machine):
 
 def refused_configuration():
     """What is said where SHARDS is changed by hand."""
-    sh("sed -i 's/^SHARDS=.*/SHARDS=4/' /etc/pdpd/shards.conf")
+    set_count(4)
     said = shards("config", "--write", status=1)
-    sh("sed -i 's/^SHARDS=.*/SHARDS=6/' /etc/pdpd/shards.conf")
+    set_count(6)
     return said
 
 

@@ -14,7 +14,7 @@ from checks import Between
 
 from . import clients
 from .clients import Client, Deciders, Makers, decision, many, once
-from .machine import LIBRARY, pid, refuse_starts, sh, shards, wait_until
+from .machine import LIBRARY, pid, port, refuse_starts, sh, shards, wait_until
 
 KILLS = 20
 
@@ -94,46 +94,65 @@ def stands_still():
 
 def says_nothing():
     began = time.time()
-    with clients.silent(7102):
+    with clients.silent(port(2)):
         time.sleep(0.2)
-        with Client(7102) as behind:
+        with Client(port(2)) as behind:
             behind.send(b"GET / HTTP/1.1\r\nConnection: close\r\n\r\n")
             behind.all()
             return time.time() - began
 
 
 class Mute:
-    """Takes connections at a shard's port after so many seconds, and never replies."""
+    """Takes connections at a shard's port, and never replies."""
 
-    def __init__(self, port, delay):
+    def __init__(self, number):
         self.socket = socket.socket()
         self.socket.setsockopt(socket.SOL_SOCKET, socket.SO_REUSEADDR, 1)
-        self.socket.bind(("127.0.0.1", port))
-        self.begins = threading.Timer(delay, self.socket.listen)
+        self.socket.bind(("127.0.0.1", number))
 
     def __enter__(self):
-        self.begins.start()
-        if not self.begins.interval:
-            self.begins.join()
+        self.socket.listen()
 
     def __exit__(self, *what):
-        self.begins.join()
         self.socket.close()
 
 
 def watched(machine, checks):
-    """The watchdog takes for stuck what gives no reply for five seconds, and not what began meanwhile: a shard that
-    was away for some seconds is not killed as it is there again."""
+    """The watchdog takes for stuck what gives no reply for five seconds on a connection of the watchdog's own. A port
+    that another program has is taken, and no reply of it counts."""
     sys.path.insert(0, str(LIBRARY))
     from operating import settings, watchdog
+    now = settings.read()
+    sh("sv down /etc/service/pdpd-watchdog")
+    checks.expect("a shard that answers", watchdog.shard_state(now, 3)[0], "up")
+    os.kill(pid(3), signal.SIGSTOP)
+    found, socket_of = watchdog.shard_state(now, 3)
+    checks.expect("one that stands still", found, "stuck")
+    os.kill(pid(3), signal.SIGCONT)
+    checks.expect("and goes on", watchdog.shard_state(now, 3), ("up", socket_of))
+    with killed_during(3, 2):
+        checks.expect("one that ends during the look", watchdog.shard_state(now, 3)[0], "down")
     sh("sv down /etc/service/pdpd-3")
     wait_until(lambda: not pid(3), "a shard isn't ended")
-    for delay, wanted in ((2, "down"), (0, "stuck")):
-        with Mute(7103, delay):
-            found, _ = watchdog.shard_state(settings.read(), 3)
-        checks.expect(f"without a reply, and with connections taken after {delay} s", found, wanted)
-    sh("sv up /etc/service/pdpd-3")
+    checks.expect("without a program", watchdog.shard_state(now, 3), ("down", None))
+    with Mute(port(3)):
+        began = time.time()
+        checks.expect("another program has the port", watchdog.shard_state(now, 3)[0], "taken")
+        checks.within("it isn't asked: the seconds", time.time() - began, Between(0, 4))
+    sh("sv up /etc/service/pdpd-3 /etc/service/pdpd-watchdog")
     wait_until(machine.operator.is_answered, "the shard isn't there again")
+
+
+@contextlib.contextmanager
+def killed_during(shard, seconds):
+    """A shard's program that stands still, and is killed after so many seconds."""
+    process = pid(shard)
+    os.kill(process, signal.SIGSTOP)
+    timer = threading.Timer(seconds, os.kill, (process, signal.SIGKILL))
+    timer.start()
+    yield
+    timer.join()
+    wait_until(lambda: pid(shard) not in (0, process), "the shard isn't started again")
 
 
 def looked(shard, before):
@@ -150,10 +169,11 @@ def unkilled(machine, checks):
     # the services' own watchdog would kill it
     sh("sv down /etc/service/pdpd-watchdog /etc/service/pdpd-3")
     wait_until(lambda: not pid(3), "a shard isn't ended")
+    with Mute(port(3)):
+        now, (line,) = looked(3, "up")
+        begins = line.startswith("shard 3 is taken: another program has the port of shard 3, ")
+        checks.expect(f"another program has its port: {line}", (now, begins), ("taken", True))
     stuck = "shard 3 is stuck"
-    why = "shard 3 wasn't killed: no program of it runs, and another one has its port"
-    with Mute(7103, 0):
-        checks.expect("another program has its port", looked(3, "up"), ("stuck", [stuck, why]))
     sh("sv up /etc/service/pdpd-3")
     wait_until(machine.operator.is_answered, "the shard isn't there again")
     old, why = pid(3), "shard 3 wasn't killed: [Errno 1] not permitted"
@@ -164,6 +184,7 @@ def unkilled(machine, checks):
     checks.expect("a kill", looked(3, "stuck"), ("stuck", []))
     wait_until(lambda: pid(3) not in (0, old), "a program that stands still isn't killed")
     looks_again(checks)
+    looks_twice(checks)
     sh("sv up /etc/service/pdpd-watchdog")
 
 
@@ -178,6 +199,18 @@ def looks_again(checks):
     checks.expect("the looks", found, [(3, "up"), (3, "up"), (3, "stuck")])
     line = "pdpd-watchdog: shard 3 wasn't looked at: ValueError('a fault')\n"
     checks.expect("what is told", told.getvalue(), line)
+
+
+def looks_twice(checks):
+    """Of several shards that give no reply at once the first is killed; the others are looked at once more before."""
+    from operating import watchdog
+    found = {1: ["stuck", "stuck"], 2: ["stuck", "stuck"], 3: ["stuck", "up"]}
+    states = mock.patch.object(watchdog, "shard_state", side_effect=lambda _, shard: (found[shard].pop(0), None))
+    with mock.patch.object(watchdog, "KILLS", watchdog.Kills()), mock.patch.object(watchdog, "kill") as kill, states:
+        last = [looked(shard, "up")[0] for shard in (1, 2, 3)]
+    killed = [call.args[1] for call in kill.call_args_list]
+    checks.expect("the killed ones, and how all are", (killed, last), ([1, 2], ["stuck", "stuck", "up"]))
+    checks.expect("the looks that were left", found, {1: ["stuck"], 2: [], 3: []})
 
 
 def unstarted(machine, checks):
@@ -219,7 +252,7 @@ def holding(machine, checks):
     in_one = [shards("where", f"d{number}").strip() == "1" for number in range(8)]
     (ask, wanted), (beside, other) = asks[in_one.index(True)], asks[in_one.index(False)]
     began = time.time()
-    with settings.alone(now), talk.hold_messages(now, 1):
+    with settings.alone(), talk.hold_messages(now, 1):
         reload = subprocess.Popen(["pdpd-shards", "reload"], stdout=subprocess.DEVNULL)
         checks.expect("beside what is held", decision(once(beside)), other)
         found = decision(once(ask))
@@ -228,7 +261,7 @@ def holding(machine, checks):
     checks.expect("and comes", reload.wait(60), 0)
     checks.expect("behind it", decision(once(ask)), wanted)
     began = time.time()
-    talk.set_while_it_runs(now, {"SHARD1": "held", "HELD": int(began) + 3})
+    talk.set_while_it_runs(now, {"SHARD1": "held", "HELD": "3/the test's"})
     found = decision(once(ask))
     checks.expect("held by nobody", (found, 2 < time.time() - began < 9), (wanted, True))
     talk.set_while_it_runs(now, {"SHARD1": None, "HELD": None})

@@ -2,7 +2,9 @@
 import contextlib
 import os
 import pathlib
+import pwd
 import re
+import shlex
 import shutil
 import signal
 import socket
@@ -22,11 +24,29 @@ OWN = ("/etc", "/usr/local", "/var", "/tmp")
 # each command that is wanted, with Debian's package of it
 WANTED = {
     "haproxy": "haproxy", "runsvdir": "runit", "sv": "runit", "chpst": "runit", "svlogd": "runit",
-    "curl": "curl", "wrk": "wrk", "openssl": "openssl", "unshare": "util-linux", "ip": "iproute2",
-    "systemd-analyze": "systemd", "useradd": "passwd", "strace": "strace",
+    "curl": "curl", "wrk": "wrk", "openssl": "openssl", "unshare": "util-linux", "setpriv": "util-linux",
+    "ip": "iproute2",
+    "systemd-analyze": "systemd", "useradd": "passwd", "strace": "strace", "cc": "gcc",
 }
 INSIDE = "DEPLOY_TEST_FOLDER"
 PLAIN = 8080
+# how long a command may take on a machine that others use as well, in seconds
+PATIENCE = 600
+# What stands on a machine that has deploy/ already, or something else of those names: a path and its text. The test
+# puts it there, and then removes whatever it finds at the default places, so that it sees nothing of its host.
+DECOYS = {
+    "/etc/pdpd/shards.conf": "SHARDS=9\nFIRST_PORT=7100\n", "/etc/pdpd/token": "token-of-the-host\n",
+    "/etc/haproxy/domains.map": "acme 7\n", "/etc/haproxy/haproxy.cfg": "global\n    setenv PDPD_SHARDS 9\n",
+    "/etc/haproxy/pdpd.pem": "", "/etc/sv/pdpd-0/run": "exit 1\n",
+    "/etc/sv/haproxy/run": "exit 1\n", "/etc/systemd/system/pdpd@.service": "", "/usr/local/lib/pdpd/pdpd": "",
+    "/usr/local/bin/pdpd-shards": "exit 1\n", "/var/lib/pdpd/0/pdpd.db": "no store",
+    "/var/lib/pdpd-backups/0/20260101T000000.000Z/pdpd.db": "no store",
+    "/var/log/pdpd/pdpd-0/current": "d1-token-1\n",
+}
+PLACES = ("/etc/pdpd", "/etc/haproxy/domains.*", "/etc/haproxy/pdpd.*", "/etc/haproxy/haproxy.cfg*", "/etc/sv/pdpd-*",
+          "/etc/sv/haproxy", "/etc/service/*", "/etc/systemd/system/pdpd*", "/usr/local/lib/pdpd",
+          "/usr/local/bin/pdpd*", "/usr/local/share/doc/pdpd", "/var/lib/pdpd", "/var/lib/pdpd-backups",
+          "/var/log/pdpd")
 
 
 def is_proved():
@@ -46,7 +66,8 @@ def missing(program):
     if os.geteuid() != 0:
         yield "the rights of root, for namespaces and users of its own"
     if program is None and not is_proved():
-        yield "a program that is proved of these sources: `make prove` or `make pdpd` builds it"
+        yield ("a program that is proved of these sources: `make prove` or `make pdpd` builds it. Another one is "
+               "named: `make deploy-test PROGRAM=PATH`, or `tests/deploy.py PATH [PART..]`")
     elif program is not None and not os.path.isfile(program):
         yield f"{program}, which isn't there"
 
@@ -81,10 +102,21 @@ def enter(words):
 def sh(command, **how):
     """Runs a command of the shell, and gives what it wrote; an error where it fails."""
     ran = subprocess.run(["bash", "-ec", command], stdin=subprocess.DEVNULL, stdout=subprocess.PIPE,
-                         stderr=subprocess.STDOUT, text=True, check=False, timeout=120, **how)
+                         stderr=subprocess.STDOUT, text=True, check=False, timeout=PATIENCE, **how)
     if ran.returncode != 0:
         raise RuntimeError(f"{command}\nends with {ran.returncode}:\n{ran.stdout[-3000:]}")
     return ran.stdout
+
+
+def user_words(user):
+    """The words before a command that have that user run it."""
+    found = pwd.getpwnam(user)
+    return ["setpriv", f"--reuid={found.pw_uid}", f"--regid={found.pw_gid}", "--clear-groups"]
+
+
+def as_user(user, command, **how):
+    """Runs a command of the shell as that user, and gives what it wrote; an error where it fails."""
+    return sh(shlex.join(["exec", *user_words(user), "bash", "-ec", command]), **how)
 
 
 class Machine:
@@ -98,15 +130,19 @@ class Machine:
         for own in OWN:
             self.own(own)
         sh("mount -t tmpfs -o mode=755 run /run && mkdir -p /run/lock")
-        sh("rm -f /etc/service/* /etc/haproxy/*.map")
+        sh(f"rm -rf {' '.join(PLACES)}; ! id pdpd > /dev/null 2>&1 || userdel pdpd")
 
     def own(self, path):
         """Has what is written below that path go into the test's folder."""
-        upper, work = self.folder / f"upper{path}", self.folder / f"work{path}"
-        upper.mkdir(parents=True)
-        work.mkdir(parents=True)
-        # (nothing of deploy/ is there before)
-        sh(f"mount -t overlay overlay -o lowerdir={path},upperdir={upper},workdir={work} {path}")
+        upper, work, decoys = (self.folder / f"{kind}{path}" for kind in ("upper", "work", "decoys"))
+        for folder in (upper, work, decoys):
+            folder.mkdir(parents=True)
+        for decoy, text in DECOYS.items():
+            if decoy.startswith(f"{path}/"):
+                file = self.folder / f"decoys{decoy}"
+                file.parent.mkdir(parents=True, exist_ok=True)
+                file.write_text(text)
+        sh(f"mount -t overlay overlay -o lowerdir={decoys}:{path},upperdir={upper},workdir={work} {path}")
 
     def pack(self, program):
         """Makes the archive, as `make dist` does."""
@@ -153,7 +189,7 @@ def commands_of_page():
 def shards(*words, status=0):
     """Runs pdpd-shards, and gives what it says."""
     how = {"stdin": subprocess.DEVNULL, "stdout": subprocess.PIPE, "stderr": subprocess.STDOUT, "text": True}
-    ran = subprocess.run(["pdpd-shards", *map(str, words)], check=False, timeout=120, **how)
+    ran = subprocess.run(["pdpd-shards", *map(str, words)], check=False, timeout=PATIENCE, **how)
     if ran.returncode != status:
         given = " ".join(map(str, words))
         raise RuntimeError(f"pdpd-shards {given} ends with {ran.returncode}:\n{ran.stdout}")
@@ -163,26 +199,26 @@ def shards(*words, status=0):
 def ended_shards(folder, ending, *words):
     """The status of a pdpd-shards that is ended, and what it says; 0 if it is over before.
 
-    `ending` is a signal, a system call, and at how manyth entry of that the signal comes.
+    `ending` is a signal, a system call, and at how manyth entry of that the signal comes; of those alone that name
+    the path, if there is one. CHILD is a kill of the program that makes the call, which the tool runs.
     """
-    how, call, number = ending
+    how, call, number, *paths = ending
+    inject = f"inject={call}:signal={'KILL' if how == 'CHILD' else how}:when={number}"
+    more = [*(["-f"] if how == "CHILD" else []), *(word for path in paths for word in ("-P", path))]
     # (whoever runs the test may ignore SIGHUP)
     traced = ["env", "--default-signal=HUP", "strace", "-qq", "-o", folder / "ended", "-e", f"trace={call}",
-              "-e", f"inject={call}:signal={how}:when={number}", "pdpd-shards", *map(str, words)]
-    ran = subprocess.run(traced, capture_output=True, text=True, check=False, timeout=120)
+              "-e", inject, *more, "pdpd-shards", *map(str, words)]
+    ran = subprocess.run(traced, capture_output=True, text=True, check=False, timeout=PATIENCE)
     return ran.returncode, ran.stdout + ran.stderr
 
 
 @contextlib.contextmanager
-def refuse_starts(folder, shard):
-    """Meanwhile the command sv starts no program of that shard: one that stands before it on the path."""
-    place = folder / f"refuses-{shard}"
+def instead_of(folder, command, script):
+    """Meanwhile a script of the shell runs in place of a command, which it has as $REAL."""
+    place = folder / f"instead-of-{command}"
     place.mkdir(exist_ok=True)
-    (place / "sv").write_text(f"""#!/bin/sh
-case "$*" in "up /etc/service/pdpd-{shard}") echo "refused for the test"; exit 1;; esac
-exec {shutil.which("sv")} "$@"
-""")
-    (place / "sv").chmod(0o755)
+    (place / command).write_text(f"#!/bin/sh\nREAL={shutil.which(command)}\n{script}\n")
+    (place / command).chmod(0o755)
     before = os.environ["PATH"]
     os.environ["PATH"] = f"{place}:{before}"
     try:
@@ -191,12 +227,23 @@ exec {shutil.which("sv")} "$@"
         os.environ["PATH"] = before
 
 
+def refuse_starts(folder, shard):
+    """Meanwhile the command sv starts no program of that shard."""
+    refused = f'case "$*" in "up /etc/service/pdpd-{shard}") echo "refused for the test"; exit 1;; esac'
+    return instead_of(folder, "sv", f'{refused}\nexec $REAL "$@"')
+
+
+def port(shard):
+    """The port of a shard, by the settings."""
+    return int(re.search(r'(?m)^FIRST_PORT="?(\d+)', SETTINGS.read_text())[1]) + shard
+
+
 def pid(shard):
     """The process of a shard, 0 where there is none."""
     return int(pathlib.Path(f"/etc/service/pdpd-{shard}/supervise/pid").read_text().strip() or 0)
 
 
-def wait_until(holds, what, seconds=30.0):
+def wait_until(holds, what, seconds=120.0):
     end = time.time() + seconds
     while not holds():
         if time.time() > end:

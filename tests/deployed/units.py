@@ -1,19 +1,22 @@
 """The archive, the walk from nothing, configurations and units, and what is left at the end."""
+import hashlib
 import os
 import pathlib
 import re
 import shutil
 import sqlite3
 import subprocess
+import time
 
 from checks import Between
 
 from .clients import Deciders, Makers, making, many, once
 from .clients import status as status_of
-from .machine import LIBRARY, PAGE, SETTINGS, TOP, pid, sh, shards
+from .machine import LIBRARY, PAGE, SETTINGS, TOP, pid, sh, shards, wait_until
 
 SWITCHES = ("KEEP=1", "RETRY=1", "THREADS=4", "MAXCONN=4", "RATE=100", "PLAIN_BIND=127.0.0.1:8081",
-            "TLS_BIND=", "TLS_BIND=[::]:443 v4v6", "HAPROXY_USER=", "LOG=/dev/log local0", "RETRY=1;THREADS=4;RATE=5")
+            "TLS_BIND=", "TLS_BIND=[::]:443 v4v6", "HAPROXY_USER=", "LOG=/dev/log local0", "RETRY=1;THREADS=4;RATE=5",
+            "CLIENTS=10;UNDER_WAY=10;OF_SOURCE=0;REFUSALS=0")
 CURL = "curl --silent --show-error --cacert /etc/haproxy/pdpd.crt"
 DOMAINS = "https://localhost/operator/domains"
 TRACED = 7198
@@ -42,7 +45,7 @@ def decision(machine, checks):
     """The messages of docs/guide/API.md up to a first decision, over TLS, as the page says."""
     page = (TOP / "docs" / "guide" / "API.md").read_text()
     block = re.search(r"(?ms)^## From nothing to a decision\n(.*?)^## ", page)[1]
-    lines = [line.strip().removeprefix("$ ") for line in block.splitlines() if line.strip().startswith("$ curl ")]
+    lines = [line for line in block.splitlines() if line.startswith("curl ") and "--retry" not in line]
     settings = re.findall(r"(?m)^    # (operator=.*|at=.*); alias|^    # (operator=.*)", PAGE.read_text())
     first = "\n".join(one or other for one, other in settings)
     trusting = 'curl() { command curl --silent --cacert /etc/haproxy/pdpd.crt "$@"; echo; }'
@@ -89,6 +92,7 @@ def configurations(machine, checks):
 
 def installed(machine, checks):
     """The units, the checksums, a second installation elsewhere, and that the drawing is that of its text."""
+    packed_again(machine, checks)
     units = "./pdpd@0.service ./pdpd-watchdog.service ./pdpd-backup@0.service ./pdpd-backup@0.timer"
     said = sh(f"cd /etc/systemd/system && systemd-analyze verify {units} 2>&1 || true")
     checks.expect("the units", said, "")
@@ -115,6 +119,16 @@ def installed(machine, checks):
     checks.within("the bytes of the archive", archive.stat().st_size, Between(10_001))
     drawn = sh(f"{TOP}/deploy/draw.py --show")
     checks.expect("the drawing is that of its text", drawn, (TOP / "docs" / "guide" / "deployment.svg").read_text())
+
+
+def packed_again(machine, checks):
+    """The same files are packed into the same bytes, whenever that is. (The time in a gzip file is in seconds.)"""
+    (archive,) = machine.folder.glob("pdpd-*.tar.gz")
+    folder = machine.folder / "packed"
+    wait_until(lambda: time.time() > archive.stat().st_mtime + 2, "the clock stands still")
+    sh(f"{TOP}/deploy/dist.py --program {LIBRARY}/pdpd --to {folder}")
+    digests = [hashlib.sha256((at / archive.name).read_bytes()).hexdigest() for at in (machine.folder, folder)]
+    checks.expect("the archive, packed twice", digests[0] == digests[1], True)
 
 
 def calls(machine, checks):
@@ -155,6 +169,33 @@ def allowed_by(unit):
         named = set().union(*map(members, line.lstrip("~").split()))
         allowed = allowed - named if line.startswith("~") else allowed | named
     return allowed
+
+
+# the one exit status of docs/guide/RUNNING.md that no other start mends, a mistake in the settings
+MISTAKE = 2
+# with so many bytes of addresses the shell and what comes before pdpd begin, and pdpd itself finds no memory
+SCANT = 14 * 2 ** 20
+
+
+def want_of_memory(machine, checks):
+    """A shard that finds no memory is started again, however often: by its unit, as systemd.service(5) has it, and by
+    runit here."""
+    unit = pathlib.Path("/etc/systemd/system/pdpd@.service").read_text()
+    settings = dict(re.findall(r"(?m)^(Restart|RestartSec|RestartPreventExitStatus|StartLimitIntervalSec)=(.*)", unit))
+    prevented = set(settings.pop("RestartPreventExitStatus", "").split())
+    wanted = {"Restart": "always", "RestartSec": "50ms", "StartLimitIntervalSec": "0"}
+    checks.expect("how the unit starts it again", settings, wanted)
+    checks.expect("the ends behind which it doesn't, of statuses and signals", prevented, {str(MISTAKE)})
+    log, reason = pathlib.Path("/var/log/pdpd/pdpd-3/current"), "pdpd serve: out of memory"
+    supervisor = int(sh("pgrep -f -x 'runsv pdpd-3'"))
+    before = log.read_text().count(reason)
+    # (what it may be at the most stays, so that it can be set back)
+    sh(f"prlimit --pid {supervisor} --as={SCANT}: && kill -KILL {pid(3)}")
+    try:
+        wait_until(lambda: log.read_text().count(reason) > before + 1, "it isn't started again and again")
+    finally:
+        sh(f"prlimit --pid {supervisor} --as=unlimited:")
+    wait_until(machine.operator.is_answered, "it isn't there again")
 
 
 def lost_links(page):
@@ -228,7 +269,7 @@ def status(machine, checks):
     checks.expect("each shard is up", count, int(re.search(r"(?m)^SHARDS=(\d+)", SETTINGS.read_text())[1]))
     sh("sv down /etc/service/pdpd-1")
     said = shards("status", status=1)
-    found = re.search(r"(?m)^1 +down ", said) is not None, "WRONG: shard 1 answers 503" in said
+    found = re.search(r"(?m)^1 +down ", said) is not None, "WRONG: shard 1 takes no connections" in said
     checks.expect("one is away", found, (True, True))
     checks.expect("it has no backup", "shard 1 doesn't run" in shards("backup", 1, status=1), True)
     token = pathlib.Path("/etc/pdpd/token")
@@ -247,6 +288,8 @@ def secrets(machine, checks):
     token = pathlib.Path("/etc/pdpd/token").read_text().strip()
     for word in (token, "acme-token-1", "d1-token-1"):
         checks.expect(f"a token in a log: {word[:6]}", sh(f"grep -rl -- {word} /var/log/pdpd || true"), "")
-    others = sh("find /var/lib/pdpd-backups /etc/pdpd/token /run/pdpd/*/ -perm /o=rwx")
+    others = sh("find /var/lib/pdpd-backups /run/pdpd -mindepth 1 -perm /o=rwx; find /etc/pdpd/token -perm /o=rwx")
     checks.expect("what others can read", others, "")
+    found = sh("stat -c '%U %a' /var/lib/pdpd-backups /run/pdpd")
+    checks.expect("what others can pass through alone", found, "root 711\n" * 2)
     checks.expect("folders of shards", sh("find /var/lib/pdpd/? -maxdepth 0 -not -perm 700"), "")

@@ -1,0 +1,168 @@
+"""Who takes connections at a shard's port: its own program, or another one.
+
+A port above 1023 is free for every user of the machine whenever a shard's program ends. Who binds it then answers
+in the shard's place, and is sent the tokens that are sent to the shard. So a tool looks here before it sends a
+token, and before it says that a shard is up.
+"""
+from __future__ import annotations
+
+import contextlib
+import os
+import pathlib
+import pwd
+import time
+from collections.abc import Iterator
+from typing import NamedTuple
+
+from . import supervisor
+from .settings import Wrong
+
+# The lists of sockets with the addresses at which one takes connections to 127.0.0.1, the most specific first: if
+# there are several, that one has them.
+PLACES = (("tcp", "0100007F"), ("tcp6", "0000000000000000FFFF00000100007F"), ("tcp", "0" * 8), ("tcp6", "0" * 32))
+LISTENS = "0A"
+# after how long a shard is looked at again that seems to be another program, in seconds
+AGAIN = 0.2
+# says from which port on every user may take one; one below wants the right CAP_NET_BIND_SERVICE
+FREE = pathlib.Path("/proc/sys/net/ipv4/ip_unprivileged_port_start")
+
+
+class Listener(NamedTuple):
+    """A socket that takes connections: the user that made it, and its number, which no other socket has."""
+    uid: int
+    inode: str
+
+
+class Impostor(Wrong):
+    """Another program takes a shard's connections, by this socket."""
+
+    def __init__(self, why: str, found: Listener):
+        super().__init__(why)
+        self.found = found
+
+
+def listening(name: str) -> Iterator[list[str]]:
+    """The words of each line of a list of sockets that is about one that takes connections; none where the kernel has
+    no such list. These come first in it, before ten thousands of connections perhaps."""
+    with contextlib.suppress(FileNotFoundError), open(f"/proc/self/net/{name}", encoding="ascii") as lines:
+        next(lines)
+        for line in lines:
+            words = line.split()
+            if words[3] != LISTENS:
+                return
+            yield words
+
+
+def at_port(port: int) -> Listener | None:
+    """The socket that takes connections to 127.0.0.1 and that port, if there is one."""
+    for name, address in PLACES:
+        for words in listening(name):
+            if words[1] == f"{address}:{port:04X}":
+                return Listener(int(words[7]), words[9])
+    return None
+
+
+def user_of(process: int) -> int | None:
+    """The effective user of a process; nothing where it is gone."""
+    try:
+        lines = pathlib.Path(f"/proc/{process}/status").read_text(encoding="utf-8", errors="replace").splitlines()
+    except OSError:
+        return None
+    return next(int(line.split()[2]) for line in lines if line.startswith("Uid:"))
+
+
+def is_seen_open(process: int, listener: Listener) -> bool | None:
+    """Whether a process has the socket open; nothing where this one may not look into it."""
+    folder = pathlib.Path(f"/proc/{process}/fd")
+    try:
+        for name in os.listdir(folder):
+            # (one that was closed meanwhile)
+            with contextlib.suppress(FileNotFoundError):
+                if os.readlink(folder / name) == f"socket:[{listener.inode}]":
+                    return True
+    except PermissionError:
+        return None
+    except OSError:
+        pass
+    return False
+
+
+def has_open(process: int, listener: Listener) -> bool:
+    """Whether a process has the socket open; where this one may not look into it, whether it is of the same user."""
+    found = is_seen_open(process, listener)
+    return user_of(process) == listener.uid if found is None else found
+
+
+def described(listener: Listener) -> str:
+    """The user and the processes of a socket, as far as they are found."""
+    try:
+        name = pwd.getpwuid(listener.uid).pw_name
+    except KeyError:
+        name = "no name"
+    processes = sorted(int(path.name) for path in pathlib.Path("/proc").glob("[0-9]*"))
+    found = [str(process) for process in processes if is_seen_open(process, listener)]
+    return f"user {listener.uid} ({name}), process {', '.join(found) or 'unknown'}"
+
+
+def foreign(settings, shard: int) -> Listener | None:
+    """The socket by which another program takes a shard's connections; nothing where its own does, or nobody."""
+    port = settings.port(shard)
+    found = at_port(port)
+    while found and not is_of(settings, shard, found):
+        # (its own program may have ended, or begun, between the two looks)
+        time.sleep(AGAIN)
+        before, found = found, at_port(port)
+        if found == before and not is_of(settings, shard, found):
+            return found
+    return None
+
+
+def words_on(settings, shard: int, found: Listener) -> str:
+    """What is told of such a socket."""
+    return (f"another program has the port of shard {shard}, 127.0.0.1:{settings.port(shard)}: {described(found)}. End "
+            "it, and look who could start it")
+
+
+def another(settings, shard: int) -> str | None:
+    """Who else takes a shard's connections, in words; nothing where its own program does, or nobody."""
+    found = foreign(settings, shard)
+    return words_on(settings, shard, found) if found else None
+
+
+def is_of(settings, shard: int, found: Listener) -> bool:
+    """Whether the process that the supervisor has for a shard has that socket."""
+    process = supervisor.of(settings).pid(shard)
+    return process != 0 and has_open(process, found)
+
+
+def is_own(settings, shard: int) -> bool:
+    """Whether a shard's own program takes its connections."""
+    found = at_port(settings.port(shard))
+    return found is not None and is_of(settings, shard, found)
+
+
+def warning(settings) -> str | None:
+    """What is told where other users of the machine can take the shards' ports."""
+    free = int(FREE.read_text(encoding="ascii"))
+    if settings.port(settings.shards - 1) < free:
+        return None
+    return (f"every user of this machine can take a shard's port while its program restarts, and answer in its place: "
+            f"FIRST_PORT is {settings.first_port}, and ports from {free} on are everybody's. OPERATING.md says under "
+            "Ports how they become others")
+
+
+def refuse_another(settings, shard: int) -> None:
+    """An error where another program takes a shard's connections."""
+    if found := foreign(settings, shard):
+        raise Impostor(words_on(settings, shard, found), found)
+
+
+def wait_for_own(settings, shard: int, seconds: float = 3.0) -> None:
+    """Waits until a shard's own program takes its connections; an error where it doesn't soon, so that nobody else is
+    sent what comes next."""
+    end = time.monotonic() + seconds
+    while not is_own(settings, shard):
+        refuse_another(settings, shard)
+        if time.monotonic() > end:
+            raise Wrong(f"shard {shard} takes no connections: its program doesn't run, or its log says why")
+        time.sleep(0.05)

@@ -1,0 +1,330 @@
+"""What a user of the machine tries: to be a shard, and to hold the tools up. And what the unit of backups leaves."""
+import os
+import pathlib
+import re
+import shlex
+import signal
+import socket
+import subprocess
+import sys
+
+from checks import Between
+
+from .clients import Deciders, decision, many, once
+from .machine import (
+    LIBRARY, SETTINGS, admin, as_user, instead_of, pid, port, sh, shards, user_words, wait_until)
+
+NOBODY = "nobody"
+# It waits until it may take connections at a port, says so, and then whatever it is sent; it answers as a shard would
+# that permits all.
+THIEF = """
+import re, socket, sys, time
+address = "127.0.0.1", int(sys.argv[1])
+print("waits", flush=True)
+while True:
+    listener = socket.socket()
+    listener.setsockopt(socket.SOL_SOCKET, socket.SO_REUSEADDR, 1)
+    try:
+        listener.bind(address)
+        break
+    except OSError:
+        listener.close()
+        time.sleep(0.001)
+listener.listen(100)
+print("taken", flush=True)
+while True:
+    connection = listener.accept()[0]
+    connection.settimeout(2)
+    try:
+        data = connection.recv(65536)
+        print(repr(data), flush=True)
+        body = b'{"Domain":[]}' if b"GET /operator" in data else b'{"Response":[{"Decision":"Permit"}]}'
+        first = b"HTTP/1.1 401 Unauthorized" if b"Bearer -\\r" in data else b"HTTP/1.1 200 OK"
+        head = b"\\r\\nContent-Type: application/json\\r\\nContent-Length: %d\\r\\n\\r\\n" % len(body)
+        connection.sendall(first + head + body)
+    except OSError:
+        pass
+    connection.close()
+"""
+# It connects again and again, and says something that no token is in.
+KNOCKER = """
+import socket, sys, time
+while True:
+    try:
+        with socket.create_connection(("127.0.0.1", int(sys.argv[1])), timeout=1) as connection:
+            connection.sendall(b"GET / HTTP/1.1\\r\\n\\r\\n")
+            print("connected", flush=True)
+    except OSError:
+        time.sleep(0.001)
+"""
+
+
+class Local:
+    """A program of a user of the machine, which runs until the end of the `with` statement."""
+
+    def __init__(self, user, program, *words):
+        self.words = [*user_words(user), sys.executable, "-Ic", program, *map(str, words)]
+        self.log = pathlib.Path(f"/tmp/said-{id(self)}")
+
+    def __enter__(self):
+        with open(self.log, "w") as log:
+            self.process = subprocess.Popen(self.words, stdin=subprocess.DEVNULL, stdout=log, stderr=log)
+        return self
+
+    def __exit__(self, *what):
+        self.process.kill()
+        self.process.wait()
+
+    def said(self):
+        """What it has said; an error where it has ended."""
+        if self.process.poll() is not None:
+            raise RuntimeError(f"{self.words} ends with {self.process.returncode}: {self.log.read_text()}")
+        return self.log.read_text()
+
+
+def owner_and_mode(path):
+    """The owner and the mode of a file, as `ls` has them."""
+    return sh(f"stat -c '%U %G %a %F' {path}").strip()
+
+
+# ---- a shard's port
+
+def thieves(machine, checks):
+    """A user that waits for a shard's port never gets it, neither during a restart nor behind a kill, and no decision
+    is another one's."""
+    machine.operator.clear()
+    asks = many(machine, 8)
+    with Local(NOBODY, THIEF, port(1)) as thief, Deciders(asks, 4, also=(None, 502, 503)) as deciders:
+        wait_until(lambda: "waits" in thief.said(), "the thief doesn't begin")
+        for _ in range(3):
+            shards("restart", 1)
+            wait_until(lambda: pid(1), "shard 1 doesn't run")
+            os.kill(old := pid(1), signal.SIGKILL)
+            wait_until(lambda: pid(1) not in (0, old) and machine.operator.is_answered(), "shard 1 stays away")
+        said = thief.said()
+    checks.expect("what the thief gets", said, "waits\n")
+    checks.expect("no decision is another's", deciders.wrong, [])
+    checks.within("decisions meanwhile", deciders.answered, Between(20))
+    rights = sh(f"grep -E 'Cap(Prm|Eff|Amb)|NoNewPrivs' /proc/{pid(1)}/status").split()
+    wanted = [f"{1 << 10:016x}"] * 3 + ["1"]  # CAP_NET_BIND_SERVICE (capabilities(7))
+    checks.expect("the rights of a shard", rights[1::2], wanted)
+
+
+def impostors(machine, checks):
+    """Where FIRST_PORT is of an earlier version, a user can take a port: each tool that meets that says so, ends with
+    1, and shows it no token, and no client's message comes to it. Then the ports are changed under load, as the page
+    says."""
+    machine.operator.clear()
+    asks = many(machine, 8)
+    places = [int(shards("where", f"d{number}")) for number in range(8)]
+    low = port(0)
+    machine.set(FIRST_PORT=7100)
+    shards("restart")
+    shards("backup")
+    said = shards("status", status=1)
+    checks.expect(f"ports of everybody: {said}", "WRONG: every user of this machine can take" in said, True)
+    late = 'case "$*" in "up /etc/service/pdpd-1") sleep 1;; esac\nexec $REAL "$@"'
+    with Local(NOBODY, THIEF, port(1)) as thief, instead_of(machine.folder, "sv", late):
+        wait_until(lambda: "waits" in thief.said(), "the thief doesn't begin")
+        with Deciders(asks, 4, also=(503,)) as deciders:
+            said = shards("restart", 1, status=1)
+        checks.expect(f"a restart: {said}", impostor_of(thief) in said, True)
+        checks.expect("no decision is another's", deciders.wrong, [])
+        wanted = [503 if place == 1 else effect for place, (_, effect) in zip(places, asks)]
+        meets(machine, checks, thief)
+        found = [decision(once(ask)) for ask, _ in asks]
+        checks.expect("what clients are answered", (found, 503 in found), (wanted, True))
+        seen = thief.said()
+    checks.expect("it has the port", "taken" in seen, True)
+    checks.expect("it is shown a token", re.findall(r"Bearer (?!-\\r)\S+", seen), [])
+    wait_until(lambda: not thief_is_at(port(1)), "the port isn't free again")
+    shards("restart", 1)
+    checks.expect("behind it", [decision(once(ask)) for ask, _ in asks], [effect for _, effect in asks])
+    changes_ports(machine, checks, asks, low)
+
+
+def thief_is_at(number):
+    """Whether another user's program has the port."""
+    sys.path.insert(0, str(LIBRARY))
+    from operating import listener
+    found = listener.at_port(number)
+    return found is not None and found.uid == 65534
+
+
+def impostor_of(thief):
+    """What is told of it."""
+    return (f"another program has the port of shard 1, 127.0.0.1:{port(1)}: user 65534 (nobody), "
+            f"process {thief.process.pid}.")
+
+
+def asked_status():
+    """What `pdpd-shards status` says, whatever its exit status."""
+    return subprocess.run(["pdpd-shards", "status"], capture_output=True, text=True, check=False).stdout
+
+
+def meets(machine, checks, thief):
+    """Each tool, while a shard's port is another program's."""
+    name = re.findall(r"(?m)^1 (\S+)", shards("backups"))[-1]
+    tools = (("status",), ("restart", 1), ("backup", 1), ("move", "d0", 0, 1), ("grow", 4), ("put-back", 1, name),
+             ("upgrade",))
+    for words in tools:
+        said = shards(*words, status=1)
+        checks.expect(f"{words}: {said}", impostor_of(thief) in said, True)
+    row = re.search(r"(?m)^1 +(\w+) ", asked_status())
+    checks.expect("its state", row and row[1], "taken")
+    left = re.findall(r"(?m)^\S+ ((?:HELD|NEW|SHARD\d+|\S+ moving).*)", admin("show map /etc/haproxy/domains.map"))
+    checks.expect("what they leave held back", left, [])
+
+
+def changes_ports(machine, checks, asks, low):
+    """The page's way from ports of everybody to ports below 1024, under load."""
+    with Deciders(asks, 4) as deciders:
+        sh(f"sed -i 's/^FIRST_PORT=.*/FIRST_PORT={low}/' {SETTINGS}")
+        shards("config", "--write")
+        shards("restart")
+    checks.expect("no decision is lost while ports change", deciders.wrong, [])
+    checks.expect("the ports", [bool(listens(low + shard)) for shard in range(4)], [True] * 4)
+    shards("reload")
+    checks.expect("status behind it", shards("status").count(" up "), 4)
+
+
+def listens(number):
+    """Whether there is a program at a port."""
+    with socket.socket() as probe:
+        return probe.connect_ex(("127.0.0.1", number)) == 0
+
+
+# ---- the tools' lock, and tools that hang
+
+def locks(machine, checks):
+    """Nobody else can hold the tools' lock. Who waits for it is told for whom, and ends by a signal."""
+    sys.path.insert(0, str(LIBRARY))
+    from operating.settings import alone
+    shards("restart", 3)
+    opens = "exec 9< /run/pdpd/lock && flock --nonblock 9"
+    for user in (NOBODY, "pdpd"):
+        said = as_user(user, f"({opens}) 2>&1 || true; ls -d /var/lib/pdpd/.lock 2>&1 || true")
+        checks.expect(f"{user}: {said}", ("Permission denied" in said, "No such file" in said), (True, True))
+    waits = {"stdout": subprocess.PIPE, "stderr": subprocess.STDOUT, "text": True}
+    with alone():
+        with subprocess.Popen(["pdpd-shards", "restart", "3"], **waits) as waiting:
+            told = waiting.stdout.readline()
+            waiting.send_signal(signal.SIGTERM)
+            checks.expect("who waits ends by SIGTERM", waiting.wait(20), 128 + signal.SIGTERM)
+        waiting = subprocess.Popen(["pdpd-shards", "restart", "3"], **waits)
+        waiting.stdout.readline()
+        checks.expect("and else waits", waiting.poll(), None)
+    said, _ = waiting.communicate()
+    checks.expect(f"and comes: {said}", waiting.returncode, 0)
+    holder = f"(process {os.getpid()}, since "
+    checks.expect(f"for whom: {told}", ("waits for pdpd-shards " in told, holder in told), (True, True))
+
+
+def hanging(machine, checks):
+    """A copy that hangs: a signal ends the tool, the shard goes on, and the next tool isn't held up."""
+    machine.operator.clear()
+    asks = many(machine, 8)
+    before = shards("backups")
+    with instead_of(machine.folder, "cp", f"echo begun > {machine.folder}/begun; exec sleep 1000"):
+        with subprocess.Popen(["pdpd-shards", "backup", "1"], stdout=subprocess.PIPE, stderr=subprocess.STDOUT) as tool:
+            wait_until((machine.folder / "begun").exists, "no copy is begun")
+            tool.send_signal(signal.SIGTERM)
+            checks.expect("a copy that hangs", tool.wait(30), 128 + signal.SIGTERM)
+    wait_until(machine.operator.is_answered, "the shard isn't there again")
+    checks.expect("behind it", [decision(once(ask)) for ask, _ in asks], [wanted for _, wanted in asks])
+    checks.expect("no backup counts", shards("backups"), before)
+    shards("backup", 1)
+
+
+# ---- the trial of a backup
+
+# It tells who runs it, with which rights and words, and what its file of the token has; then it is the program.
+TELLING = """#!/bin/sh
+{ id -un; grep CapEff /proc/self/status; echo "$@"; cat "$4"; echo; } >> /tmp/told
+exec /usr/local/lib/pdpd/pdpd "$@"
+"""
+
+
+def trials(machine, checks):
+    """The program over a copy of a backup runs as pdpd, with a token of its own. A user who has its port has no backup
+    made, and is sent nothing; one who connects again and again stops none."""
+    program = LIBRARY / "telling"
+    program.write_text(TELLING)
+    program.chmod(0o755)
+    sh("install -m 666 /dev/null /tmp/told")
+    sh(f"echo PROGRAM={program} >> {SETTINGS}")
+    try:
+        shards("backup", 0)
+    finally:
+        sh(f"sed -i '/^PROGRAM=/d' {SETTINGS}")
+    user, rights, words, token = pathlib.Path("/tmp/told").read_text().split("\n")[:4]
+    place = port(64)
+    checks.expect("who runs it", (user, rights.split()[1]), ("pdpd", f"{1 << 10:016x}"))
+    checks.expect(f"its port: {words}", f" 127.0.0.1:{place} " in words, True)
+    operator = pathlib.Path("/etc/pdpd/token").read_text().strip()
+    is_other = token != operator and operator not in words and len(token) >= 32
+    checks.expect("its token is none that opens anything else", is_other, True)
+    with Local(NOBODY, KNOCKER, place) as knocker:
+        for _ in range(3):
+            shards("backup", 0)
+        checks.say(f"a trial beside a user that came {knocker.said().count('connected')} times")
+    with Local("root", THIEF, place) as thief:
+        wait_until(lambda: "taken" in thief.said(), "the port isn't taken")
+        said = shards("backup", 0, status=1)
+        checks.expect(f"its port is taken: {said}", "the copy isn't opened" in said, True)
+        checks.expect("what is sent there", thief.said(), "waits\ntaken\n")
+
+
+# ---- the unit of backups
+
+def values_of(unit, name):
+    """The words of all lines of that name in a unit."""
+    return [word for line in re.findall(rf"(?m)^{name}=(.*)", unit) for word in line.split()]
+
+
+def confined(machine, checks):
+    """What the unit of backups leaves to them is enough: one is made with its rights alone, on file systems that can
+    only be read but for its folders, and by system calls that it allows."""
+    from .units import allowed_by
+    unit = pathlib.Path("/etc/systemd/system/pdpd-backup@.service").read_text()
+    rights = ",".join(f"+{word.removeprefix('CAP_').lower()}" for word in values_of(unit, "CapabilityBoundingSet"))
+    folders = [f"/var/lib/{name}" for name in values_of(unit, "StateDirectory")]
+    folders += [f"/run/{name}" for name in values_of(unit, "RuntimeDirectory")]
+    checks.expect("what it may write to", folders, ["/var/lib/pdpd-backups", "/run/pdpd"])
+    script = "".join(f"mount --bind {folder} {folder}; " for folder in folders)
+    script += "for path in / /etc /usr/local /var /run /tmp; do mount -o remount,bind,ro $path; done; "
+    trace = machine.folder / "backup-calls"
+    backup = f"{sys.executable} {LIBRARY}/pdpd-shards backup 2"
+    script += f"mount -t tmpfs tmpfs /tmp; exec setpriv --no-new-privs --bounding-set=-all,{rights} {backup}"
+    # (what is kept has a number that may be reached: new names count)
+    kept = pathlib.Path("/var/lib/pdpd-backups/2")
+    before = set(kept.iterdir())
+    sh(f"unshare --mount bash -ec {shlex.quote(script)}")
+    sh(f"strace -f -qq -o {trace} {backup}")
+    checks.within("backups more", len(set(kept.iterdir()) - before), range(1, 3))
+    made = set(re.findall(r"(?m)^\d+ +(\w+)\(", trace.read_text()))
+    checks.expect("system calls that the unit forbids", sorted(made - allowed_by(unit)), [])
+    checks.expect("system calls of it: those that it doesn't make", {"setresuid", "kill", "fchown"} - made, set())
+    said = sh("cd /etc/systemd/system && systemd-analyze security --offline=true --no-pager ./pdpd-backup@0.service")
+    exposure = float(re.search(r"exposure level for \S+: ([\d.]+)", said)[1])
+    checks.within("how exposed it is, of 10", exposure, Between(0, 3.5))
+    elsewhere(machine, checks)
+
+
+def elsewhere(machine, checks):
+    """With systemd and BACKUPS at another place the unit is allowed to write there."""
+    folder = machine.folder / "with blanks"
+    settings = machine.folder / "elsewhere.conf"
+    settings.write_text(f'SUPERVISOR=systemd\nBACKUPS="{folder}"\n')
+    with instead_of(machine.folder, "systemctl", f'echo "$@" >> {machine.folder}/asked'):
+        sh(f"PDPD_SETTINGS={settings} python3 -Bc 'import sys; sys.path.insert(0, \"{LIBRARY}\")\n"
+           "from operating import settings, supervisor\nsupervisor.of(settings.read()).set_up(range(1))'")
+    said = sh("cat '/etc/systemd/system/pdpd-backup@.service.d/backups.conf'")
+    checks.expect("where it may write then", said, f'[Service]\nReadWritePaths="-{folder}"\n')
+    checks.expect("the folder", owner_and_mode(f"'{folder}'"), "root root 711 directory")
+    said = sh("cd /etc/systemd/system && systemd-analyze verify ./pdpd-backup@0.service 2>&1 || true")
+    checks.expect("the unit", said, "")
+    sh("rm -r '/etc/systemd/system/pdpd-backup@.service.d'")
+
+
+ATTACKS = (thieves, impostors, locks, hanging, trials, confined)

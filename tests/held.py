@@ -1,0 +1,164 @@
+"""Memory that `pdpd replay` holds, counted by a few lines of C before the C library: however many messages of a route
+have come, no more is held at once, and none is left at the end."""
+import json
+import os
+import subprocess
+
+from sent import OPERATOR, making, message, policy, rows_body
+
+# The most bytes that are held at once, and those that are held at the end, told then.
+COUNTING = r"""
+#define _GNU_SOURCE
+#include <dlfcn.h>
+#include <malloc.h>
+#include <stdio.h>
+#include <stdlib.h>
+
+static size_t held, most;
+
+static void *taken(void *place) {
+    held += malloc_usable_size(place);
+    if (held > most) most = held;
+    return place;
+}
+
+void *malloc(size_t size) {
+    static void *(*next)(size_t);
+    if (!next) next = dlsym(RTLD_NEXT, "malloc");
+    return taken(next(size));
+}
+
+void *realloc(void *old, size_t size) {
+    static void *(*next)(void *, size_t);
+    if (!next) next = dlsym(RTLD_NEXT, "realloc");
+    size_t before = malloc_usable_size(old);
+    void *place = next(old, size);
+    if (place || !size) held -= before;
+    return place ? taken(place) : place;
+}
+
+void free(void *place) {
+    static void (*next)(void *);
+    if (!next) next = dlsym(RTLD_NEXT, "free");
+    held -= malloc_usable_size(place);
+    next(place);
+}
+
+__attribute__((destructor)) static void tell(void) {
+    fprintf(stderr, "%zu %zu\n", most, held);
+}
+"""
+
+# How often a cycle of messages comes, and then twice as often: decisions and views far more often than so many are
+# kept (512 and 128), until the table of those that are kept grows no more.
+OFTEN, DECISIONS = 60, 1_000
+DOMAINS = 129
+# Bytes of an entry of the transcript, and how many more may be held at once if messages come twice as often.
+ENTRY, MOST_MORE = 40_000, 4_096
+# Values of one response, and the bytes that it may take beside those of its body.
+VALUES, MOST_OF_VALUES = 4_097, 16 * 2 ** 20
+DATES, TIMES = ("urn:dates", "date"), ("urn:times", "dateTime")
+
+
+def most_and_left(program, library, transcript):
+    """The most bytes that a run over a transcript holds at once, and those that are left at its end."""
+    how = {"stdout": subprocess.DEVNULL, "stderr": subprocess.PIPE, "check": True}
+    ran = subprocess.run([program, "replay", OPERATOR], input=transcript,
+                         env={**os.environ, "LD_PRELOAD": library}, **how)
+    most, left = map(int, ran.stderr.split()[-2:])
+    return most, left
+
+
+# ---- messages
+
+def telling_policy():
+    """A policy that permits, with an obligation that has each date and each time of the request."""
+    told = [{"AttributeId": name, "Expression": {"AttributeDesignator": {
+        "Category": "Resource", "AttributeId": name, "DataType": data_type, "MustBePresent": False}}}
+        for name, data_type in (DATES, TIMES)]
+    made = json.loads(policy("Permit"))
+    made["Policy"]["ObligationExpressions"] = [{"ObligationId": "o", "FulfillOn": "Permit",
+                                                "AttributeAssignmentExpression": told}]
+    return json.dumps(made)
+
+
+def in_acme(request, body=None, token="acme-token-1"):
+    method, path = request.split(" ")
+    return message(method, f"/domains/acme/{path}", token, body)
+
+
+def asking(name, data_type, values, domain="acme"):
+    """A decision request with an attribute of the resource."""
+    attribute = {"AttributeId": name, "DataType": data_type, "Value": values}
+    body = json.dumps({"Request": {"Resource": {"Attribute": [attribute]}}})
+    return message("POST", f"/domains/{domain}/pdp", f"{domain}-token-1", body)
+
+
+def day(number):
+    return f"{1000 + number // 28:04}-01-{number % 28 + 1:02}"
+
+
+def on_beta(method, more="", body=None):
+    return message(method, f"/operator/domains/beta{more}", OPERATOR, body)
+
+
+def beginning():
+    """Messages that make the domains, each with that policy."""
+    names = ["acme", *(f"d{number}" for number in range(DOMAINS))]
+    return [held for name in names for held, _ in making(name, f"{name}-token-1", telling_policy())]
+
+
+# What is sent again and again, by name, each time with another number: it begins in the state in which it ends.
+CYCLES = {
+    "domains and tokens": lambda _: [
+        on_beta("PUT"), message("GET", "/operator/domains", OPERATOR),
+        on_beta("POST", "/tokens", '{"Role":"ask","Token":"beta-token-1"}'),
+        on_beta("DELETE", "/tokens", '{"Token":"beta-token-1"}'), on_beta("DELETE")],
+    "documents": lambda _: [
+        in_acme("POST pap/policies", policy("Deny", "urn:q")), in_acme("GET pap/policy/urn:q/1.0"),
+        in_acme("PUT pap/policy/urn:q/1.0/active"), in_acme("GET pap/policies"),
+        in_acme("DELETE pap/policy/urn:q/1.0/active"), in_acme("DELETE pap/policy/urn:q/1.0")],
+    "root and rows": lambda _: [in_acme("PUT pap/root", '{"PolicyIdReference":{"Id":"urn:p"}}'),
+                                in_acme("PUT pip", rows_body(8_000)), in_acme("GET pip")],
+    "a decision that is kept": lambda _: [in_acme("POST pdp", '{"Request":{}}')],
+    "a decision that is worked out": lambda number: [asking(*DATES, [day(number)])],
+    "a decision that is too long to be kept": lambda number: [asking("urn:n", "string", [f"{number:020}" * 900])],
+    "refusals": lambda _: [in_acme("GET pap/policy/urn:q/1.0"), message("GET", "/", OPERATOR),
+                           in_acme("GET pip", token="no-token"), in_acme("POST pdp", "{")],
+    "a view that is evicted": lambda number: [asking(*DATES, [day(number)], f"d{number % DOMAINS}")],
+}
+
+
+def transcript_of(messages):
+    """The messages, in entries of one connection that have equally many bytes."""
+    held = b"".join(messages)
+    entries = [held[at:at + ENTRY] for at in range(0, len(held), ENTRY)]
+    return b"".join(b"0 0 %d\n%b\n" % (len(each), each) for each in entries)
+
+
+# ---- what is looked at
+
+def faults_of_routes(program, library):
+    """What of memory grows with the messages of a route."""
+    faults, first = [], beginning()
+    for name, cycle in CYCLES.items():
+        often = DECISIONS if name.startswith("a ") else OFTEN
+        (few, _), (many, left) = (most_and_left(program, library, transcript_of(
+            [*first, *(each for number in range(count) for each in cycle(number))])) for count in (often, 2 * often))
+        if many > few + MOST_MORE or left:
+            faults.append(f"{name}: {few} bytes are held at once if it comes {often} times, {many} if it comes twice "
+                          f"as often; {left} bytes are left")
+    print(f"tests/memory.py: {len(CYCLES)} kinds of messages, and twice as many: {len(faults)} leave more than before")
+    return faults
+
+
+def faults_of_values(program, library):
+    """What is wrong with the memory that the texts of many values take in one response."""
+    faults = []
+    for name, data_type, value in ((*DATES, "2026-11-29"), (*TIMES, "2026-11-29T20:00:00Z")):
+        few, many = (most_and_left(program, library, transcript_of(
+            [*beginning(), asking(name, data_type, [value] * count)]))[0] for count in (1, VALUES))
+        print(f"tests/memory.py: {many - few} bytes more are held at once for {VALUES} values of {data_type}")
+        if many > few + MOST_OF_VALUES:
+            faults.append(f"{VALUES} values of {data_type} take {many - few} bytes")
+    return faults
