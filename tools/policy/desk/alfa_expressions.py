@@ -1,6 +1,8 @@
 """Expressions of ALFA, as the words of a source are read one after another."""
 from __future__ import annotations
 
+from collections.abc import Callable
+
 from .alfa_parts import Attribute, Call, Function, Literal, Name, Part
 from .alfa_tokens import Comment, Stop, Token, tokens_of
 from .faults import Remarks
@@ -97,6 +99,27 @@ class Words:
             raise self.missing(what)
         found = self.next()
         return Literal("text", found.value, None, self.spot(found.start))
+
+    def recovering(self, words: tuple[str, ...], does: Callable[[], None]) -> None:
+        """Reads one item. Behind a fault reading goes on with the next item, which begins with one of these words, or
+        with the brace that ends what the item stands in."""
+        began, path, nested, count = self.place, self.path, self.nested, len(self.open)
+        try:
+            does()
+        except Stop:
+            self.path, self.nested = path, nested
+            del self.open[count:]
+            self.skip(began, words)
+
+    def skip(self, began: int, words: tuple[str, ...]) -> None:
+        """Passes over the rest of an item; raises Stop at the end of the file."""
+        passed = [token.value for token in self.tokens[began:self.place] if token.kind == "sign"]
+        depth = passed.count("{") - passed.count("}")
+        while self.token.kind != "end" and (self.place == began or depth > 0 or not self.is_next("}", *words)):
+            depth += self.is_next("{") - self.is_next("}")
+            self.next()
+        if self.token.kind == "end":
+            raise Stop
 
     def nest(self, step: int) -> None:
         """Goes in, or out."""

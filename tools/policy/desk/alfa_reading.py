@@ -1,6 +1,6 @@
 """An ALFA file: its namespaces, declarations, policies and rules, with their places.
 
-What has no place in the language is told where it stands, and ends the reading of the file.
+What has no place in the language is told where it stands, and reading goes on with the next item.
 """
 from __future__ import annotations
 
@@ -16,6 +16,8 @@ EFFECTS = {"permit": "Permit", "deny": "Deny"}
 OF_THE_STANDARD = ("type", "function", "infix", "ruleCombinator", "policyCombinator")
 IN_NAMESPACES = ("import", "namespace", "attribute", "category", "obligation", "advice", "policy",
                  "policyset", *OF_THE_STANDARD)
+IN_PARTS = {"rule": ("target", "condition", "permit", "deny", "on"), "policy": ("target", "apply", "rule", "on"),
+            "policyset": ("target", "apply", "policy", "policyset", "on")}
 IN_ATTRIBUTES = ("id", "type", "category")
 
 
@@ -26,7 +28,7 @@ class Reader(Expressions):
         """The namespace around all of the file."""
         found = Namespace("", None)
         while self.token.kind != "end":
-            self.item(found)
+            self.recovering(IN_NAMESPACES, lambda: self.item(found))
         self.next()
         return found
 
@@ -54,7 +56,7 @@ class Reader(Expressions):
         outside, self.path = self.path, found.name
         self.take("{")
         while not self.is_next("}"):
-            self.item(found)
+            self.recovering(IN_NAMESPACES, lambda: self.item(found))
         self.next()
         self.path = outside
         self.nest(-1)
@@ -134,7 +136,7 @@ class Reader(Expressions):
         found.spot = self.spot(start)
         self.take("{")
         while not self.is_next("}"):
-            self.item_of(found)
+            self.recovering(IN_PARTS[found.kind], lambda: self.item_of(found))
         self.next()
         self.open.pop()
         self.path = outside
@@ -147,10 +149,7 @@ class Reader(Expressions):
 
     def item_of(self, found: Part) -> None:
         """One item of a rule, a policy or a set."""
-        word = self.token
-        known = {"rule": ("target", "condition", "permit", "deny", "on"),
-                 "policy": ("target", "apply", "rule", "on"),
-                 "policyset": ("target", "apply", "policy", "policyset", "on")}[found.kind]
+        word, known = self.token, IN_PARTS[found.kind]
         if not self.is_next(*known):
             self.other(found, known)
         elif word.value in ("rule", "policy", "policyset"):

@@ -123,7 +123,13 @@ class Tokens:
             comments = self.comments(last)
             if self.offset == len(self.text):
                 return [*found, Token("end", "", self.offset, self.offset, comments)]
-            start, (kind, value, last) = self.offset, self.word()
+            start = self.offset
+            try:
+                kind, value, last = self.word()
+            except Stop:  # what can't be a word is passed over, up to the end of its line if it is a text
+                rest = self.text[start:].split("\n", 1)[0] if self.text[start] in "\"'" else self.text[start]
+                self.offset = last = start + len(rest)
+                continue
             self.offset = last
             found.append(Token(kind, value, start, last, comments))
 
@@ -141,4 +147,7 @@ def tokens_of(source: Source, remarks: Remarks) -> list[Token]:
         raise reader.stop(start, start + 1, f"The byte 0x{source.held[fault.start]:02x} isn't one of UTF-8: "
                                             f"save the file as UTF-8.") from None
     reader.offset = 1 if source.text.startswith("\ufeff") else 0
-    return reader.all()
+    found = reader.all()
+    if remarks.faults():
+        raise Stop
+    return found

@@ -4,7 +4,7 @@ from __future__ import annotations
 import json
 from dataclasses import dataclass
 
-from .model import decisions, json_texts, linking, rows
+from .model import decisions, json_texts, rows
 from .program import Program
 from .setting import Setting
 
@@ -31,8 +31,6 @@ class Answer:
     @property
     def refusal(self) -> str:
         """What the server answers in place of a response."""
-        if self.body == "!Memory":
-            return '503 Service Unavailable: {"Error":"Unavailable"}'
         return f'400 Bad Request: {{"Error":"{self.body[1:]}"}}'
 
     def results(self) -> list[dict]:
@@ -41,13 +39,11 @@ class Answer:
 
 
 def by_model(setting: Setting, held: bytes, moment: int) -> str:
-    """The model's answer; `!NotJson` where the server refuses the request, `!Memory` where it answers 503."""
+    """The model's answer; `!NotJson` where the server refuses the request."""
     try:
         return decisions.response(setting.view(), held, moment)
     except json_texts.NotJson:
         return "!NotJson"
-    except linking.TooManyLooks:
-        return "!Memory"
 
 
 def row_of(setting: Setting, held: bytes, moment: int) -> list[str]:

@@ -5,10 +5,12 @@ from __future__ import annotations
 from dataclasses import dataclass, field
 
 from . import plan, records, setting
+from .asked_root import Root, root_now
 from .answering import Answering, State, keys_in
 from .check import Checked, Rows
-from .domain import root_body, root_shown
-from .live import Key, Live, key_shown, path_of, row_lines, rows_body, version_shown
+from .domain import KEPT, root_body
+from .live import (
+    MOST_BODY, Key, Live, bytes_left, key_shown, path_of, row_lines, rows_body, version_shown)
 from .model import versions
 from .wire import ServerFault
 
@@ -48,13 +50,18 @@ class Changes:
     live: Live
     records: records.Records
     target: Target
-    roots: list[versions.Reference | None]
-    whence: str
+    root: Root
     reached: set[Key]
     content: records.Content
     is_pruned: bool
     back_to: records.Head | None = None
+    keep: int = KEPT
     order: plan.Order = field(default_factory=lambda: plan.Order([], [], []))
+
+    @property
+    def roots(self) -> list[versions.Reference | None]:
+        """What the root may be now, the likely one first; none where it isn't known."""
+        return self.root.may_be
 
     def uploads(self) -> list[Key]:
         """The documents that the server doesn't have."""
@@ -74,18 +81,37 @@ class Changes:
         return self.target.rows is not None and row_lines(self.target.rows) != row_lines(self.live.rows)
 
     def has_root(self) -> bool:
-        """Whether the root has to be set, as far as is known."""
+        """Whether the root has to be set, as far as is known. It is set in any case."""
         return self.roots != [self.target.root]
+
+    def is_its_root(self) -> bool:
+        """Whether what the root is now stands for the same document as the target's."""
+        keys = self.live.active()
+        places = [root and versions.resolved(root, [(key.kind, key.id, list(key.version)) for key in keys])
+                  for root in (*self.roots, self.target.root)]
+        return self.target.root in self.roots or places[-1] is not None and places[-1] in places[:-1]
+
+    def is_others_root(self) -> bool:
+        """Whether answers show a root that isn't the target's, and that isn't an older version of it either."""
+        if not self.root.is_shown or self.is_its_root():
+            return False
+        ids = {one and one[:2] for one in self.roots}
+        return self.root.is_moved or ids != {None} and (self.target.root and self.target.root[:2]) not in ids
 
     def deletes(self) -> list[Key]:
         """The documents that are deleted."""
         return [key for key in sorted(self.live.kept())
                 if key not in self.target.documents] if self.is_pruned else []
 
+    def is_all_but_root(self) -> bool:
+        """Whether nothing but the root may be to be set."""
+        others = [step for step in self.order.steps if step.do != "root"]
+        return not (self.clashes() or self.uploads() or others or self.deletes()
+                    or self.records.begun()) and self.records.last() is not None
+
     def is_nothing(self) -> bool:
         """Whether nothing is to be done."""
-        return not (self.uploads() or self.order.steps or self.deletes()
-                    or self.records.begun()) and self.records.last() is not None
+        return self.is_all_but_root() and not self.has_root()
 
     def draft(self) -> records.Draft:
         """The record of this deployment. From one that goes back to another, a rollback goes on to the one
@@ -94,7 +120,9 @@ class Changes:
         return records.draft(self.records.next_number(), before, self.content, self.roots)
 
     def actions(self, draft: records.Draft) -> list[Action]:
-        """All requests, in order."""
+        """All requests, in order; the root alone, without a record, where nothing else is to be done."""
+        if self.is_nothing():
+            return [self.action(plan.Step("root", self.target.root))]
         found = [uploaded(key, held, "record") for key, held in draft.parts.items()]
         found += [uploaded(key, self.target.documents[key].source.held, "upload") for key in self.uploads()]
         for place, step in enumerate(self.order.steps):
@@ -103,12 +131,18 @@ class Changes:
             found.append(action)
         found += [deleted(key, "delete") for key in self.deletes()]
         found.append(uploaded(*draft.finished(), "record"))
-        return found + [deleted(key, "forget") for key in self.records.stale(draft.head.number)]
+        forget = [deleted(key, "forget") for key in self.records.stale(draft.head.number, self.keep)]
+        return [*forget, *found] if self.wanted(draft) > MOST_DOCUMENTS else [*found, *forget]
+
+    def wanted(self, draft: records.Draft) -> int:
+        """How many documents the domain would have before old records are forgotten."""
+        return len(self.live.documents) + len(self.uploads()) + len(draft.parts) + 1
 
     def action(self, step: plan.Step) -> Action:
         """The request of a step."""
         if step.do == "root":
-            return Action("root", plan.step_shown(step), ("PUT", "pap/root", root_body(step.held).encode()))
+            again = "" if self.has_root() else " (as it should be; if it is, this changes nothing)"
+            return Action("root", plan.step_shown(step) + again, ("PUT", "pap/root", root_body(step.held).encode()))
         if step.do == "rows":
             lines = self.lines_between() if step.held == plan.BETWEEN else row_lines(self.target.rows)
             return Action("rows", plan.step_shown(step), ("PUT", "pip", rows_body(lines)), lines=lines)
@@ -145,7 +179,7 @@ class Changes:
         active = set(self.live.active())
         found = [plan.Step("activate", key) for key in sorted(self.reached - active)]
         found += [plan.Step("rows", plan.NEW)] if self.has_rows() else []
-        found += [plan.Step("root", self.target.root)] if self.has_root() else []
+        found.append(plan.Step("root", self.target.root))
         last = sorted(active - self.reached, key=lambda key: (key.kind == "policy", key))
         return found + [plan.Step("withdraw", key) for key in last]
 
@@ -154,16 +188,22 @@ class Changes:
         if not self.roots:
             return plan.Order(self.steps(), [], [])
         goal = State(frozenset(self.reached), self.target.root, plan.NEW)
-        return plan.Planner(self.answering(), [self.before(root) for root in self.roots], self.steps(),
-                            goal).order()
+        planner = plan.Planner(self.answering(), [self.before(root) for root in self.roots], self.steps(), goal)
+        found = planner.order()
+        is_parted = plan.Step("rows", plan.BETWEEN) in found.steps
+        return planner.order(False) if is_parted and bytes_left(self.lines_between()) < 0 else found
 
-    def room(self, draft: records.Draft) -> None:
-        """Raises where the domain has no room for what is uploaded."""
-        wanted = len(self.live.documents) + len(self.uploads()) + len(draft.parts) + 1
+    def room(self, draft: records.Draft, actions: list[Action]) -> None:
+        """Raises where a body would be too large, or the domain has no room for what is uploaded."""
+        for action in actions:
+            size = len(action.message[2] or b"")
+            if size > MOST_BODY:
+                raise ServerFault(f"to {action.shown} takes a body of {size} bytes, and {MOST_BODY} are its room")
+        wanted = self.wanted(draft) - sum(action.do == "forget" for action in actions)
         if wanted > MOST_DOCUMENTS:
             raise ServerFault(f"the domain would have {wanted} documents, records of deployments included, "
-                              f"and {MOST_DOCUMENTS} are its room:"
-                              " delete what isn't used, as `policy deploy --prune` does for what runs now")
+                              f"and {MOST_DOCUMENTS} are its room: delete what isn't used, as `policy deploy --prune` "
+                              "does for what runs now, or keep fewer deployments (Keep in domain.json)")
 
     def old_setting(self) -> setting.Setting | None:
         """What decides now; None where the root isn't known."""
@@ -185,7 +225,8 @@ class Changes:
         roots = [root_body(root) for root in self.roots]
         return {**{name: [key_shown(key) for key in keys] for name, keys in named.items()},
                 "rows": self.has_rows(), "root": self.has_root(),
-                "roots": roots, "root_known": self.whence, "mixed": bool(self.order.mixed),
+                "roots": roots, "root_known": self.root.whence, "root_shown": self.root.is_shown,
+                "root_is_others": self.is_others_root(), "mixed": bool(self.order.mixed),
                 "reasons": self.order.reasons}
 
 
@@ -206,22 +247,18 @@ def deleted(key: Key, do: str) -> Action:
                   ("DELETE", path_of(key), None), key)
 
 
-def changes_of(live: Live, target: Target, is_pruned: bool, said_root: str | None) -> Changes:
-    """What changes from what the domain has to the target."""
+def changes_of(live: Live, target: Target, is_pruned: bool, said_root: str | None,
+               requests: list[tuple[bytes, int]]) -> Changes:
+    """What changes from what the domain has to the target. The requests, each with a moment, are asked to show the
+    root."""
     held = records.Records(live)
-    roots, whence = records.root_now(live, held, said_root)
+    root = root_now(live, held, said_root, requests)
     rows = {plan.NOW: []}
     reached = keys_in(Answering(list(target.documents.values()),
                                 rows).tree(target.root, frozenset(target.documents)))
     digests = records.digests({key: one for key, one in target.documents.items() if key in reached})
     content = records.Content(target.root, digests, None if target.rows is None else row_lines(target.rows))
-    found = Changes(live, held, target, roots, whence, reached, content, is_pruned)
+    found = Changes(live, held, target, root, reached, content, is_pruned)
     if not found.clashes():
         found.order = found.ordered()
     return found
-
-
-def root_told(changes: Changes) -> str:
-    """What the root is now, and whence that is known."""
-    shown = " or ".join(map(root_shown, changes.roots)) if changes.roots else "not known"
-    return f"{shown} ({changes.whence})"

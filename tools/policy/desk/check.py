@@ -2,14 +2,19 @@
 server, with places."""
 from __future__ import annotations
 
+import re
 from dataclasses import dataclass
 
 from .elements import Document, Literal
 from .faults import Remark, Remarks
 from .kinds import Kinds
 from .model import documents, route_bodies
-from .positions import Node, Source, read
+from .positions import Node, Slip, Source, read
 from .shapes import Shapes
+
+
+# how a file of ALFA begins, behind comments
+ALFA = re.compile(r"\s*(?:(?://[^\n]*|/\*.*?\*/)\s*)*(?:namespace|policy|policyset)\s+[\w.{]", re.DOTALL)
 
 
 class Disagreement(Exception):
@@ -64,9 +69,20 @@ def agreed(source: Source, code: str | None, by_model: str | None) -> None:
                            f"and the model {by_model or 'no fault'}. This is a fault of the desk or of the model.")
 
 
+def other_language(source: Source) -> str:
+    """What a text that is no JSON seems to be; the empty text where that isn't known."""
+    if source.text.lstrip("\ufeff \t\r\n").startswith("<"):
+        return "XML"
+    return "ALFA" if source.path.endswith(".alfa") or ALFA.match(source.text) else ""
+
+
 def json_of(source: Source, remarks: Remarks) -> Node | None:
     """The JSON of the source, as far as it can be read, with its slips as faults."""
     node, slips = read(source)
+    language = other_language(source) if slips else ""
+    if language:
+        slips = [Slip(0, min(20, len(source.text)), "", "JSON", language,
+                      f"This is {language}: import it first. `policy import FILE` makes a document of it.")]
     for slip in slips:
         remarks.slip(source, slip)
     return node

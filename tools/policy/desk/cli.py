@@ -7,10 +7,11 @@ import sys
 from collections.abc import Callable
 
 from . import (
-    ask, asking, cases, deploy, deploy_words, diff, exchange, explain, explained, files, laid_out, lints, program,
-    setting, text, together)
+    ask, asking, cases, deploy, deploy_words, diff, exchange, explain, explained, files, laid_out, lints, packed,
+    program, setting, text, together)
 from .check import Checked, Disagreement, Rows
 from .faults import Remark, Remarks
+from .live import weighed
 from .verdicts import (
     DISAGREE, FAULTS, FINE, USAGE, all_agree, check_pairs, chosen_program, print_remarks, print_summary)
 
@@ -27,6 +28,8 @@ def checked_together(options: argparse.Namespace) -> tuple[list[Checked], Rows |
     if unknown:
         raise setting.Usage(f"no lint is called {text.listed(sorted(unknown))}; `policy lints` lists them")
     lints.Lints(documents, rows, off).run()
+    if rows is not None:
+        weighed(rows)
     if options.root is not None and all(one.is_sound for one in documents):
         setting.check_root(setting.Setting(documents, setting.root_of(options.root, documents), None),
                            documents[0].remarks)
@@ -203,14 +206,14 @@ def parser() -> argparse.ArgumentParser:
     whole = argparse.ArgumentParser(prog="policy",
                                     description="A policy author's desk: what is wrong with a policy, "
                                                 "what it decides, and why.",
-                                    epilog="Exit status: 0 fine, 1 faults or failed cases, 2 usage, "
-                                           "3 model and program disagree, "
-                                           "4 the server refuses or is away.")
+                                    epilog="Exit status: 0 fine, 1 faults or failed cases, 2 usage, 3 model and "
+                                           "program disagree, 4 the server refuses or is away.")
+    whole.add_argument("--version", action="version", version=packed.version())
     words = whole.add_subparsers(dest="word", required=True, metavar="WORD")
     asks = argparse.ArgumentParser(add_help=False)
     asks.add_argument("--program", default="", metavar="PATH",
-                      help="the program that is asked: a path, `try` for the unproved one by `rt try`, "
-                           "`none` for the model alone")
+                      help="the program that is asked: a path, `try` for one that may be compiled "
+                           "without proof, and is kept, `none` for the model alone")
     asks.add_argument("--build", action="store_true",
                       help="proves and builds the program first, where it isn't built of these sources")
 
@@ -236,6 +239,7 @@ def parser() -> argparse.ArgumentParser:
     deploy_words.add_words(word)
     word("build", "proves and builds the program, and keeps it for the other words", lambda _: program.built(), None)
     word("lints", "lists the lints by their names", lints_run, None)
+    word("page", "shows the desk's page", lambda _: packed.page(), None)
     return whole
 
 
@@ -266,7 +270,13 @@ def diff_run(options: argparse.Namespace) -> int:
 
 
 def main(words: list[str] | None = None) -> int:
-    """Runs the command; its exit status."""
+    """Runs the command; its exit status. All that it writes passes one filter."""
+    with text.filtered():
+        return ran(words)
+
+
+def ran(words: list[str] | None) -> int:
+    """The exit status of the command."""
     options = parser().parse_args(words)
     try:
         return options.run(options)

@@ -11,9 +11,9 @@ from . import cases, coverage, diff, lints, pull, records, setting, text, togeth
 from .changes import Action, Changes, Target, changes_of
 from .check import checked_rows
 from .deploying import Deployment
-from .deploy_shown import print_changes, print_domain, print_mixed
-from .domain import Domain, DomainCases, domain_of
-from .live import Live, key_shown, live_of, rows_body
+from .deploy_shown import print_changes, print_domain, print_mixed, print_verdict
+from .domain import Domain, DomainCases, domain_of, requests_of
+from .live import Live, key_shown, live_of, rows_body, weighed
 from .program import Program
 from .verdicts import (
     DISAGREE, FAULTS, FINE, all_agree, check_pairs, chosen_program, print_remarks, print_summary)
@@ -25,7 +25,10 @@ NOT_DONE = 4
 def client_of(options: argparse.Namespace, server: str, name: str) -> Client:
     """The client of a domain."""
     if is_readable_underway(server):
-        text.warn(f"{server} isn't reached by TLS: whoever is between can read the token")
+        said = f"{server} is another machine, and isn't reached by TLS: whoever is between can read the token"
+        if not options.allow_http:
+            raise setting.Usage(f"{said}. --allow-http sends it all the same")
+        text.warn(said)
     return Client(server, name, token_of(options.token_file), options.timeout)
 
 
@@ -66,10 +69,12 @@ def read_domain(folder: str) -> Domain | None:
 
 def is_checked(domain: Domain, options: argparse.Namespace, found: Program | None) -> tuple[bool, bool]:
     """Whether the documents and rows have no faults, and whether model and program agree."""
+    if domain.rows is not None:
+        weighed(domain.rows)
     together.Together(domain.documents).check()
     lints.Lints(domain.documents, domain.rows, set(options.off)).run()
     if domain.root is not None:
-        setting.check_root(domain.setting(), domain.documents[0].remarks)
+        setting.check_root(domain.setting(), domain.documents[0].remarks, domain.root_node)
     every = [remark for one in domain.documents
              for remark in one.remarks.found] + (domain.rows.remarks.found if domain.rows else [])
     print_remarks([remark for remark in every if remark.level != "note"])
@@ -133,7 +138,7 @@ def status(options: argparse.Namespace) -> int:
     if domain is None:
         return FAULTS
     live = live_of(client_of(options, domain.server, domain.name))
-    changes = changes_of(live, target_of(domain), False, options.live_root)
+    changes = changes_of(live, target_of(domain), False, options.live_root, requests_of(domain))
     is_same = changes.is_nothing() and not changes.clashes()
     if options.json:
         heads = [changes.records.head(number) for number in changes.records.numbers()]
@@ -143,9 +148,8 @@ def status(options: argparse.Namespace) -> int:
                           "deployments": found, **changes.as_json()}, indent=2))
     else:
         print_domain(changes)
-        print(text.wrapped("is what runs there" if is_same else "differs: `policy diff --live` shows how",
-                           "folder     ", " " * 11))
-    return FAULTS if options.strict and not is_same else FINE
+        print_verdict(changes, is_same)
+    return FAULTS if changes.is_others_root() or options.strict and not (is_same and changes.root.is_shown) else FINE
 
 
 @told
@@ -153,10 +157,13 @@ def live_diff(options: argparse.Namespace) -> int:
     """Answers `diff --live`."""
     with beside(options):
         domain = read_domain(options.old or ".")
-    if domain is None:
+        if domain is not None and domain.rows is not None:
+            weighed(domain.rows)
+            print_remarks(domain.rows.remarks.faults())
+    if domain is None or domain.faults():
         return FAULTS
     live = live_of(client_of(options, domain.server, domain.name))
-    changes = changes_of(live, target_of(domain), False, options.live_root)
+    changes = changes_of(live, target_of(domain), False, options.live_root, requests_of(domain))
     actions = [] if changes.clashes() or changes.is_nothing() else changes.actions(changes.draft())
     if options.json:
         print(json.dumps({"server": domain.server, "domain": domain.name, **changes.as_json(),
@@ -167,13 +174,14 @@ def live_diff(options: argparse.Namespace) -> int:
         if actions:
             print_mixed(changes, actions)
         elif not changes.clashes():
-            print("Nothing is to be done.")
+            print_verdict(changes, True)
     if changes.clashes():
         return FAULTS
     found = chosen_program(options) if options.requests or options.random else None
     with beside(options):
         answered = answers_change(changes, options, found)
-    return answered or (FAULTS if options.strict and not changes.is_nothing() else FINE)
+    is_wrong = options.strict and not (changes.is_nothing() and changes.root.is_shown)
+    return answered or (FAULTS if is_wrong or changes.is_others_root() else FINE)
 
 
 @told
@@ -188,7 +196,8 @@ def deploy(options: argparse.Namespace) -> int:
         if came_to != FINE:
             print("Nothing is deployed.")
             return came_to
-    changes = changes_of(live_of(client), target_of(domain), options.prune, options.live_root)
+    changes = changes_of(live_of(client), target_of(domain), options.prune, options.live_root, requests_of(domain))
+    changes.keep = domain.keep
     return carried_out(client, changes, options, found)
 
 
@@ -203,8 +212,8 @@ def rollback(options: argparse.Namespace) -> int:
     live = live_of(client)
     held = records.Records(live)
     number = to_which(held, options.to)
-    changes = changes_of(live, earlier(live, held, number), False, options.live_root)
-    changes.back_to = held.head(number)
+    changes = changes_of(live, earlier(live, held, number), False, options.live_root, requests_of(domain))
+    changes.back_to, changes.keep = held.head(number), domain.keep
     if not options.json:
         print(f"Back to deployment {number}, begun {held.head(number).begun} by {held.head(number).by}.")
     return carried_out(client, changes, options, found)
@@ -222,7 +231,8 @@ def to_which(held: records.Records, wanted: int | None) -> int:
         raise ServerFault(f"no deployment is recorded before {last}")
     if number not in held.numbers() or not held.is_finished(number):
         raise ServerFault(f"deployment {number} isn't recorded on the server, or wasn't finished: "
-                          f"{records.KEPT} are kept. Deploy its folder instead")
+                          f"{text.listed([str(one) for one in held.numbers() if held.is_finished(one)], 'and')} are. "
+                          f"Deploy its folder instead")
     return number
 
 
@@ -243,10 +253,16 @@ def earlier(live: Live, held: records.Records, number: int) -> Target:
 
 
 def may_go_on(changes: Changes, options: argparse.Namespace) -> None:
-    """Raises where another deployment was begun, of something else, and isn't finished."""
+    """Raises where another deployment was begun, of something else, and isn't finished. Who goes back takes the place
+    of one that was cut."""
     for number in changes.records.begun():
         head = changes.records.head(number)
-        if head.target != changes.content.digest() and not options.take_over:
+        if head.target == changes.content.digest() or options.take_over:
+            continue
+        why = records.why_cut(head) if changes.back_to is not None else ""
+        if why:
+            print(text.wrapped(f"{number} isn't finished and is taken as cut: {why}", "cut        ", " " * 11))
+        else:
             raise ServerFault(f"deployment {number} of something else was begun {head.begun} by {head.by}, "
                               "and isn't finished. Wait for it; where it was cut, deploy its folder again, "
                               "or "
@@ -263,10 +279,10 @@ def carried_out(client: Client, changes: Changes, options: argparse.Namespace, f
             return FAULTS
         may_go_on(changes, options)
         draft = changes.draft()
-        actions = [] if changes.is_nothing() else changes.actions(draft)
+        actions = changes.actions(draft)
         print_changes(changes, actions)
-        if actions:
-            changes.room(draft)
+        if not changes.is_nothing():
+            changes.room(draft, actions)
             print_mixed(changes, actions)
         answered = answers_change(changes, options, found)
     if answered == DISAGREE:
@@ -277,22 +293,22 @@ def carried_out(client: Client, changes: Changes, options: argparse.Namespace, f
 def finished(client: Client, changes: Changes, draft: records.Draft, actions: list[Action],
              options: argparse.Namespace) -> int:
     """Makes the changes where they are wanted; the exit status."""
-    is_refused = options.only_whole and (bool(changes.order.mixed) or not changes.roots and bool(actions))
-    wanted = bool(actions) and not options.dry_run and not is_refused and is_wanted(options)
+    is_refused = options.only_whole and (bool(changes.order.mixed) or not changes.roots)
+    wanted = not options.dry_run and not is_refused and is_wanted(options)
     done: list[Action] = []
     if wanted:
         carrying = Deployment(client, changes, draft, actions)
         carrying.run(lambda place, action: said(place, action, done, options))
     if options.json:
-        number = draft.head.number if wanted else changes.records.last()
+        number = draft.head.number if wanted and not changes.is_nothing() else changes.records.last()
         print(json.dumps({"server": client.server, "domain": client.domain, "deployment": number,
                           **changes.as_json(), "steps": [one.as_json() for one in actions],
                           "done": len(done)}, indent=2))
-    elif not actions:
-        print("Nothing is to be done.")
+    elif changes.is_nothing():
+        print("Nothing else was to be done." if wanted else "Nothing is done.")
     else:
         print(f"Deployed: number {draft.head.number}." if wanted else "Nothing is deployed.")
-    return FAULTS if is_refused or actions and not wanted and not options.dry_run else FINE
+    return FAULTS if is_refused or not wanted and not options.dry_run else FINE
 
 
 def said(place: int, action: Action, done: list[Action], options: argparse.Namespace) -> None:

@@ -2,9 +2,9 @@
 from __future__ import annotations
 
 from . import records, text
-from .changes import Action, Changes, root_told
+from .changes import Action, Changes
 from .domain import listed_shown
-from .live import Key, Live, key_shown, row_lines, version_shown
+from .live import Key, Live, bytes_left, key_shown, row_lines, version_shown
 
 
 def counts_of(live: Live) -> str:
@@ -29,8 +29,39 @@ def print_domain(changes: Changes) -> None:
     live = changes.live
     for label, told_of in (("domain", f"{live.client.domain} on {live.client.server}"),
                            ("deployed", record_told(changes.records)),
-                           ("root", root_told(changes)), ("has", counts_of(live))):
+                           ("root", changes.root.told()), ("has", counts_of(live))):
         print(text.wrapped(told_of, f"{label:10} ", " " * 11))
+
+
+def differences(changes: Changes) -> str:
+    """In what the domain differs from the folder, the root left out, in a few words."""
+    new = changes.uploads()
+    asleep = [key for key in changes.of_order("activate") if key not in new]
+    told = [(new, "isn't there", "aren't there"), (changes.clashes(), "has other text", "have other text"),
+            (asleep, "isn't active", "aren't active"),
+            (changes.of_order("withdraw"), "is active and not the folder's", "are active and not the folder's")]
+    found = [f"{listed_shown([key_shown(key) for key in keys])} {one if len(keys) == 1 else several}"
+             for keys, one, several in told if keys]
+    found += ["the rows are others"] if changes.has_rows() else []
+    found += [f"deployment {number} isn't finished" for number in changes.records.begun()]
+    if not found and changes.records.last() is None:
+        found.append("no deployment is recorded")
+    return "; ".join(found)
+
+
+def print_verdict(changes: Changes, is_same: bool) -> None:
+    """Whether the folder is what runs there."""
+    told = differences(changes)
+    if changes.is_others_root():
+        said = "the root isn't this folder's: `policy deploy` sets it" + (f". Besides, {told}" if told else "")
+    elif not is_same:
+        said = f"differs: {told or 'the root is another'}. `policy diff --live` shows how"
+    elif changes.root.is_shown:
+        said = "is what runs there"
+    else:
+        said = ("its documents and rows are what runs there; root not known: no case of this folder gives Permit "
+                "or Deny there. Write one, which `policy status` asks then")
+    print(text.wrapped(said, "folder     ", " " * 11))
 
 
 def rows_told(changes: Changes) -> str:
@@ -39,7 +70,8 @@ def rows_told(changes: Changes) -> str:
     more = len(new) - sum(line in set(old) for line in new)
     fewer = len(old) - sum(line in set(new) for line in old)
     found = f"{len(old)} before, {len(new)} after; {more} new, {fewer} gone"
-    return found + ("" if more or fewer else ", in another order")
+    return (found + ("" if more or fewer else ", in another order")
+            + f"; {bytes_left(new):,} bytes of a body are left")
 
 
 def clash_told(changes: Changes, key: Key) -> str:
@@ -57,7 +89,7 @@ def print_mixed(changes: Changes, actions: list[Action]) -> None:
     """Whether every ask between is answered as before or as after."""
     mixed = [place for place, action in enumerate(actions, 1) if action.is_mixed]
     if not changes.roots:
-        print(text.wrapped("What the root is now isn't known: " + changes.whence
+        print(text.wrapped("What the root is now isn't known: " + changes.root.whence
                            + ". So whether every ask between is answered as before or as after isn't known "
                              "either;"
                            " --live-root ID, or --live-root none, says what it is."))
@@ -77,6 +109,9 @@ def print_changes(changes: Changes, actions: list[Action]) -> None:
     """What will be done, step by step."""
     for key in changes.clashes():
         print(text.wrapped(clash_told(changes, key), text.painted("changed", "red") + "    ", " " * 11))
+    if changes.is_others_root():
+        print(text.wrapped("the root isn't this folder's: it is set", text.painted("root", "red") + "       ",
+                           " " * 11))
     idle = [key_shown(key) for key in sorted(set(changes.target.documents) - changes.reached)]
     if idle:
         print(text.wrapped(f"{listed_shown(idle)}: the root doesn't reach "

@@ -17,7 +17,9 @@ def add_server(parser: argparse.ArgumentParser) -> None:
     parser.add_argument("--timeout", type=float, default=SECONDS, metavar="SECONDS",
                         help="how long a reply is waited for")
     parser.add_argument("--live-root", metavar="ID",
-                        help="what the root is now, where no deployment is recorded: an id, or none")
+                        help="what the root is now, where neither answers nor records show it: an id, or none")
+    parser.add_argument("--allow-http", action="store_true",
+                        help="sends the token to another machine without TLS: whoever is between can read it")
     parser.add_argument("--json", action="store_true", help="writes JSON")
 
 

@@ -68,11 +68,11 @@ class Deployment:
             self.lines = action.lines
         self.done += 1
 
-    def begin(self) -> None:
+    def begin(self, action: Action) -> None:
         """Uploads the head of the record, which only one of two deployments at once can."""
-        self.look(self.actions[0])
+        self.look(action)
         try:
-            self.send(self.actions[0])
+            self.send(action)
         except Refused as fault:
             if fault.code != "SameVersionOtherText":
                 raise
@@ -80,13 +80,15 @@ class Deployment:
                             f"{self.draft.head.number}") from None
 
     def run(self, say: Callable[[int, Action], None]) -> None:
-        """Does all that is to be done, and says each step."""
-        self.begin()
+        """Does all that is to be done, and says each step. What is recorded begins with the record's head."""
+        head = records.record_key(self.draft.head.number)
         try:
-            say(0, self.actions[0])
-            for place, action in enumerate(self.actions[1:], 1):
-                self.look(action)
-                self.send(action)
+            for place, action in enumerate(self.actions):
+                if action.key == head:
+                    self.begin(action)
+                else:
+                    self.look(action)
+                    self.send(action)
                 say(place, action)
         except Overtaken:
             self.give_up()
@@ -94,7 +96,7 @@ class Deployment:
 
     def give_up(self) -> None:
         """Takes the record back where nothing else was done."""
-        if self.done == 1:
+        if self.done == 1 and self.expected.get(records.record_key(self.draft.head.number)) is not None:
             try:
                 self.client.asked("DELETE", records.path_of_number(self.draft.head.number))
             except ServerFault:

@@ -6,7 +6,7 @@ import json
 import pathlib
 from dataclasses import dataclass
 
-from . import ask, explain, files, laid_out, made, names, setting, text
+from . import aimed, ask, changed_rules, explain, files, laid_out, made, names, setting, text
 from .check import json_of
 from .faults import Remarks
 from .positions import Node, Source
@@ -101,13 +101,32 @@ def print_change(request: Request, old: setting.Setting, new: setting.Setting, b
     print()
 
 
+def random_requests(rules: changed_rules.ChangedRules, options: argparse.Namespace, at: int | None) -> list[Request]:
+    """The requests that are made: most are aimed at the rules that change, as they were and as they will be."""
+    maker = made.Maker(made.pools_of([rules.old, rules.new]), options.seed, at)
+    aiming = aimed.Aiming(maker, [way for one in rules.rules for way in one.both if way is not None])
+    return [Request(f"random request {number + 1}", *aiming.request(number)) for number in range(options.random)]
+
+
+def print_reached(rules: list[changed_rules.ChangedRule], count: int) -> None:
+    """In how many requests each rule that changes was reached, and which of them no answer shows."""
+    for one in rules[:MOST_SHOWN]:
+        print(text.wrapped(f"{one.told()} changes: reached in {one.reached} of {text.counted(count, 'request')}", "",
+                           "    "))
+    hidden = [one.told() for one in rules if not one.is_shown]
+    if hidden:
+        more = f" and {len(hidden) - MOST_SHOWN} more" if len(hidden) > MOST_SHOWN else ""
+        text.warn(f"no answer shows what changes in {text.listed(hidden[:MOST_SHOWN], 'and')}{more}: ask for it by "
+                  f"--requests, or make more by --random N")
+
+
 def run(old: setting.Setting, new: setting.Setting, options: argparse.Namespace, program: Program | None) -> int:
     """Compares the answers; the exit status."""
     at = setting.moment_of(options.at) if options.at is not None else None
     asked = requests_of(options.requests, at) if options.requests else []
-    if options.random:
-        maker = made.Maker(made.pools_of([old, new]), options.seed, at)
-        asked += [Request(f"random request {number}", *maker.request()) for number in range(1, options.random + 1)]
+    rules = changed_rules.ChangedRules(old, new) if options.random else None
+    if rules is not None:
+        asked += random_requests(rules, options, at)
     if not asked:
         raise setting.Usage("diff needs --requests FILE or --random N")
     pairs = [(request.held, request.moment) for request in asked]
@@ -119,6 +138,11 @@ def run(old: setting.Setting, new: setting.Setting, options: argparse.Namespace,
         print(f"and {len(changed) - MOST_SHOWN} more\n")
     print(f"{len(changed)} of {text.counted(len(asked), 'answer')} change, by "
           + ("the model alone" if program is None else "model and program"))
+    if rules is not None:
+        is_changed = set(changed)
+        for place, request in enumerate(asked):
+            rules.reckon(request.held, request.moment, place in is_changed)
+        print_reached(rules.rules, len(asked))
     disagreeing = [asked[place].name
                    for place in range(len(asked)) if not (before[place].agrees and after[place].agrees)]
     if disagreeing:

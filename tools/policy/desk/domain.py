@@ -9,6 +9,7 @@ domain.json is a JSON object:
     Documents  an array of files and folders; the folder's own documents where it is left out
     Rows       a file of source rows; where it is left out, the rows of the server stay as they are
     Cases      an array of files of cases; one without a Policy is about the domain as it is here
+    Keep       how many deployments are kept on the server, 2 to 400: 20 where it is left out
 """
 from __future__ import annotations
 
@@ -26,7 +27,8 @@ from .model import route_bodies, versions
 from .positions import Node
 
 FILE = "domain.json"
-MEMBERS = ["Server", "Domain", "Root", "Documents", "Rows", "Cases"]
+MEMBERS = ["Server", "Domain", "Root", "Documents", "Rows", "Cases", "Keep"]
+LEAST_KEPT, MOST_KEPT, KEPT = 2, 400, 20
 NAME = r"[a-z0-9][a-z0-9-]{0,31}"
 
 
@@ -40,6 +42,8 @@ class Domain:
     documents: list[Checked]
     rows: Rows | None
     cases: list[str]
+    keep: int
+    root_node: Node | None
 
     def texts(self) -> dict[Key, Checked]:
         """The documents by their keys."""
@@ -101,10 +105,18 @@ class DomainReader(cases.CaseReader):
         root = self.root(node, documents)
         if root is not None and not documents:
             self.fault(node, "A root needs documents.")
+        keep = self.number(node.at("Keep"))
         if self.remarks.faults():
             return None
         return Domain(self.folder, self.text(node.at("Server")), name, root, documents, held,
-                      [files.shown(self.folder / path) for path in found])
+                      [files.shown(self.folder / path) for path in found], keep, node.at("Root"))
+
+    def number(self, node: Node | None) -> int:
+        """How many deployments are kept."""
+        held = KEPT if node is None else node.value
+        if node is not None and node.kind != "number" or held is None or not LEAST_KEPT <= held <= MOST_KEPT:
+            self.fault(node, f"Here belongs a whole number from {LEAST_KEPT} to {MOST_KEPT}.")
+        return held
 
     def documents(self, node: Node, named: Node | None) -> list[Checked]:
         """The documents that are named, or those of the folder."""
@@ -159,6 +171,18 @@ class DomainCases(cases.CaseReader):
         found = [self.case(item, number) for number, item in enumerate(self.items(node.at("Case")), 1)]
         return None if self.remarks.faults() else cases.Suite(self.path, self.of_domain.setting(),
                                                               [case for case in found if case is not None])
+
+
+def requests_of(domain: Domain) -> list[tuple[bytes, int]]:
+    """The requests of the domain's cases, each with its moment; those of a file with faults are left out, which is
+    said."""
+    found = []
+    for path in domain.cases:
+        suite = DomainCases(path, domain).suite()
+        if suite is None:
+            text.warn(f"{path} has faults, which `policy deploy` names: its cases aren't asked")
+        found += [(case.held, case.moment) for case in (suite.cases if suite else [])]
+    return found
 
 
 def domain_of(folder: str) -> tuple[Domain | None, Remarks]:

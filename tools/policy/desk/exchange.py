@@ -76,7 +76,7 @@ def written(options: argparse.Namespace, ending: str, made: list[Made]) -> int:
         if one.held is None:
             print(text.wrapped(f"{one.label}: not written", "", "    "), file=sys.stderr)
     if options.to is None:
-        sys.stdout.write("".join(one.held.decode() for one in found))
+        text.write_file("".join(one.held.decode() for one in found))
     elif found:
         kept(pathlib.Path(options.to), found, ending, options.overwrite)
     return FAULTS if len(found) < len(made) else FINE

@@ -15,6 +15,8 @@ def held(path: str | pathlib.Path) -> bytes:
         return pathlib.Path(path).read_bytes()
     except OSError as fault:
         raise Usage(f"{path} can't be read: {fault.strerror}") from None
+    except ValueError:
+        raise Usage("a name with a NUL byte can't be read: no file has one") from None
 
 
 def shown(path: pathlib.Path) -> str:
@@ -35,12 +37,20 @@ def is_document(path: pathlib.Path) -> bool:
     return bool({"Policy", "PolicySet", "PolicyId", "PolicySetId"} & set(node.last())) and node.at("Case") is None
 
 
+def is_folder(path: pathlib.Path) -> bool:
+    """Whether a folder has that name; none has one that no file may have."""
+    try:
+        return path.is_dir()
+    except (OSError, ValueError):
+        return False
+
+
 def within(paths: list[str], endings: tuple[str, ...], what: str,
            is_meant: Callable[[pathlib.Path], bool] = lambda _: True) -> list[pathlib.Path]:
     """The files, each once, and in place of a folder those of its files that have one of the endings and are meant."""
     files: list[pathlib.Path] = []
     for path in map(pathlib.Path, paths):
-        if path.is_dir():
+        if is_folder(path):
             found = [file for file in sorted(path.iterdir()) if file.suffix in endings and is_meant(file)]
             if not found:
                 raise Usage(f"{path} holds no {what} (*{', *'.join(endings)})")

@@ -52,6 +52,21 @@ def way_from(found: str, wanted: str) -> str:
     return ""
 
 
+def way_for_bag(name: str | None, takes: list[str], kinds: list[str | None], place: int) -> str:
+    """What to write where an attribute, which may have several values or none, stands for a value in a function that
+    gives a boolean, as advice; the empty text anywhere else."""
+    wanted, known = wanted_at(takes, place), signature(name)
+    if kinds[place] != "bag " + wanted or known is None or known[1] != "boolean" or len(kinds) != 2:
+        return ""
+    is_equal = names.short(name) == f"{wanted}-equal"
+    if all(kind is not None and kind.startswith("bag ") for kind in kinds):
+        write = (f"{wanted}-at-least-one-member-of or " if is_equal else "") + "any-of-any"
+    else:
+        write = (f"{wanted}-is-in, with the value first, or " if is_equal else "") + "any-of"
+    return (f"an attribute may have several values, or none: write {write}; only if it has exactly one each time, wrap "
+            f"it in {wanted}-one-and-only")
+
+
 def function_for(name: str, kinds: list[str | None]) -> str:
     """The function of the same verb that takes these kinds, as `integer-equal` for `string-equal`."""
     short = names.short(name)
@@ -154,7 +169,8 @@ class Kinds:
         better = function_for(held.name, kinds) if len(wrong) == len(kinds) else ""
         for place in wrong:
             wanted, found = wanted_at(takes, place), kinds[place]
-            way = f"write {better}" if better else way_from(found, wanted)
+            other = way_for_bag(held.name, takes, kinds, place) or way_from(found, wanted)
+            way = f"write {better}" if better else other
             sentence = (f'Argument {place + 1} of "{names.short(held.name)}" is {names.kind_shown(wanted)}, '
                         f'and this is {names.kind_shown(found)}')
             self.ill_typed("WrongType", held.arguments[place + first].node, sentence + (f"; {way}." if way else "."),

@@ -12,6 +12,7 @@ from .elements import Designator, Document, Expression, Rule
 from .faults import Remarks
 from .members import name_node
 from .model import contexts, identifiers
+from .one_value import OneValue
 from .positions import Node
 
 NAMES = {
@@ -26,6 +27,7 @@ NAMES = {
     "repeated-member": "a member that stands twice in an object: the last one counts",
     "ignored-member": "a member of a request that the server ignores",
     "unknown-id": "a request reference to an Id that no category has",
+    "not-one-value": "a one-and-only of an attribute of which the rows give an entity several values, or none",
     "shorthand": "rows whose category is a shorthand, and when they are found (a note)",
 }
 
@@ -60,6 +62,7 @@ class Lints:
         self.types()
         if self.rows is not None:
             self.row_categories(self.rows)
+            OneValue(self.rows).run(self.documents)
         for remarks in [one.remarks for one in self.documents] + ([self.rows.remarks] if self.rows else []):
             remarks.found = [remark for remark in remarks.found if remark.code not in self.off]
 

@@ -7,8 +7,9 @@ import urllib.parse
 from collections import namedtuple
 from dataclasses import dataclass, field
 
-from .check import Checked, Rows, checked, checked_rows
-from .model import route_bodies, versions
+from .check import Checked, Rows, checked, checked_rows, marked
+from .model import documents, identifiers, route_bodies, versions
+from .positions import Node
 from .setting import KIND_NAMES
 from .wire import Client, ServerFault
 
@@ -16,6 +17,9 @@ from .wire import Client, ServerFault
 Key = namedtuple("Key", "kind id version")
 PARTS = {"policy": "policy", "set": "policyset"}
 KINDS = {part: kind for kind, part in PARTS.items()}
+SHORT = {uri: name for name, uri in identifiers.SHORTHANDS.items()}
+# what a body has, and the rows of a domain, at most
+MOST_BODY, MOST_ROWS = 524_288, 4096
 RECORD_ID = "urn:dalvezour:deployment"
 
 
@@ -48,9 +52,9 @@ def is_record(key: Key) -> bool:
 def listing(client: Client) -> dict[Key, bool]:
     """The documents of the domain, and whether each is active."""
     try:
-        return {Key(KINDS[one["Kind"]], one["Id"], tuple(map(int, one["Version"].split(".")))): one["Active"]
-                for one in client.value("pap/policies")["Policy"]}
-    except (KeyError, TypeError, ValueError):
+        return {Key(KINDS[one["Kind"]], one["Id"].encode().decode(), tuple(versions.numbers(one["Version"]))):
+                one["Active"] for one in client.value("pap/policies")["Policy"]}
+    except (AttributeError, KeyError, TypeError, ValueError, versions.NoVersion):
         raise ServerFault("GET pap/policies: the server answers what no server of this kind "
                           "answers") from None
 
@@ -61,9 +65,38 @@ def row_lines(rows: Rows | None) -> list[str]:
     return [json.dumps(route_bodies.row_shown(row), ensure_ascii=False, sort_keys=True) for row in found]
 
 
+def short_line(line: str) -> str:
+    """A row in the fewest bytes: with shorthands, and without blanks."""
+    held = json.loads(line)
+    held["Category"] = SHORT.get(held["Category"], held["Category"])
+    held["DataType"] = held["DataType"].removeprefix(identifiers.NAMESPACE)
+    return json.dumps(held, ensure_ascii=False, separators=(",", ":"))
+
+
 def rows_body(lines: list[str]) -> bytes:
     """The body that sets these rows."""
-    return ('{"Row":[' + ",".join(lines) + "]}").encode()
+    return ('{"Row":[' + ",".join(map(short_line, lines)) + "]}").encode()
+
+
+def bytes_left(lines: list[str]) -> int:
+    """How many bytes of a body these rows leave; less than nothing where they don't fit."""
+    return MOST_BODY - len(rows_body(lines))
+
+
+def weighed(rows: Rows) -> None:
+    """Remarks that rows are too many, or don't fit a body, as they are sent."""
+    if rows.code is not None:
+        return
+    node, lines = Node(rows.source, "", "object", 0, 1), row_lines(rows)
+    if bytes_left(lines) < 0:
+        rows.remarks.fault("BodyTooLarge", node, f"These rows have {MOST_BODY - bytes_left(lines)} bytes, as they are "
+                           f"sent, and a body has at most {MOST_BODY}: shorten ids and entities, or take rows out.")
+    if len(rows.rows) > MOST_ROWS:
+        rows.remarks.fault("Quota", node, f"These are {len(rows.rows)} rows, and a domain has at most {MOST_ROWS}.")
+    rows.code = marked(rows.remarks.faults())
+    if rows.code is None and len(rows.source.held) > MOST_BODY:
+        rows.remarks.note("long-rows", node, f"This file has {len(rows.source.held)} bytes, and a body at most "
+                          f"{MOST_BODY}: the desk sends the rows in a shorter form, and `curl` can't send this file.")
 
 
 @dataclass
@@ -77,7 +110,11 @@ class Live:
     def text(self, key: Key) -> bytes:
         """The text of a document."""
         if key not in self.texts:
-            self.texts[key] = self.client.asked("GET", path_of(key)).body
+            held = self.client.asked("GET", path_of(key)).body
+            if len(held) > documents.MAX_BYTES:
+                raise ServerFault(f"{key_shown(key)}: the server has more than the {documents.MAX_BYTES} bytes of a "
+                                  f"document")
+            self.texts[key] = held
         return self.texts[key]
 
     def checked(self, key: Key) -> Checked:

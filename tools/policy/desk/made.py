@@ -60,11 +60,14 @@ def designators_in(held: Expression) -> list[Designator]:
     return [one.designator for one in held.all() if one.designator is not None]
 
 
-def take_expression(pools: Pools, held: Expression) -> None:
-    """Takes in an expression: its literals may be compared with the attributes of the same application."""
+def take_expression(pools: Pools, held: Expression, variables: dict[str | None, Expression | None]) -> None:
+    """Takes in an expression: its literals, and those that its variables stand for, may be compared with the attributes
+    of the same application."""
     for one in held.all():
-        literals = [inner.literal for inner in one.arguments if inner is not None and inner.literal is not None]
-        near = [designator for inner in one.arguments if inner is not None for designator in designators_in(inner)]
+        inside = [variables.get(inner.name) if inner is not None and inner.form == "variable" else inner
+                  for inner in one.arguments]
+        literals = [inner.literal for inner in inside if inner is not None and inner.literal is not None]
+        near = [designator for inner in inside if inner is not None for designator in designators_in(inner)]
         for literal in literals:
             pools.literal(None, literal)
             for designator in near:
@@ -80,8 +83,9 @@ def take_document(pools: Pools, document: Document) -> None:
         for match in target.matches():
             pool = pools.attribute(match.designator)
             pools.literal(pool if match.designator.data_type == match.literal.data_type else None, match.literal)
+    variables = {one.name: one.expression for one in document.variables if one is not None}
     for expression in document.expressions():
-        take_expression(pools, expression)
+        take_expression(pools, expression, variables)
 
 
 def take_rows(pools: Pools, setting: Setting) -> None:

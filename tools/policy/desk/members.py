@@ -12,6 +12,8 @@ from .model import documents
 from .positions import Member, Node
 from .text import listed
 
+# names that a sentence lists
+MOST_NAMED = 20
 KINDS = {"object": "an object", "array": "an array", "string": "a text", "number": "a number",
          "boolean": "true or false", "null": "null"}
 WHERE = {"Policy": "A policy", "PolicySet": "A policy set", "Reference": "A reference", "AnyOf": "An item of AnyOf",
@@ -73,7 +75,8 @@ class Members:
                 self.remarks.fault(f"MissingMember({name})", node,
                                    f'{label} needs the member "{name}", which is missing.',
                                    expected=f"the member {name}",
-                                   found=listed(list(node.last()), "and"))
+                                   found=listed([*list(node.last())[:MOST_NAMED],
+                                                 *["more"] * (len(node.last()) > MOST_NAMED)], "and"))
         return found
 
     def unknown_member(self, label: str, name: str, member: Member, known: list[str], found: dict[str, Node]) -> None:

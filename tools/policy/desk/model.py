@@ -1,9 +1,13 @@
-"""The model in Python (tests/model), as far as the desk uses it: its modules, under their own names."""
+"""The model in Python (tests/model), as far as the desk uses it: its modules, under their own names. In the file that
+`tools/policy/pack.py` makes they stand beside the desk's own."""
 import pathlib
 import sys
 
-TOP = pathlib.Path(__file__).resolve().parents[3]
-sys.path.insert(1, str(TOP / "tests" / "model"))
+HOME = pathlib.Path(__file__).resolve().parents[1]
+# whether the desk is one file, outside a clone
+IS_PACKED = HOME.is_file()
+TOP = HOME.parents[1]
+sys.path.insert(1, str(HOME / "model" if IS_PACKED else TOP / "tests" / "model"))
 # a text of very many digits is out of range, and nothing that Python refuses to read
 getattr(sys, "set_int_max_str_digits", lambda _: None)(0)
 

@@ -2,11 +2,14 @@
 from __future__ import annotations
 
 import difflib
+import itertools
 from collections.abc import Iterable
 
 from .model import documents, functions, identifiers, values
 
 LEAST_LIKENESS = 0.6
+# with how many names one is compared, and how long it may be: a file of very many names is read in time all the same
+MOST_KNOWN, MOST_LETTERS = 400, 200
 STANDARD = "urn:oasis:names:tc:xacml:1.0:"
 # functions that the standard has and this server hasn't
 LEFT_OUT = {
@@ -42,9 +45,20 @@ def likeness(name: str, other: str) -> float:
 
 
 def nearest(name: str, known: Iterable[str]) -> str:
-    """The known name that is most like it; the empty text where none is."""
-    found = max(((likeness(name, other), other) for other in known), default=(0, ""), key=lambda pair: pair[0])
-    return found[1] if found[0] >= LEAST_LIKENESS else ""
+    """The known name that is most like it, of so many that are looked at; the empty text where none is."""
+    if len(name) > MOST_LETTERS:
+        return ""
+    best, found = LEAST_LIKENESS, ""
+    matcher = difflib.SequenceMatcher()
+    for other in itertools.islice(known, MOST_KNOWN):
+        # b is what the matcher keeps, so the two stand the other way about
+        matcher.set_seqs(name.lower(), other.lower())
+        if matcher.real_quick_ratio() < best or matcher.quick_ratio() < best:
+            continue
+        ratio = matcher.ratio()
+        if ratio > best or ratio == best and not found:
+            best, found = ratio, other
+    return found
 
 
 def nearest_by_end(name: str, known: Iterable[str]) -> str:

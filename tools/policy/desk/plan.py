@@ -14,14 +14,13 @@ from dataclasses import dataclass
 
 from .answering import Answering, State, turned
 from .domain import listed_shown, root_shown
-from .live import Key, key_shown
+from .live import MOST_ROWS, Key, key_shown
 from .model import contexts, versions
 
 # a step: activate or withdraw a document, set the rows of a name, or set the root
 Step = namedtuple("Step", "do held")
 Kind = Callable[[Step], bool]
 NOW, NEW, BETWEEN = "now", "new", "between"
-MOST_ROWS = 4096
 
 
 def step_shown(step: Step) -> str:
@@ -132,9 +131,9 @@ class Planner:
                 [*quiet, *rows, *loud, *withdraw, *root],
                 [*quiet, *loud, *root, *withdraw, *rows]]
 
-    def order(self) -> Order:
-        """The order that is taken."""
-        for steps in (self.steps, self.parted_rows()):
+    def order(self, may_part: bool = True) -> Order:
+        """The order that is taken; whether rows may be set in two steps."""
+        for steps in (self.steps, self.parted_rows() if may_part else None):
             for may in (lambda step: step.do in ("activate", "rows"), lambda step: True):
                 found = None if steps is None else self.turning(steps, may)
                 if found is not None and not self.mixed_in(found):

@@ -2,26 +2,32 @@
 and what it answers."""
 from __future__ import annotations
 
+import contextlib
 import os
 import pathlib
 import shutil
 import subprocess
 import sys
-import tempfile
+import threading
+import time
+from collections.abc import Iterator
 from dataclasses import dataclass
 
-from .model import TOP, inputs, rows
+from .model import IS_PACKED, TOP, inputs, rows
 
 sys.path.append(str(TOP / "tests"))
 
-import programs  # noqa: E402
+if not IS_PACKED:  # outside a clone there is nothing of which a program could be made
+    import programs  # noqa: E402
 
 CRATE = TOP / "crates" / "xa_trials"
-PLACES = (CRATE / "out" / "xa_trials", TOP / "build" / "xa_trials")
+PLACES = () if IS_PACKED else (CRATE / "out" / "xa_trials", TOP / "build" / "xa_trials")
+NO_CLONE = ("this is the desk as one file, which has no sources: a clone of the repository makes the program, and "
+            "--program PATH names one that is there")
 ESCAPED = {"|": "\\x7c", "=": "\\x3d"}
 SECONDS = 600
-# `rt try` gives no more than 1 MiB of answers to a file
-ROWS_A_FILE = 250
+# seconds between two words on how long something takes
+BETWEEN_WORDS = 15
 
 
 class ProgramFailed(Exception):
@@ -38,15 +44,13 @@ class Program:
     """A program that answers rows; `warning` says what isn't sure about it."""
     command: list[str]
     warning: str = ""
-    is_tried: bool = False
 
     def answers(self, asked: list[list[str]]) -> list[list[str]]:
         """The fields of the answer to each row."""
         if not asked:
             return []
         held = "".join(rows.line(inputs.as_read(fields)) for fields in asked)
-        written = self.tried(held) if self.is_tried else self.run(held)
-        found = [line.split("\t") for line in written.split("\n")[:-1]]
+        found = [line.split("\t") for line in self.run(held).split("\n")[:-1]]
         if len(found) != len(asked):
             raise ProgramFailed(f"{' '.join(self.command)} gave {len(found)} answers to {len(asked)} rows")
         return found
@@ -62,27 +66,46 @@ class Program:
             raise ProgramFailed(f"{self.command[0]} ended with status {ran.returncode}")
         return ran.stdout.decode("latin-1")
 
-    def tried(self, held: str) -> str:
-        """What `rt try` writes, which compiles the program without proving it, and runs it for each file of rows."""
-        lines = held.splitlines(keepends=True)
-        with tempfile.TemporaryDirectory() as folder:
-            for first in range(0, len(lines), ROWS_A_FILE):
-                some = "".join(lines[first:first + ROWS_A_FILE])
-                pathlib.Path(folder, f"{first:09}").write_text(some, encoding="ascii")
-            ran = subprocess.run([*self.command, folder], cwd=CRATE, capture_output=True, check=False)
-        return "".join(line + "\n"
-                       for line in ran.stdout.decode("latin-1").split("\n")[:-1] if not line.startswith("== "))
+
+@contextlib.contextmanager
+def progress(what: str) -> Iterator[None]:
+    """Says on standard error how long something takes, as long as it does."""
+    began, is_over = time.monotonic(), threading.Event()
+
+    def says() -> None:
+        while not is_over.wait(BETWEEN_WORDS):
+            print(f"{what}: {time.monotonic() - began:.0f} s so far", file=sys.stderr, flush=True)
+    telling = threading.Thread(target=says, daemon=True)
+    telling.start()
+    try:
+        yield
+    finally:
+        is_over.set()
+        telling.join()
+
+
+def tried() -> Program:
+    """The program that is there soonest: proved, or compiled without proof, which is kept for the next time."""
+    if IS_PACKED:
+        raise ProgramFailed(f"--program try: {NO_CLONE}")
+    try:
+        with progress("compiling xa_trials without proof"):
+            path = programs.soonest_program(CRATE.name)
+    except programs.NotBuilt as fault:
+        raise ProgramFailed(str(fault)) from None
+    is_proved = path == programs.prover_output(CRATE.name)
+    warning = f"{path.relative_to(TOP)} is compiled without proof: what it answers isn't proved."
+    return Program([str(path)], "" if is_proved else warning)
 
 
 def found(named: str = "") -> Program | None:
     """The program: the one that is named, here or by DESK_PROGRAM in the environment, the proved one, or None. `try`
-    is the one that `rt try` compiles, unproved."""
+    is the one that is there soonest, proved or not."""
     named = named or os.environ.get("DESK_PROGRAM", "")
     if named == "none":
         return None
     if named == "try":
-        return Program(["rt", "try", "--steps", "1000", "--seconds", "600", "--cases"],
-                       "The program is compiled without proof (rt try): what it answers isn't proved.", True)
+        return tried()
     if named:
         return Program([named], f"{named} is taken as it is: whether it is proved isn't known here.")
     for path in PLACES:
@@ -114,6 +137,9 @@ def is_built() -> bool:
 
 def built() -> int:
     """Proves and builds the program where it isn't, and runs it on its stored rows; the exit status."""
+    if IS_PACKED:
+        print(f"Nothing is built: {NO_CLONE}.")
+        return 1
     name = PLACES[0].relative_to(TOP)
     if is_built():
         print(f"{name} is proved, and of these sources.")

@@ -26,12 +26,15 @@ from .domain import root_body
 from .live import RECORD_ID, Key, Live, path_of, version_shown
 from .model import documents as documents_of_model
 from .model import route_bodies, versions
-from .wire import ServerFault
+from .wire import ServerFault, json_held
 
 ALGORITHM = "urn:oasis:names:tc:xacml:3.0:rule-combining-algorithm:deny-overrides"
 # letters in a piece: a document has at most 65,536 bytes
 PIECE = 50_000
-KEPT = 4
+# bytes of what a deployment brings: the rows of a body in their long form, and 1,024 documents' keys and digests
+MOST_CONTENT = 8 << 20
+# seconds after which a deployment that isn't finished counts as cut
+LONG_AGO = 3600
 
 
 @dataclass
@@ -76,7 +79,11 @@ class Content:
 
 def content_of(packed: str) -> Content:
     """The content that pieces hold."""
-    held = json.loads(zlib.decompress(base64.b64decode(packed)))
+    unpacking = zlib.decompressobj()
+    text = unpacking.decompress(base64.b64decode(packed), MOST_CONTENT)
+    if not unpacking.eof:
+        raise ValueError("longer than any record")
+    held = json_held(text)
     documents = {Key(one["Kind"], one["Id"], tuple(versions.numbers(one["Version"]))): one["Digest"]
                  for one in held["Document"]}
     return Content(root_in(held["Root"]), documents, held["Row"])
@@ -111,7 +118,7 @@ def document(version: tuple[int, ...], described: str) -> bytes:
 
 def described(held: bytes) -> str:
     """What a part of a record says."""
-    return json.loads(held)["Policy"]["Description"]
+    return json_held(held)["Policy"]["Description"]
 
 
 def by_whom() -> str:
@@ -120,6 +127,18 @@ def by_whom() -> str:
         return f"{getpass.getuser()}@{socket.gethostname()}"
     except (KeyError, OSError):
         return socket.gethostname()
+
+
+def why_cut(head: Head) -> str:
+    """Why a deployment that isn't finished may be taken as cut by whoever goes back; the empty text where it may
+    not."""
+    if head.by == by_whom():
+        return f"it is of {head.by}, as this one is"
+    try:
+        is_old = setting.moment_of(head.begun) + LONG_AGO < time.time()
+    except (setting.Usage, TypeError):
+        is_old = False
+    return "it was begun more than an hour ago" if is_old else ""
 
 
 @dataclass
@@ -193,11 +212,11 @@ class Records:
     def read(self, number: int) -> Head:
         """Reads a head."""
         try:
-            held = json.loads(described(self.live.text(record_key(number))))
+            held = json_held(described(self.live.text(record_key(number))).encode())
             return Head(number, held["Before"], held["Begun"], held["By"], held["Nonce"], held["Target"],
                         root_in(held["Root"]), [root_in(one) for one in held["Was"]], held["Pieces"],
                         held["Content"])
-        except (KeyError, TypeError, ValueError, documents_of_model.DocumentFault):
+        except (AttributeError, KeyError, TypeError, ValueError, RecursionError, documents_of_model.DocumentFault):
             raise ServerFault(f"policy {RECORD_ID} {number} of the server is no record of a "
                               f"deployment") from None
 
@@ -208,50 +227,30 @@ class Records:
             pieces = [described(self.live.text(record_key(number, place)))
                       for place in range(1, head.pieces + 1)]
             return content_of("".join([head.first, *pieces]))
-        except (KeyError, TypeError, ValueError, zlib.error, binascii.Error,
+        except (KeyError, TypeError, ValueError, RecursionError, zlib.error, binascii.Error, versions.NoVersion,
                 documents_of_model.DocumentFault):
             raise ServerFault(f"the record of deployment {number} is damaged") from None
 
-    def stale(self, number: int) -> list[Key]:
-        """The parts of old records that are given up once deployment NUMBER is finished: the head of a
+    def stale(self, number: int, keep: int) -> list[Key]:
+        """The parts of old records that are given up for deployment NUMBER, so that so many are kept: the head of a
         record last."""
         finished = [one for one in self.numbers() if self.is_finished(one) and one < number]
-        kept = {*finished[-(KEPT - 1):], number}
+        kept = {*finished[-(keep - 1):], number}
         return sorted((key for key in self.live.records() if key.version[0] not in kept),
                       key=lambda key: (key.version[0], len(key.version) == 1, key.version))
 
 
-def root_now(live: Live, records: Records, said: str | None) -> tuple[list[versions.Reference | None], str]:
-    """What the root may be now, the likely one first, none where it isn't known; and whence that is known."""
-    if said is not None:
-        return [root_said(live, said)], "as it was said"
+def recorded_roots(records: Records) -> tuple[list[versions.Reference | None], str]:
+    """What the root may be now by the records, the likely one first, none where they don't say; and which say it."""
     last, begun = records.last(), records.begun()
     was: list[versions.Reference | None] = []
+    whence = "no route shows it, and no deployment is recorded"
     if last is not None:
         was, whence = [records.head(last).root], f"by the record of deployment {last}"
     elif begun:
         was, whence = records.head(begun[0]).was, f"by the record of deployment {begun[0]}"
-    if not was and not live.active() and has_no_root(live):
-        was, whence = [None], "since nothing is active, and the answer is NotApplicable"
     if not was:
-        return [], "no route shows it, and no deployment is recorded"
+        return [], whence
     roots = [*was, *(records.head(number).root for number in begun)]
     more = f", or by that of {begun[-1]}, which isn't finished" if begun else ""
     return [root for place, root in enumerate(roots) if root not in roots[:place]], whence + more
-
-
-def root_said(live: Live, said: str) -> versions.Reference | None:
-    """The root that is meant: an id, with its kind before it where both have it, or none."""
-    if said == "none":
-        return None
-    kinds = {key.kind for key in live.kept() if key.id == said}
-    is_whole = said.startswith(("policy:", "set:"))
-    kind, name = said.split(":", 1) if is_whole else (min(kinds, default="policy"), said)
-    return versions.Reference(kind, name, None, None, None)
-
-
-def has_no_root(live: Live) -> bool:
-    """Whether a domain without active documents has no root: then it answers NotApplicable, and else
-    Indeterminate."""
-    held = json.loads(live.client.asked("POST", "pdp", b'{"Request":{}}').body)
-    return held["Response"][0]["Decision"] == "NotApplicable"

@@ -10,7 +10,7 @@ from .check import Checked, Rows
 from .elements import Document, Reference
 from .faults import Remarks
 from .model import contexts, decisions, linking, policies, rows, values, versions
-from .positions import Node
+from .positions import Node, Source
 from .program import part
 
 FIRST_MOMENT, LAST_MOMENT = -62_135_596_800, 253_402_300_799
@@ -81,7 +81,7 @@ class Setting:
         """The tree of the root; None without a root, or where it is too large."""
         try:
             return None if self.root is None else linking.linked(self.active, self.root)
-        except (linking.TooLarge, linking.TooManyLooks):
+        except linking.TooLarge:
             return None
 
     def fields(self) -> list[str]:
@@ -127,18 +127,17 @@ def no_document(reference: versions.Reference, documents: list[Document]) -> tup
     return f"No document given has the id {reference.id}." + (f" Did you mean {nearest}?" if nearest else ""), nearest
 
 
-def check_root(setting: Setting, remarks: Remarks) -> None:
-    """Remarks that the root leads nowhere."""
+def check_root(setting: Setting, remarks: Remarks, node: Node | None = None) -> None:
+    """Remarks that the root leads nowhere, at the value that says it, or else at the word `--root`."""
     root = setting.root
     if root is None or versions.resolved(root, [held[:3] for held in setting.active]) is not None:
         return
     sentence, nearest = no_document(root, [one.document for one in setting.documents])
-    first = setting.documents[0]
-    node = Node(first.source, "", "object", first.node.start, first.node.end)
+    if node is None:
+        node = Node(Source("--root", root.id.encode()), "", "string", 0, len(root.id))
     remarks.fault("leads-nowhere", node,
                   f"The root leads nowhere. {sentence} Every decision is Indeterminate, processing-error.",
                   nearest=nearest, found=root.id)
-    remarks.found[-1].end = remarks.found[-1].start
 
 
 def reference_shown(reference: Reference) -> str:

@@ -1,27 +1,40 @@
 """Text for people: at most 80 columns, and colours on a terminal alone."""
 from __future__ import annotations
 
+import contextlib
+import io
 import os
 import re
+import secrets
 import sys
 import textwrap
+from collections.abc import Iterator
+from typing import TextIO
 
 from .faults import Remark
 
 WIDTH = 80
-CONTROL = re.compile(r"\x1b(?!\[[0-9;]*m)|[\x00-\x08\x0b\x0c\x0e-\x1a\x1c-\x1f\x7f-\x9f]")
+# what steers a terminal, turns the order of letters, or can't be seen: controls but for tab and line feed, marks of
+# direction, letters of no width, halves of surrogates (which names of files may have), tags
+HIDDEN = re.compile("[\x00-\x08\x0b-\x1f\x7f-\x9f\u00ad\u061c\u115f\u1160\u17b4\u17b5\u180e\u200b-\u200f\u2028-\u202e"
+                    "\u2060-\u206f\u3164\ufeff\uffa0\ufff9-\ufffb\ud800-\udfff\U000e0000-\U000e0fff]")
+# stands for the escape character in the desk's own colours; no file can have it, since it is drawn anew each time
+MARK = "".join(chr(0xF0000 + secrets.randbelow(0xFFFE)) for _ in range(2))
 CODES = {"bold": "1", "dim": "2", "red": "31", "green": "32", "yellow": "33", "blue": "34"}
 LEVELS = {"fault": "red", "warning": "yellow", "note": "blue"}
 DECISIONS = {"Permit": "green", "Deny": "red", "NotApplicable": "yellow", "Indeterminate": "yellow"}
-IS_COLOURED = {stream: stream.isatty() and "NO_COLOR" not in os.environ and os.environ.get("TERM") != "dumb"
-               for stream in (sys.stdout, sys.stderr)}
+
+
+def is_coloured(stream: TextIO) -> bool:
+    """Whether colours are wanted there."""
+    return stream.isatty() and "NO_COLOR" not in os.environ and os.environ.get("TERM") != "dumb"
 
 
 def painted(text: str, *styles: str) -> str:
     """The text in these styles, where standard output is a terminal."""
-    if not IS_COLOURED.get(sys.stdout) or not text:
+    if not text or not is_coloured(sys.stdout):
         return text
-    return f"\033[{';'.join(CODES[style] for style in styles)}m{text}\033[0m"
+    return f"{MARK}[{';'.join(CODES[style] for style in styles)}m{text}{MARK}[0m"
 
 
 def decided(decision: str) -> str:
@@ -29,9 +42,55 @@ def decided(decision: str) -> str:
     return painted(decision, "bold", DECISIONS.get(decision, "yellow"))
 
 
+def escaped(found: re.Match) -> str:
+    """A letter as JSON escapes it."""
+    units = found.group().encode("utf-16-be", "surrogatepass").hex()
+    return "".join(f"\\u{units[place:place + 4]}" for place in range(0, len(units), 4))
+
+
 def harmless(text: str) -> str:
-    """The text without control characters, but for white space and colours: a file's text can't steer the terminal."""
-    return CONTROL.sub(lambda found: f"\\u{ord(found.group()):04x}", text)
+    """The text with escapes in place of what can't be seen or steers a terminal. In a text of JSON an escape means the
+    same."""
+    return HIDDEN.sub(escaped, text)
+
+
+class Shown(io.TextIOBase):
+    """Standard output or standard error behind the one filter through which all is written: nothing of a file, of its
+    name or of a server steers the terminal, hides, or has a colour."""
+
+    def __init__(self, under: TextIO):
+        super().__init__()
+        self.under = under
+
+    def write(self, text: str) -> int:
+        self.under.write(harmless(text).replace(MARK, "\033"))
+        return len(text)
+
+    def flush(self) -> None:
+        self.under.flush()
+
+    def isatty(self) -> bool:
+        return self.under.isatty()
+
+    def fileno(self) -> int:
+        return self.under.fileno()
+
+
+@contextlib.contextmanager
+def filtered() -> Iterator[None]:
+    """Puts the filter before standard output and standard error."""
+    under = sys.stdout, sys.stderr
+    sys.stdout, sys.stderr = map(Shown, under)
+    try:
+        yield
+    finally:
+        sys.stdout, sys.stderr = under
+
+
+def write_file(held: str) -> None:
+    """Writes the text of a file that is made to standard output: as it is, but on a terminal."""
+    is_file = isinstance(sys.stdout, Shown) and not sys.stdout.isatty()
+    (sys.stdout.under if is_file else sys.stdout).write(held)
 
 
 def wrapped(text: str, indent: str = "", hanging: str | None = None) -> str:
@@ -98,7 +157,7 @@ def loud(message: str) -> None:
     """Says something on standard error that nobody should miss."""
     bar = "!" * WIDTH
     text = "\n".join([bar, wrapped(message, "! "), bar])
-    print(f"\033[1;31m{text}\033[0m" if IS_COLOURED.get(sys.stderr) else text, file=sys.stderr)
+    print(f"{MARK}[1;31m{text}{MARK}[0m" if is_coloured(sys.stderr) else text, file=sys.stderr)
 
 
 def warn(message: str) -> None:

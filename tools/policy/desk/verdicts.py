@@ -9,13 +9,17 @@ import sys
 from . import program, setting, text
 from .check import Checked, Rows
 from .faults import Remark
+from .live import bytes_left, row_lines
 from .model import documents as documents_of_model
 from .model import route_bodies
 from .model import rows as model_rows
 
+# remarks that are printed of a file
+MOST_PRINTED = 200
 FINE, FAULTS, USAGE, DISAGREE = 0, 1, 2, 3
-ONLY_MODEL = ("There is no proved program: only the model in Python spoke. "
-              "`tools/policy/policy.py build` proves and builds the program.")
+ONLY_MODEL = "There is no proved program: only the model in Python spoke. "
+WAY_TO_BOTH = ("`--program PATH` names a program that answers too." if program.IS_PACKED else
+               "`tools/policy/policy.py build` proves and builds the program.")
 
 
 def chosen_program(options: argparse.Namespace) -> program.Program | None:
@@ -25,7 +29,7 @@ def chosen_program(options: argparse.Namespace) -> program.Program | None:
             program.built()
     found = program.found(options.program)
     if found is None:
-        text.loud(ONLY_MODEL)
+        text.warn(ONLY_MODEL + WAY_TO_BOTH)
     elif found.warning:
         text.warn(found.warning)
     return found
@@ -56,9 +60,15 @@ def check_pairs(documents: list[Checked], rows: Rows | None,
 
 
 def print_remarks(found: list[Remark]) -> None:
-    """Remarks, in the order of their places."""
+    """Remarks, in the order of their places: the first ones of each file."""
+    by_path: dict[str, list[Remark]] = {}
     for remark in sorted(found, key=lambda remark: (remark.source.path, remark.start)):
-        print(text.remark_shown(remark) + "\n")
+        by_path.setdefault(remark.source.path, []).append(remark)
+    for path, remarks in by_path.items():
+        for remark in remarks[:MOST_PRINTED]:
+            print(text.remark_shown(remark) + "\n")
+        if len(remarks) > MOST_PRINTED:
+            print(f"{path}: {len(remarks) - MOST_PRINTED} more; --json writes all\n")
 
 
 def print_summary(documents: list[Checked], rows: Rows | None, every: list[Remark],
@@ -70,10 +80,11 @@ def print_summary(documents: list[Checked], rows: Rows | None, every: list[Remar
         verdict = text.painted("taken", "green") if one.is_sound else text.painted(f"refused, {one.code}", "red")
         print(text.wrapped(f"{one.source.path}: {named}", "", "    ") + f": {verdict}")
     if rows is not None:
+        left = "" if rows.code else f"; {bytes_left(row_lines(rows)):,} bytes of a body are left"
         print(f"{rows.source.path}: {text.counted(len(rows.rows), 'row')}: "
-              + (f"refused, {rows.code}" if rows.code else "taken"))
+              + (f"refused, {rows.code}" if rows.code else "taken") + left)
     counts = [text.counted(sum(remark.level == level for remark in every), level)
               for level in ("fault", "warning", "note")]
     print(", ".join(counts)
-          + ("; the proved program says the same." if found and not found.warning else "."
-             if found is None else "; the program says the same."))
+          + ("; by the model in Python alone." if found is None else "; the proved program says the same."
+             if not found.warning else "; the program says the same."))

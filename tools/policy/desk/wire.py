@@ -10,10 +10,13 @@ import time
 import urllib.parse
 from dataclasses import dataclass
 
+from .model import json_texts
 from .setting import Usage
 
 TOKEN_VARIABLE = "DALVEZOUR_TOKEN"
 SECONDS = 30
+# bytes of a reply: no server of this kind answers more
+MOST_BYTES = 32 << 20
 # waits before a message is sent again that was answered with 503
 WAITS = (0.1, 0.5, 1.0, 2.0)
 HERE = ("127.0.0.1", "::1", "localhost")
@@ -42,10 +45,19 @@ class Reply:
     def code(self) -> str:
         """The code of an error; nothing where the body has none."""
         try:
-            held = json.loads(self.body)
+            held = json_held(self.body)
         except ValueError:
             return ""
         return held["Error"] if isinstance(held, dict) and isinstance(held.get("Error"), str) else ""
+
+
+def json_held(held: bytes) -> object:
+    """The JSON that a server answered; ValueError where it is none, or is nested too deep, or has a longer number,
+    than any of its kind."""
+    try:
+        return json.loads(held, parse_int=json_texts.number)
+    except RecursionError:
+        raise ValueError("nested too deep") from None
 
 
 def is_token(text: str) -> bool:
@@ -79,7 +91,8 @@ def address_of(server: str) -> urllib.parse.SplitResult:
     try:
         found = urllib.parse.urlsplit(server)
         is_plain = not (found.query or found.fragment or found.username) and found.port != 0
-        is_whole = found.scheme in ("http", "https") and bool(found.hostname) and is_plain
+        is_written = all("!" <= letter <= "~" for letter in server)
+        is_whole = found.scheme in ("http", "https") and bool(found.hostname) and is_plain and is_written
     except ValueError:
         is_whole = False
     if not is_whole:
@@ -130,7 +143,11 @@ class Client:
             connection.request(method, self.address.path.rstrip("/") + f"/domains/{self.domain}/{path}",
                                body, fields)
             answer = connection.getresponse()
-            return Reply(answer.status, answer.read())
+            held = answer.read(MOST_BYTES + 1)
+            if len(held) > MOST_BYTES:
+                raise ServerFault(f"{method} {path}: the server answers more than {MOST_BYTES} bytes, as no server of "
+                                  f"this kind does")
+            return Reply(answer.status, held)
         except (OSError, http.client.HTTPException) as fault:
             raise ServerFault(f"{self.server} doesn't answer: {told(fault)}") from None
         finally:
@@ -156,7 +173,7 @@ class Client:
     def value(self, path: str) -> dict:
         """The JSON object that the server shows."""
         try:
-            held = json.loads(self.asked("GET", path).body)
+            held = json_held(self.asked("GET", path).body)
         except ValueError:
             held = None
         if not isinstance(held, dict):

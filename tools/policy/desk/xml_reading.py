@@ -8,6 +8,7 @@ end.
 from __future__ import annotations
 
 import bisect
+import collections
 import re
 from collections.abc import Iterator
 from dataclasses import dataclass, field
@@ -153,6 +154,8 @@ class Reader:
         is_plain = len(source.held) == len(source.text)
         self.byte_starts = None if is_plain else self.starts()
         self.whole, self.open = Whole(source, None), []
+        self.pieces: list[str] = []
+        self.pieces_start = 0
         self.parser = expat.ParserCreate("UTF-8", " ")
         self.parser.ordered_attributes = True
         self.parser.SetParamEntityParsing(expat.XML_PARAM_ENTITY_PARSING_NEVER)
@@ -196,6 +199,7 @@ class Reader:
                        f"At most {MOST_NESTED} elements stand inside one another.")
             raise Stop
         start = self.here()
+        self.end_text()
         tag = TAG.match(self.source.text, start)
         namespace, _, local = name.rpartition(" ")
         found = Element(self.source, namespace, local, start, tag.end(), self.attributes(tag, attributes))
@@ -218,18 +222,24 @@ class Reader:
 
     def ends(self, _: str) -> None:
         """The element that is open ends."""
+        self.end_text()
         found = self.open.pop()
-        found.is_referring = "&#" in self.source.text[found.end:self.here()]
+        found.is_referring = self.source.text.find("&#", found.end, self.here()) >= 0
 
     def text(self, held: str) -> None:
         """A piece of text, which may be one of many."""
-        children = self.open[-1].children
-        if children and isinstance(children[-1], Text) and not children[-1].is_comment:
-            children[-1].text += held
-        else:
-            children.append(Text(held, self.here()))
+        if not self.pieces:
+            self.pieces_start = self.here()
+        self.pieces.append(held)
+
+    def end_text(self) -> None:
+        """The text that came piece by piece ends."""
+        if self.pieces:
+            self.open[-1].children.append(Text("".join(self.pieces), self.pieces_start))
+            self.pieces = []
 
     def comment(self, held: str) -> None:
+        self.end_text()
         found = Text(held, self.here(), True)
         (self.open[-1].children if self.open else self.whole.comments).append(found)
 
@@ -263,11 +273,11 @@ class Reader:
 def placed(element: Element, pointer: str) -> None:
     """Gives the element and all inside it their paths."""
     element.pointer = pointer
-    seen: dict[str, int] = {}
+    counts = collections.Counter(child.name for child in element.elements())
+    seen: collections.Counter[str] = collections.Counter()
     for child in element.elements():
-        seen[child.name] = seen.get(child.name, 0) + 1
-        is_one = len(element.named(child.name)) == 1 if seen[child.name] == 1 else False
-        placed(child, f"{pointer}/{child.name}" + ("" if is_one else f"[{seen[child.name]}]"))
+        seen[child.name] += 1
+        placed(child, f"{pointer}/{child.name}" + ("" if counts[child.name] == 1 else f"[{seen[child.name]}]"))
 
 
 def in_unicode(held: bytes) -> tuple[bytes, str]:

@@ -33,7 +33,7 @@ import machines  # noqa: E402
 import messages  # noqa: E402
 import programs  # noqa: E402
 import serving  # noqa: E402
-from desk import wire  # noqa: E402
+from desk import ask, domain, wire  # noqa: E402
 
 PLACES = (os.environ.get("DESK_PDPD", ""), TOP / "crates" / "pdpd" / "out" / "pdpd", TOP / "build" / "pdpd")
 PDPD = next((str(path) for path in PLACES if path and os.access(path, os.X_OK)), None)
@@ -103,6 +103,16 @@ def places(chosen: range, seconds: float = 8) -> Iterator[int]:
         yield number
         if PDPD is None and time.monotonic() > until:
             return
+
+
+def cases_of(folder: pathlib.Path) -> str | None:
+    """A file of cases with what is asked, as the model decides it; None where the folder has faults."""
+    found, remarks = domain.domain_of(str(folder))
+    if found is None or found.faults() or remarks.faults():
+        return None
+    decided = [(body, ask.by_model(found.setting(), body.encode(), 0)) for body in ASKED]
+    return json.dumps({"Case": [{"Request": json.loads(body), "Decision": json.loads(held)["Response"][0]["Decision"]}
+                                for body, held in decided]})
 
 
 # servers
@@ -231,6 +241,10 @@ class DeployTest(unittest.TestCase):
         if "rows.json" in files:
             held["Rows"] = "rows.json"
         (folder / "domain.json").write_text(json.dumps(held), encoding="utf-8")
+        cases = cases_of(folder) if "Cases" not in more and "cases.json" not in files else None
+        if cases is not None:
+            (folder / "cases.json").write_text(cases, encoding="utf-8")
+            (folder / "domain.json").write_text(json.dumps({**held, "Cases": ["cases.json"]}), encoding="utf-8")
         return str(folder)
 
     def policy(self, *words: str) -> tuple[int, str, str]:

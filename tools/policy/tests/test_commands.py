@@ -47,7 +47,8 @@ class Commands(DeskTest):
     def test_check(self) -> None:
         status, written, said = run("check", "@p.json", files=FILES)
         self.assertEqual((status, written),
-                         (0, "p.json: policy urn:test:shop 1.0: taken\n0 faults, 0 warnings, 0 notes.\n"))
+                         (0, "p.json: policy urn:test:shop 1.0: taken\n"
+                             "0 faults, 0 warnings, 0 notes; by the model in Python alone.\n"))
         self.assertIn("only the model in Python spoke", " ".join(said.split()))
         status, written, _ = run("check", "@p.json", "--json",
                                  files={"p.json": edited(POLICY, ('"Permit"', '"Permitt"'))})

@@ -42,7 +42,7 @@ class Conformance(DeskTest):
     """The cases."""
 
     def test_all_cases(self) -> None:
-        program = PROGRAM.command[0] if PROGRAM is not None and not PROGRAM.is_tried else "none"
+        program = PROGRAM.command[0] if PROGRAM is not None else "none"
         status, written, _ = run("conformance", str(FOLDER), "--json", program=program)
         found = {case["case"]: case["verdict"] for case in json.loads(written)}
         self.assertEqual({name: held for name, held in found.items()

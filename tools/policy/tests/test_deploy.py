@@ -1,16 +1,15 @@
-"""The words that speak with a server, over a real one: from nothing, again, each kind of change, going back,
-fetching, and what is refused."""
+"""The words that speak with a server, over a real one: from nothing, again, each kind of change, going back, and
+fetching."""
 from __future__ import annotations
 
 import json
-import os
 import pathlib
-import socket
 import threading
 import unittest
+import urllib.parse
 from unittest import mock
 
-from .deploy_tests import ADMIN, ASKED, ASKS, LEAST, DeployTest, policy, policy_set, row, rows, serving
+from .deploy_tests import ADMIN, ASKED, LEAST, DeployTest, policy, policy_set, row, rows, serving
 from .desk_tests import PROGRAM
 
 P1, P2, Q1, Q2 = (policy(f"urn:{name}", version, name + version) for name in "pq" for version in "12")
@@ -36,7 +35,7 @@ class Changes(DeployTest):
         self.deployed(self.written(old, roots[0]))
         folder = self.written(new, roots[1])
         self.whole_change(lambda: self.deployed(folder, "--only-whole", *words))
-        self.assertIn("Nothing is to be done.", self.deployed(folder))
+        self.assertIn("Nothing else was to be done.", self.deployed(folder))
         return folder
 
     def change_and_back(self, *given: object, **more: object) -> None:
@@ -57,8 +56,8 @@ class Changes(DeployTest):
         self.whole_change(lambda: self.deployed(folder, "--only-whole"))
         self.assertEqual(self.listed(), {("urn:p", "1"): True, ("urn:q", "1"): True, ("urn:s", "1"): True})
         with self.between(lambda number: None) as count:
-            self.assertIn("Nothing is to be done.", self.deployed(folder))
-        self.assertLess(count[0], 8)
+            self.assertIn("Nothing else was to be done.", self.deployed(folder))
+        self.assertLess(count[0], 10)
         status, written, _ = self.policy("status", "--strict", folder)
         self.assertEqual(status, 0)
         self.assertIn("is what runs there", written)
@@ -188,6 +187,39 @@ class Words(DeployTest):
         self.assertEqual(status, 4)
         self.assertIn("was deleted", said)
 
+    def test_rollback_to_another_text(self) -> None:
+        """What was deleted since, and is there again with other text, isn't what was deployed then."""
+        self.deployed(self.written(files(P1), "urn:p"))
+        folder = self.written(files(Q1), "urn:q")
+        self.deployed(folder, "--prune")
+        other = serving.message("POST", f"/domains/{self.name}/pap/policies", ADMIN, P1.replace("Permit", "Deny"))
+        self.running.sent(other)
+        before = self.asks(), self.listed()
+        status, _, said = self.policy("rollback", "--yes", folder)
+        self.assertEqual(status, 4)
+        self.assertIn("is there with other text", " ".join(said.split()))
+        self.assertEqual((self.asks(), self.listed()), before)
+
+    def test_pull_of_ids_that_are_paths(self) -> None:
+        """Nothing is written outside the folder."""
+        at = f"/domains/{self.name}/pap"
+        ids = ["../../../above", "a/b/../../..", "/absolute", "..", ".", "a\\..\\b", "../domain.json", "rows.json",
+               "\x1b[2J"]
+        for number, name in enumerate(ids, 1):
+            self.running.sent(
+                serving.message("POST", f"{at}/policies", ADMIN, policy(name, str(number), "x")),
+                serving.message("PUT", f"{at}/policy/{urllib.parse.quote(name, safe='')}/{number}/active", ADMIN))
+        there = self.folder / "around" / "there"
+        status, written, said = self.policy("pull", str(there), "--server", f"http://127.0.0.1:{self.running.port}",
+                                            "--domain", self.name)
+        self.assertEqual(status, 0, written + said)
+        held = {path for path in self.folder.rglob("*") if path.is_file()}
+        self.assertEqual({path.parent for path in held}, {there})
+        found = [json.loads(path.read_text())["Policy"]["PolicyId"] for path in held
+                 if path.name not in ("domain.json", "rows.json", "cases.json")]
+        self.assertEqual(sorted(found), sorted(ids))
+        self.assertEqual(self.policy("pull", str(there))[0], 0)
+
     def test_pull(self) -> None:
         held = rows(row("alice", "urn:a"), row("\u00e4lice", "urn:a", '"\\'))
         root = {"PolicySetIdReference": {"Id": "urn:s", "Version": "2", "LatestVersion": "2"}}
@@ -199,7 +231,7 @@ class Words(DeployTest):
         self.assertEqual(status, 0)
         self.assertIn("1 document not active", written)
         self.assertEqual(sorted(path.name for path in there.iterdir()),
-                         ["domain.json", "p-2.json", "q-2.json", "rows.json", "s-2.json"])
+                         ["cases.json", "domain.json", "p-2.json", "q-2.json", "rows.json", "s-2.json"])
         self.assertEqual((there / "p-2.json").read_text(), P2)
         self.assertEqual(json.loads((there / "domain.json").read_text())["Root"], root)
         self.assertEqual(self.policy("status", "--strict", str(there))[0], 0)
@@ -216,7 +248,7 @@ class Words(DeployTest):
                 serving.message("PUT", f"{at}/policy/urn:p/1/active", ADMIN),
                 serving.message("PUT", f"{at}/root", ADMIN, '{"PolicyIdReference":{"Id":"urn:p"}}')]
         self.running.sent(*made)
-        folder = self.written(files(P1, P2), "urn:p")
+        folder = self.written(files(P1, P2), "urn:p", Cases=[])
         written = self.policy("diff", "--live", folder)[1]
         self.assertIn("What the root is now isn't known", written)
         self.assertIn("Which answers change isn't known",
@@ -224,7 +256,7 @@ class Words(DeployTest):
         self.deployed(folder, "--only-whole", status=1)
         self.assertIn("5 answers change", self.policy("diff", "--live", folder, "--random", "5",
                                                       "--live-root", "urn:p")[1])
-        self.assertIn("The root isn't known", self.policy("pull", str(self.folder / "pulled"), "--server",
+        self.assertIn("root: policy urn:p 1 (by answers)", self.policy("pull", str(self.folder / "pulled"), "--server",
                                                           f"http://127.0.0.1:{self.running.port}",
                                                           "--domain", self.name)[1])
         self.whole(lambda: self.deployed(folder, "--only-whole", "--live-root", "urn:p"))
@@ -282,15 +314,24 @@ class Words(DeployTest):
         self.assertEqual(status, 0)
         self.assertIn("by model and program", written)
 
-    def test_records_are_few(self) -> None:
-        folder = self.written(files(P1, rows=rows(*(row(f"{number}" * 40, "urn:a")
-                                                    for number in range(700)))), "urn:p")
-        self.deployed(folder)
-        for number in range(8):
-            self.deployed(self.written(files(P1, rows=rows(row(str(number), "urn:a"))), "urn:p"))
+    def parts_of_records(self) -> int:
+        """How many documents records have."""
         found = self.running.sent(serving.message("GET", f"/domains/{self.name}/pap/policies", ADMIN))[0]
-        self.assertEqual(found.count(b"urn:dalvezour:deployment"), 8)
-        self.assertEqual(self.policy("rollback", "--yes", folder)[0], 0)
+        return found.count(b"urn:dalvezour:deployment")
+
+    def test_records_are_few(self) -> None:
+        """Twenty are kept, or as many as the folder says; one before them all is gone back to."""
+        self.deployed(self.written(files(P1, rows=rows(*(row(f"{number}" * 40, "urn:a")
+                                                         for number in range(700)))), "urn:p"))
+        for number in range(23):
+            folder = self.written(files(P1, rows=rows(row(str(number), "urn:a"))), "urn:p")
+            self.deployed(folder)
+        self.assertEqual(self.parts_of_records(), 40)
+        self.assertEqual(self.policy("rollback", "--yes", "--to", "6", folder)[0], 0)
+        self.deployed(self.written(files(P1, rows=rows(row("z", "urn:a"))), "urn:p", Keep=3))
+        self.assertEqual(self.parts_of_records(), 6)
+        for wrong in (1, 401, "3", 2.5, True):
+            self.deployed(self.written(files(P1), "urn:p", Keep=wrong), status=1)
 
     def test_a_full_domain(self) -> None:
         full = [serving.message("POST", f"/domains/{self.name}/pap/policies", ADMIN,
@@ -299,64 +340,16 @@ class Words(DeployTest):
         written = self.deployed(self.written(files(P1), "urn:p"), status=4)
         self.assertIn("are its room", " ".join(written.split()))
 
-
-class Refused(DeployTest):
-    """Tokens, and servers that aren't there or are none."""
-
-    def test_tokens(self) -> None:
-        folder = self.written(files(P1), "urn:p")
-        for token, status, words in (("wrong-token-1", 4, "401 Unauthorized"), (ASKS, 4, "403 Forbidden"),
-                                     ("short", 2, "holds no token")):
-            with mock.patch.dict(os.environ, {"DALVEZOUR_TOKEN": token}):
-                for given in (["deploy", "--yes"], ["status"], ["diff", "--live"], ["rollback", "--yes"],
-                              ["pull"]):
-                    found, written, said = self.policy(*given, folder)
-                    self.assertEqual(found, status, written + said)
-                    self.assertIn(words, said)
-                    self.assertNotIn(token, written + said.replace("holds no token", ""))
-        with mock.patch.dict(os.environ):
-            del os.environ["DALVEZOUR_TOKEN"]
-            self.assertEqual(self.policy("status", folder)[0], 2)
-            path = pathlib.Path(folder, "token")
-            path.write_text(ADMIN + "\nmore")
-            self.assertEqual(self.policy("status", "--token-file", str(path), folder)[0], 0)
-            self.assertEqual(self.policy("status", "--token-file", "/no/such", folder)[0], 2)
-
-    def at(self, server: str, *words: str) -> tuple[int, str]:
-        """The status of a deployment there, and what is said."""
-        folder = self.written(files(P1), "urn:p", Server=server)
-        found, written, said = self.policy("deploy", "--yes", *words, folder)
-        return found, written + said
-
-    def test_servers_that_are_none(self) -> None:
-        self.assertIn("Connection refused", self.at(f"http://127.0.0.1:{serving.free_port()}")[1])
-        for server in ("127.0.0.1:8080", "ftp://127.0.0.1", "http://127.0.0.1:x", "http://user@127.0.0.1"):
-            self.assertEqual(self.at(server)[0], 2, server)
-        for held in (b"", b"hello\r\n\r\n", b"HTTP/1.1 200 OK\r\nContent-Length: 2\r\n\r\n[]",
-                     b"HTTP/1.1 302 Found\r\nLocation: /\r\nContent-Length: 0\r\n\r\n",
-                     b"HTTP/1.1 200 OK\r\nContent-Length: 13\r\n\r\n{\"Policy\":[1]}",
-                     b"HTTP/1.1 200 OK\r\nContent-Length: 99\r\n\r\n{}"):
-            with socket.create_server(("127.0.0.1", 0)) as listening:
-                thread = threading.Thread(target=self.answer, args=(listening, held))
-                thread.start()
-                status, said = self.at(f"http://127.0.0.1:{listening.getsockname()[1]}")
-                thread.join()
-                self.assertEqual(status, 4, said)
-        with socket.create_server(("127.0.0.1", 0)) as listening:
-            status, said = self.at(f"http://127.0.0.1:{listening.getsockname()[1]}", "--timeout", "0.2")
-            self.assertEqual(status, 4)
-            self.assertIn("no answer came in time", said)
-
-    def answer(self, listening: socket.socket, held: bytes) -> None:
-        """Answers one connection with these bytes."""
-        connection, _ = listening.accept()
-        with connection:
-            connection.recv(65_536)
-            connection.sendall(held)
-
-    def test_a_token_that_others_can_read(self) -> None:
-        said = self.at("http://192.0.2.1:9", "--timeout", "0.1")[1]
-        self.assertIn("isn't reached by TLS", said)
+    def test_a_domain_that_is_full_of_records(self) -> None:
+        """Old ones are forgotten first, where there is no room else."""
+        for number in range(3):
+            self.deployed(self.written(files(P1, rows=rows(row(str(number), "urn:a"))), "urn:p"))
+        full = [serving.message("POST", f"/domains/{self.name}/pap/policies", ADMIN,
+                                policy("urn:x", f"1.{number}", "x")) for number in range(1_017)]
+        self.running.sent(*full)
+        self.deployed(self.written(files(P1, rows=rows(row("z", "urn:a"))), "urn:p"), status=4)
+        self.deployed(self.written(files(P1, rows=rows(row("z", "urn:a"))), "urn:p", Keep=2))
+        self.assertEqual(self.parts_of_records(), 4)
 
 
 if __name__ == "__main__":

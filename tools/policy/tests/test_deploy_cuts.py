@@ -14,7 +14,7 @@ from unittest import mock
 from .deploy_tests import ADMIN, TOOL, Cut, DeployTest, places, policy, row, rows, serving
 from .test_deploy import P1, P2, PINNED1, PINNED2, Q1, Q2, SET_ROOT, files
 
-from desk import wire  # noqa: E402
+from desk import records, setting, wire  # noqa: E402
 from desk.deploying import Deployment  # noqa: E402
 
 OLD, NEW = files(PINNED1, P1, Q1), files(PINNED2, P2, Q2)
@@ -59,7 +59,7 @@ class Cuts(DeployTest):
             for answer, *both in zip(answers, before, after):
                 self.assertIn(answer, both)
         self.assertEqual(self.asks(), after)
-        self.assertIn("Nothing is to be done.", self.deployed(folder))
+        self.assertIn("Nothing else was to be done.", self.deployed(folder))
 
     def test_a_client_that_is_killed(self) -> None:
         """Behind each request."""
@@ -148,19 +148,38 @@ class Cuts(DeployTest):
     def test_back_after_a_cut(self) -> None:
         """A rollback of a deployment that was cut goes to the last one that is finished."""
         _, before, _ = self.wanted("root")
-        for number in places(range(7, 29, 3)):
+        for number in places(range(9, 29, 3)):
             with self.subTest(number):
                 self.killed_at(number, "root")
-                folder = str(self.folder / "at")
-                self.assertEqual(self.policy("rollback", "--yes", folder)[0], 4)
-                back = ("rollback", "--yes", "--only-whole", "--take-over", folder)
-                self.whole(lambda: self.assertEqual(self.policy(*back)[0], 0))
+                back = ("rollback", "--yes", "--only-whole", str(self.folder / "at"))
+                with mock.patch.object(records, "by_whom", lambda: "another@elsewhere"):
+                    status, _, said = self.policy(*back)
+                self.assertEqual(status, 4)
+                self.assertIn("isn't finished", " ".join(said.split()))
+                self.whole(lambda: self.went_back(*back, why="it is of "))
                 self.assertEqual(self.asks(), before)
+
+    def test_back_after_a_cut_of_long_ago(self) -> None:
+        """Of whoever it is."""
+        _, before, _ = self.wanted("root")
+        long_ago = setting.moment_shown(int(time.time()) - 3700)
+        with mock.patch.object(records, "now", lambda: long_ago):
+            self.killed_at(15, "root")
+        back = ("rollback", "--yes", "--only-whole", str(self.folder / "at"))
+        with mock.patch.object(records, "by_whom", lambda: "another@elsewhere"):
+            self.whole(lambda: self.went_back(*back, why="it was begun more than an hour ago"))
+        self.assertEqual(self.asks(), before)
+
+    def went_back(self, *words: str, why: str) -> None:
+        """A rollback, whose plan says why the other deployment is taken as cut."""
+        status, written, said = self.policy(*words)
+        self.assertEqual(status, 0, written + said)
+        self.assertIn(f"isn't finished and is taken as cut: {why}", " ".join(written.split()))
 
     def test_another_folder_after_a_cut(self) -> None:
         """Which root the cut deployment left isn't known: both are reckoned with."""
         roots = [{"PolicySetIdReference": {"Id": "urn:s", "Version": version}} for version in "12"]
-        for number in places(range(7, 29, 2)):
+        for number in places(range(9, 29, 2)):
             with self.subTest(number):
                 self.made(f"{self.name.partition('-')[0]}-{number}")
                 self.deployed(self.written(OLD, roots[0]))
@@ -301,6 +320,8 @@ class AtOnce(DeployTest):
         with self.between(other):
             said = self.deployed(folder, status=4)
         self.assertIn("policy urn:p 1 is withdrawn", " ".join(said.split()))
+        # it has made changes, so that its record stays and tells of them
+        self.assertIn("isn't finished", " ".join(self.policy("status", folder)[1].split()))
         self.deployed(folder)
 
     def test_nothing_is_left_of_one_that_is_told_at_once(self) -> None:

@@ -19,8 +19,7 @@ from drafts import Drafts  # noqa: E402
 COUNT, SHARE = 2000, 100
 # random requests on each document
 REQUESTS = 20
-# `rt try` would compile the program for each share of the documents
-ASKED = None if PROGRAM is None or PROGRAM.is_tried else PROGRAM
+ASKED = PROGRAM
 
 
 @dataclass

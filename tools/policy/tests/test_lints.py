@@ -4,6 +4,7 @@ from __future__ import annotations
 
 import json
 import random
+import re
 import unittest
 
 from .desk_tests import POLICY, ROWS, DeskTest, check, checked, edited, lints, run, together
@@ -159,6 +160,39 @@ class Lints(DeskTest):
         held = policy([rule("r", "Permit", Target=target([[A]])),
                        rule("s", "Permit", Target=target([[match("integer-equal", "integer", 1)]]))])
         self.remark(checked(held).remarks, "other-type", held.rindex('"integer"'), "as a string", level="warning")
+
+    def test_a_one_and_only_of_several_values_or_none(self) -> None:
+        """By the rows at hand, issuers looked at; through a variable too."""
+        def held(*found: tuple[str, str, str | None]) -> str:
+            return json.dumps({"Row": [{"Category": "AccessSubject", "Entity": entity, "AttributeId": attribute,
+                                        "DataType": "string", "Value": f"{entity} {place}",
+                                        **({"Issuer": issuer} if issuer else {})}
+                                       for place, (entity, attribute, issuer) in enumerate(found)]})
+        name = "urn:test:name"
+        start = POLICY.index('{"FunctionId": "urn:oasis:names:tc:xacml:1.0:function:string-one-and-only"')
+        twice = held(("a", name, None), ("a", name, None))
+        for rows, words in (
+                (held(("carla", name, None), ("carla", name, "hr"), ("ben", name, None)), ["carla has 2 values"]),
+                (held(("ben", name, None), ("carla", "urn:other", None)), ["carla has none"]),
+                (held(*((who, name, None) for who in "aabbccdde")), ["a, b, c and 1 more have several values"]),
+                (held(("a", name, None), ("a", name, None), ("b", "urn:other", None)),
+                 ["a has 2 values and b has none"])):
+            found = checked(POLICY, (), rows)
+            remark = [one for one in found.remarks.found if one.code == "not-one-value"]
+            self.assertEqual([(one.level, one.start) for one in remark], [("warning", start)])
+            for word in [*words, "string-is-in"]:
+                self.assertIn(word, remark[0].sentence)
+        fine = held(("ben", name, None), ("carla", name, None)), held(("carla", "urn:other", None)), held()
+        of_hr = edited(POLICY, ('"urn:test:name", "DataType"', '"urn:test:name", "Issuer": "hr", "DataType"'))
+        for text, rows in (*((POLICY, rows) for rows in fine),
+                           (of_hr, held(("carla", name, "hr"), ("carla", name, "own")))):
+            self.assertNotIn("not-one-value", self.codes(text, (), rows))
+        self.assertNotIn("not-one-value", self.codes(POLICY, ("not-one-value",), twice))
+        shape = r'{"AttributeDesignator": {"Category": "AccessSubject", "AttributeId": "urn:test:name"[^}]*}}'
+        asked = re.search(shape, POLICY)[0]
+        named = edited(POLICY, (asked, '{"VariableReference": {"VariableId": "who"}}'), (
+            '"VariableDefinition": [', f'"VariableDefinition": [{{"VariableId": "who", "Expression": {asked}}}, '))
+        self.assertIn("not-one-value", self.codes(named, (), twice))
 
     def test_members_that_stand_twice(self) -> None:
         held = edited(POLICY, ('"Version": "1.0",', '"Version": "1.1",\n  "Version": "1.0",'))

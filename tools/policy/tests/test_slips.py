@@ -78,9 +78,23 @@ class Slips(DeskTest):
         held = edited(POLICY, NO_ONE_AND_ONLY)
         remark = self.remark(checked(held).remarks, "IllTyped(WrongType)",
                              held.index('{"Category": "AccessSubject", "AttributeId": "urn:test:name"'),
-                             "a bag of string; wrap it in string-one-and-only")
+                             "write string-is-in, with the value first, or any-of")
         self.assertEqual((remark.expected, remark.found),
-                         ("a string", "a bag of string; wrap it in string-one-and-only"))
+                         ("a string", "a bag of string; an attribute may have several values, or none: write "
+                                      "string-is-in, with the value first, or any-of; only if it has exactly one each "
+                                      "time, wrap it in string-one-and-only"))
+        behind = '",\n       "Expression"'
+        held = edited(held, (FUNCTION + "string-equal" + behind, FUNCTION + "string-greater-than" + behind))
+        self.remark(checked(held).remarks, "IllTyped(WrongType)",
+                    held.index('{"Category": "AccessSubject", "AttributeId": "urn:test:name"'),
+                    "or none: write any-of; only")
+
+    def test_a_forgotten_one_and_only_of_three_arguments(self) -> None:
+        one = ('{"Apply": {"FunctionId": "urn:oasis:names:tc:xacml:1.0:function:time-one-and-only",\n'
+               '                   "Expression": [')
+        held = edited(POLICY, (one, ""), ('"MustBePresent": true}}]}},\n', '"MustBePresent": true}},\n'))
+        self.remark(checked(held).remarks, "IllTyped(WrongType)",
+                    held.index('{"Category": "Environment"'), "wrap it in time-one-and-only")
 
     def test_an_integer_where_a_function_takes_a_time(self) -> None:
         held = edited(POLICY, ('{"DataType": "time", "Value": "09:00:00Z"}', '{"DataType": "integer", "Value": 9}'))
@@ -138,7 +152,7 @@ class Slips(DeskTest):
         status, written, _ = run("ask", "--policy", "@p.json", "--root", "urn:test:shp", "--request", "@r.json", "--at",
                                  "0", files={"p.json": POLICY, "r.json": REQUEST})
         self.assertEqual(status, 1)
-        self.assertIn("p.json:1:1: fault leads-nowhere", written)
+        self.assertIn("--root:1:1: fault leads-nowhere", written)
         self.assertIn("Did you mean urn:test:shop?", " ".join(written.split()))
         self.assertIn("Indeterminate  status processing-error", written)
 

@@ -1,0 +1,97 @@
+"""The desk as one file: outside the clone, on each Python that is there, against a running server."""
+from __future__ import annotations
+
+import os
+import pathlib
+import re
+import shutil
+import subprocess
+import sys
+import tempfile
+import unittest
+
+from .deploy_tests import ADMIN, DeployTest
+from .desk_tests import TOOL, TOP
+from .test_deploy import P1, files
+
+LEAST = (3, 9)
+
+
+def pythons() -> list[str]:
+    """The interpreters that are there and new enough: this one, the system's and those of pyenv."""
+    root = pathlib.Path(os.environ.get("PYENV_ROOT", pathlib.Path.home() / ".pyenv"))
+    paths = [sys.executable, "/usr/bin/python3", *map(str, sorted(root.glob("versions/*/bin/python3")))]
+    found: dict[str, str] = {}
+    for path in paths:
+        if os.access(path, os.X_OK):
+            words = [path, "-c", "import sys; print(*sys.version_info[:3])"]
+            told = subprocess.run(words, capture_output=True, text=True, check=False).stdout.split()
+            if tuple(map(int, told[:2])) >= LEAST:
+                found.setdefault(".".join(told), path)
+    return list(found.values())
+
+
+class Packed(DeployTest):
+    """The one file."""
+
+    @classmethod
+    def setUpClass(cls) -> None:
+        super().setUpClass()
+        cls.room = pathlib.Path(tempfile.mkdtemp(prefix="desk-packed-"))
+        cls.addClassCleanup(shutil.rmtree, cls.room)
+        cls.file = cls.room / "policy.pyz"
+        subprocess.run([sys.executable, TOOL / "pack.py", cls.file], check=True, capture_output=True)
+        shutil.copytree(TOP / "examples" / "ward", cls.room / "ward")
+
+    def ran(self, python: str, *words: str) -> subprocess.CompletedProcess:
+        """A run of the file where nothing of the clone is at hand."""
+        environment = {"PATH": "/usr/bin:/bin", "HOME": str(self.room), "DALVEZOUR_TOKEN": ADMIN}
+        return subprocess.run([python, str(self.file), *words], cwd=self.room, env=environment, capture_output=True,
+                              text=True, stdin=subprocess.DEVNULL, check=False)
+
+    def test_on_each_python(self) -> None:
+        for python in pythons():
+            with self.subTest(python):
+                told = self.ran(python, "--version")
+                self.assertRegex(told.stdout, r"^policy [0-9.]+, packed of [0-9a-f]{16}, Python 3[0-9.]+\n$",
+                                 told.stderr)
+                cases = self.ran(python, "test", "ward/cases.json")
+                self.assertIn("5 cases: 5 ok, 0 failed, by the model alone", cases.stdout, cases.stderr)
+
+    def test_its_words(self) -> None:
+        """Those that need a clone say so."""
+        checked = self.ran(sys.executable, "check", "ward/policy.json", "--rows", "ward/rows.json")
+        self.assertEqual(checked.returncode, 0, checked.stderr)
+        self.assertIn("by the model in Python alone", checked.stdout)
+        self.assertIn("`--program PATH` names a program that answers too", " ".join(checked.stderr.split()))
+        page = (TOOL / "README.md").read_text(encoding="utf-8")
+        self.assertEqual(self.ran(sys.executable, "page").stdout, page + "\n")
+        built = self.ran(sys.executable, "build")
+        self.assertEqual((built.returncode, "has no sources" in built.stdout), (1, True))
+        tried = self.ran(sys.executable, "check", "--program", "try", "ward/policy.json")
+        self.assertEqual(tried.returncode, 3)
+        self.assertIn("has no sources", " ".join(tried.stderr.replace("!", "").split()))
+
+    def test_a_deployment(self) -> None:
+        folder = self.written(files(P1), "urn:p")
+        for words in (("deploy", "--yes"), ("status", "--strict"), ("diff", "--live", "--strict")):
+            done = self.ran(sys.executable, *words, folder)
+            self.assertEqual(done.returncode, 0, done.stdout + done.stderr)
+        self.assertIn("is what runs there", done.stdout)
+        self.assertEqual(self.listed(), {("urn:p", "1"): True})
+
+    def test_the_same_bytes(self) -> None:
+        other = self.room / "again.pyz"
+        subprocess.run([sys.executable, TOOL / "pack.py", other], check=True, capture_output=True)
+        self.assertEqual(other.read_bytes(), self.file.read_bytes())
+        self.assertTrue(os.access(other, os.X_OK))
+
+    def test_the_version(self) -> None:
+        """It is that of pdpd."""
+        held = (TOP / "crates" / "pdpd" / "src" / "help.rt").read_text(encoding="utf-8")
+        version = re.search(r'VERSION: &str = "pdpd ([0-9.]+)"', held)[1]
+        self.assertTrue(self.ran(sys.executable, "--version").stdout.startswith(f"policy {version}, "))
+
+
+if __name__ == "__main__":
+    unittest.main()
