@@ -7,13 +7,16 @@ SHELL := bash
 NAME ?= $(word 2,$(MAKECMDGOALS))
 crate = $(or $(NAME),$(error make $@ NAME: the name of a crate is missing, one of $(notdir $(wildcard crates/*))))
 
-.PHONY: help run test prove pdpd try check api memory edits fmt rows pages agreement author-test bench dist install deploy-test
+.PHONY: help run serve test prove pdpd try check api memory edits fmt rows pages agreement author-test policy-file bench dist install deploy-test
 
 help:
 	@awk -F ':.*## ' '/^[a-z-]+:.*## / { printf "  make %-12s %s\n", $$1 ($$1 ~ /^(try|check|edits)$$/ ? " NAME" : ""), $$2 }' Makefile
 
-run: ## serves the ward's example over a file, asks it by curl, and again after a restart; where pdpd isn't built, it is compiled first, without proof
-	@examples/ward/walk
+run: ## serves the ward's example over a file, asks it by curl, and again after a restart; leaves the program in build/pdpd, compiled without proof where it isn't built
+	@examples/ward/walk $(PROGRAM)
+
+serve: ## serves the ward's example at 127.0.0.1:8080 over build/ward.db, until it is stopped; builds the program as `make run` does
+	@examples/ward/walk --stay $(PROGRAM)
 
 test: ## all tests, in minutes: over the proved programs, where they are built of these very sources, else over what is compiled without proof
 	@tests/all.py
@@ -63,14 +66,17 @@ author-test: ## tests the policy author's desk (tools/policy/policy.py); proves 
 	tools/policy/policy.py build
 	tools/policy/test.py
 
+policy-file: ## packs the policy author's desk as one file that Python from 3.9 runs: build/policy.pyz
+	@tools/policy/pack.py
+
 bench: pdpd ## proves and builds pdpd, and runs all benchmarks but bench/gate.py, bench/heads, bench/units.py, bench/deploy.py and bench/casbin.py
 	bench/all
 
-dist: ## packs the proved program, the kit for several of them behind HAProxy, and their pages: build/pdpd-VERSION.tar.gz
-	@deploy/dist.py
+dist: ## packs the proved program, or PROGRAM=PATH, the kit for several of them behind HAProxy, the author's desk, and their pages: build/pdpd-VERSION.tar.gz
+	@deploy/dist.py $(if $(PROGRAM),--program $(PROGRAM))
 
 install: ## the same, and installs it under PREFIX (/usr/local)
-	@deploy/dist.py --install $(or $(PREFIX),/usr/local)
+	@deploy/dist.py $(if $(PROGRAM),--program $(PROGRAM)) --install $(or $(PREFIX),/usr/local)
 
-deploy-test: ## tries that kit with HAProxy, runit and the proved program (docs/guide/OPERATING.md); takes the rights of root
-	@tests/deploy.py
+deploy-test: ## tries that kit with HAProxy, runit and the proved program, or PROGRAM=PATH (docs/guide/OPERATING.md); takes the rights of root
+	@tests/deploy.py $(PROGRAM)

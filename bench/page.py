@@ -18,7 +18,7 @@ TOP = pathlib.Path(__file__).resolve().parent.parent
 sys.path += [str(TOP / "bench"), str(TOP / "tests")]
 
 from gate import version  # noqa: E402
-from prove import machine  # noqa: E402
+from kit import machine  # noqa: E402
 
 PAGE, WRITES = TOP / "docs" / "PERFORMANCE.md", "--write" in sys.argv[1:]
 

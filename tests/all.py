@@ -1,7 +1,8 @@
 #!/usr/bin/env python3
 """Runs all tests: every stored row, the stored transcript, a comparison of 2,000 random rows with the model, the real
-program from outside, both programs with each allocation refused in turn, the policy author's desk, whether each wrong
-body still applies, and whether what is generated in the pages is right. The last line is 'N passed, M failed'; each
+program from outside, both programs with each allocation refused in turn, the policy author's desk, the CI gate with
+kits of different abilities, whether each wrong body still applies, and whether what is generated in the pages is right.
+The last line is 'N passed, M failed'; each
 answer and each check counts as one.
 
 usage: tests/all.py             over the programs that are proved and built of these very sources; where one
@@ -11,6 +12,7 @@ usage: tests/all.py             over the programs that are proved and built of t
 import os
 import pathlib
 import re
+import signal
 import subprocess
 import sys
 import tempfile
@@ -28,7 +30,8 @@ import programs  # noqa: E402
 
 # Rows of one run of the program, and of one comparison with the model; the comparisons together have 2,000.
 ROWS_A_RUN, ROWS_COMPARED, COMPARISONS = 250, 250, 8
-SECONDS = 1800
+# How long a step may take by the clock, and a run of the program of the processor's time.
+SECONDS, PROCESSOR_SECONDS = 1800, 120
 SURROUNDINGS = {**os.environ, "PYTHONDONTWRITEBYTECODE": "1"}
 
 printing = threading.Lock()
@@ -71,10 +74,11 @@ def outcome_of(command, count=count_of_last_line, **how):
 
 def output_of(program, words, data):
     """What a program writes to those bytes, and what is wrong with its end, if something is."""
-    words = [program.path.result(), *words]
+    words = ["sh", "-c", f'ulimit -S -t {PROCESSOR_SECONDS}; exec "$@"', "sh", program.path.result(), *words]
     result = subprocess.run(words, input=data, capture_output=True, timeout=SECONDS, check=False)
-    fault = f"{program.name} ended with status {result.returncode}: {result.stderr.decode(errors='replace')[-500:]}"
-    return result.stdout, fault if result.returncode else ""
+    why = (f"took over {PROCESSOR_SECONDS} s of the processor's time" if result.returncode == -signal.SIGXCPU
+           else f"ended with status {result.returncode}: {result.stderr.decode(errors='replace')[-500:]}")
+    return result.stdout, f"{program.name} {why}" if result.returncode else ""
 
 
 def beginning(lines, at):
@@ -138,6 +142,11 @@ def memory(pdpd, xa_trials):
     return outcome_of(["tests/memory.py", pdpd.path.result(), xa_trials.path.result()])
 
 
+def guide(pdpd, xa_trials):
+    """What the guide shows, over both programs."""
+    return outcome_of(["tests/guide.py", pdpd.path.result(), xa_trials.path.result()])
+
+
 def count_of_unittest(text):
     """How many tests passed and failed, by the last lines of Python's unittest."""
     every = re.search(r"^Ran (\d+) tests? in", text, re.M)
@@ -192,9 +201,11 @@ def all_steps(pdpd, xa_trials):
     yield [("xa_trials", xa_trials.find)]
     static = [(name, outcome_of, [f"tests/{name}.py"]) for name in ("edits", "columns", "comments", "pages")]
     yield [*static, ("worked examples, by the model", model_alone)]
+    yield [("tests/kits.py", outcome_of, ["tests/kits.py"])]
     yield [("tests/rows/write.py", outcome_of, ["tests/rows/write.py", "--stored"])]
     yield [("tests/program.py", outside, pdpd, "program")]
     yield [("tests/memory.py", memory, pdpd, xa_trials)]
+    yield [("tests/guide.py", guide, pdpd, xa_trials)]
     others = [(f"tests/{name}.py", outside, pdpd, name) for name in ("api", "serve", "tables")]
     yield [("stored transcript", transcript, pdpd), *others]
     for path in sorted((TOP / "tools" / "policy" / "tests").glob("test_*.py")):

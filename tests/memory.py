@@ -21,63 +21,13 @@ import time
 sys.dont_write_bytecode = True
 import programs  # noqa: E402
 from growths import FAILING, TOP, Replay, Rows, by_model, compiled, entries, in_turn, not_asked, script  # noqa: E402
+from held import COUNTING, faults_of_routes, faults_of_values, most_and_left  # noqa: E402
 from serving import OPERATOR, UNAVAILABLE, decided, making, message  # noqa: E402
-
-# The most bytes that are held at once, told at the end.
-COUNTING = r"""
-#define _GNU_SOURCE
-#include <dlfcn.h>
-#include <malloc.h>
-#include <stdio.h>
-#include <stdlib.h>
-
-static size_t held, most;
-
-static void *taken(void *place) {
-    held += malloc_usable_size(place);
-    if (held > most) most = held;
-    return place;
-}
-
-void *malloc(size_t size) {
-    static void *(*next)(size_t);
-    if (!next) next = dlsym(RTLD_NEXT, "malloc");
-    return taken(next(size));
-}
-
-void *realloc(void *old, size_t size) {
-    static void *(*next)(void *, size_t);
-    if (!next) next = dlsym(RTLD_NEXT, "realloc");
-    size_t before = malloc_usable_size(old);
-    void *place = next(old, size);
-    if (place || !size) held -= before;
-    return place ? taken(place) : place;
-}
-
-void free(void *place) {
-    static void (*next)(void *);
-    if (!next) next = dlsym(RTLD_NEXT, "free");
-    held -= malloc_usable_size(place);
-    next(place);
-}
-
-__attribute__((destructor)) static void tell(void) {
-    fprintf(stderr, "%zu\n", most);
-}
-"""
 
 MIB = 2 ** 20
 # What may be held at once for a few messages, and what more for an entry of 1 MiB: its bytes twice, as they were read
 # and as its connection holds them, the latter in a list that doubles.
 MOST_HELD, MOST_OF_AN_ENTRY = MIB, 5 * MIB
-
-
-def most_held(program, library, transcript):
-    """The most bytes that a run over a transcript holds at once."""
-    how = {"stdout": subprocess.DEVNULL, "stderr": subprocess.PIPE, "check": True}
-    ran = subprocess.run([program, "replay", OPERATOR], input=transcript,
-                         env={**os.environ, "LD_PRELOAD": library}, **how)
-    return int(ran.stderr.split()[-1])
 
 
 def figures(program, library):
@@ -86,8 +36,8 @@ def figures(program, library):
     transcript = (TOP / "crates/pdpd/stdin").read_bytes()
     transcript += b"".join(heading + b"\n" + held + b"\n" for heading, held in entries(transcript)[-1:]) * 2
     short = b"GET / HTTP/1.1\r\n\r\n" * (MIB // 18)
-    few, many = (most_held(program, library, transcript),
-                 most_held(program, library, transcript + b"7 0 %d\n%s\n" % (len(short), short)))
+    few, many = (most_and_left(program, library, given)[0]
+                 for given in (transcript, transcript + b"7 0 %d\n%s\n" % (len(short), short)))
     print(f"tests/memory.py: {few} bytes are held at once, and {many} with an entry of {len(short) // 18} messages")
     return [] if few <= MOST_HELD and many <= few + MOST_OF_AN_ENTRY else ["more is held at once than is wanted"]
 
@@ -187,7 +137,8 @@ def main():
             + [(0, message("POST", "/domains/acme/pdp", "acme-token-1", '{"Request":{}}'))] * 2)
     with tempfile.TemporaryDirectory() as folder:
         library = compiled(FAILING, f"{folder}/failing.so")
-        faults = figures(pdpd, compiled(COUNTING, f"{folder}/counting.so"))
+        counting = compiled(COUNTING, f"{folder}/counting.so")
+        faults = figures(pdpd, counting) + faults_of_routes(pdpd, counting) + faults_of_values(pdpd, counting)
         faults += [f"the script doesn't ask for: {command}" for command in not_asked(script())]
         tables = Refusing("the script over tables", Replay(pdpd, library), script())
         vectors = Refusing("the script over a keeper in memory", Rows(xa_trials, library), script())

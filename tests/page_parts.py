@@ -267,9 +267,9 @@ def objects(first):
 
 
 def errors(_):
-    text = "| Code | Status | What happened | What to do |\n|---|---|---|---|\n"
+    text = "| Code | Status | What happened | What to do | What to run, to learn where |\n" + "|---" * 5 + "|\n"
     for code, each in openapi()["x-errors"].items():
-        text += f"| `{code}` | {each['status']} | {cell(each['what'])} | {cell(each['do'])} |\n"
+        text += f"| `{code}` | {each['status']} | {' | '.join(cell(each[part]) for part in ('what', 'do', 'run'))} |\n"
     return text
 
 

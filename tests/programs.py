@@ -6,6 +6,8 @@ usage: tests/programs.py proved NAME COMMAND..     runs a command that proves an
                                                    notes of which sources it made it
        tests/programs.py soonest NAME              tells where NAME is: the proved program, or else one without
                                                    proof, which it compiles if there is none of these sources
+       tests/programs.py ready NAME [PROGRAM]      puts that program, or the one that is named, into build/NAME,
+                                                   says whether it is proved, and tells where it is
        tests/programs.py tower NAME                tells which crates of this repository NAME is made of
 
 A note beside a program has a checksum of all that it was made of, and one of the program; where either isn't
@@ -15,6 +17,7 @@ import hashlib
 import json
 import os
 import pathlib
+import shlex
 import shutil
 import signal
 import subprocess
@@ -252,10 +255,43 @@ def soonest_program(name):
     return found
 
 
+def shortcoming(name, program):
+    """What whoever starts a program has to know of it; nothing, where it is proved and of these sources."""
+    if program == prover_output(name) and is_of(program, fingerprint(name)):
+        return ""
+    if program == unproved_path(name, OPTIMISED):
+        return "it was compiled without proof: nothing that it does is proved"
+    if program == unproved_path(name, QUICKLY):
+        return ("it was compiled without proof and without optimisation: nothing that it does is proved, "
+                "and a decision takes some thirty times as long as it should")
+    return f"it is {program}: whether that is proved isn't known here"
+
+
+def ready_program(name, named=None):
+    """Puts the program that is there soonest, or the one that is named, into build/: a copy of one that is proved;
+    else a script that starts it, and says each time what it lacks."""
+    program = pathlib.Path(named).resolve() if named else soonest_program(name)
+    lacks, placed = shortcoming(name, program), TOP / "build" / name
+    placed.parent.mkdir(exist_ok=True)
+    made = placed.with_name(f"{name}.{os.getpid()}")
+    if lacks:
+        made.write_text(f"#!/bin/sh\necho {shlex.quote(f'{name}: {lacks}')} >&2\nexec {shlex.quote(str(program))} "
+                        '"$@"\n', encoding="utf-8")
+    else:
+        shutil.copyfile(program, made)
+    made.chmod(0o755)
+    os.replace(made, placed)
+    say(f"# The program is {placed.relative_to(TOP)}: {lacks or 'proved, of these sources'}.")
+    return placed
+
+
 def main():
     word, *rest = sys.argv[1:] or [""]
     if word == "soonest" and len(rest) == 1:
         print(soonest_program(rest[0]))
+        return 0
+    if word == "ready" and len(rest) in (1, 2):
+        print(ready_program(*rest))
         return 0
     if word == "tower" and len(rest) == 1 and rest[0] in crates():
         print(*sorted(tower(rest[0])), sep="\n")

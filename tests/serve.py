@@ -16,7 +16,8 @@ import sys
 
 sys.dont_write_bytecode = True
 from checks import is_program  # noqa: E402
-from serve_parts import command_line, disks, limits, memory, sockets, stores, streams, walks  # noqa: E402
+from serve_parts import (  # noqa: E402
+    command_line, costs, disks, limits, memory, sizes, sockets, stores, streams, walks)
 from serve_parts.shared import PROGRAM, TOKEN_FILE, checks, folder  # noqa: E402
 from serving import OPERATOR  # noqa: E402
 
@@ -29,7 +30,8 @@ PARTS = (
     command_line.shared_token, command_line.order_of_faults,
     stores.no_databases, stores.no_stores, stores.half_stores, stores.lost_logs, stores.modes,
     sockets.sockets, sockets.taking, memory.memory, memory.stack, memory.address_space, disks.file_size, sockets.idle,
-    limits.long_replies, limits.limits, limits.work_unless_set, limits.reading_and_views, sockets.last)
+    limits.long_replies, limits.limits, limits.work_unless_set, limits.reading_and_views,
+    sizes.long_parts, sizes.many_domains, sizes.long_text, sizes.full_domain, costs.single, sockets.last)
 
 
 def main():

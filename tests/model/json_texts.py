@@ -7,6 +7,8 @@ import json
 import re
 
 MOST_NESTED = 127
+# digits and a sign of a number that 64 bits hold
+MOST_DIGITS = 20
 
 
 class NotJson(Exception):
@@ -26,6 +28,8 @@ def fraction(text):
 
 def number(text):
     """A whole number (RFC 8259, section 6), within 64 bits with a sign or without."""
+    if len(text) > MOST_DIGITS:
+        return fraction(text)
     whole = int(text)
     return whole if text != "-0" and -2**63 <= whole < 2**64 else fraction(text)
 
@@ -55,7 +59,7 @@ def of_pairs(pairs):
 def is_deep(text):
     """Whether more than this many arrays and objects stand inside one another."""
     depth = 0
-    for bracket in re.findall(r"[][{}]", re.sub(r'"(?:[^"\\]|\\.)*"', "", text, flags=re.DOTALL)):
+    for bracket in re.findall(r"[][{}]", re.sub(r'"(?:[^"\\]|\\.)*"?', "", text, flags=re.DOTALL)):
         depth += 1 if bracket in "[{" else -1
         if depth > MOST_NESTED:
             return True

@@ -29,14 +29,14 @@ def variable(name):
     return {"VariableReference": {"VariableId": name}}
 
 
-def growing_policy(assignments):
-    """The text of a policy that permits, with so many assignments of one text of 512,000 bytes, each of which
-    is six in a response."""
-    steps = [("v0", text("\x01" * 1_000))]
+def growing_policy(assignments, first="\x01" * 1_000, doublings=9):
+    """The text of a policy that permits, with so many assignments of a text that is doubled so often: of one of
+    512,000 bytes, each of which is six in a response."""
+    steps = [("v0", text(first))]
     steps += [(f"v{place}", {"Apply": {"FunctionId": JOIN, "Expression": [variable(f"v{place - 1}")] * 2}})
-              for place in range(1, 10)]
-    duty = {"ObligationId": "o", "FulfillOn": "Permit",
-            "AttributeAssignmentExpression": [{"AttributeId": "a", "Expression": variable("v9")}] * assignments}
+              for place in range(1, doublings + 1)]
+    assigned = {"AttributeId": "a", "Expression": variable(f"v{doublings}")}
+    duty = {"ObligationId": "o", "FulfillOn": "Permit", "AttributeAssignmentExpression": [assigned] * assignments}
     held = json.loads(policy("Permit", f"urn:p{assignments}"))
     held["Policy"] |= {"VariableDefinition": [{"VariableId": name, "Expression": expression}
                                               for name, expression in steps], "ObligationExpressions": [duty]}

@@ -1,8 +1,10 @@
 """What the parts of tests/serve.py share: the program, a folder of their own, and messages to a domain with replies."""
+import contextlib
 import json
 import os
 import pathlib
 import random
+import shutil
 import subprocess
 import sys
 import tempfile
@@ -67,6 +69,17 @@ def words_to_serve(path, address=ELSEWHERE, token_file=TOKEN_FILE):
 
 def serving(name, connections=1_000_000, token_file=TOKEN_FILE, **more):
     return Served(PROGRAM, str(folder / name), str(token_file), connections, **more)
+
+
+@contextlib.contextmanager
+def room_in_memory():
+    """A folder in memory, where a system has such: many changes are soon made there, since none waits for a disk."""
+    shared = "/dev/shm"
+    room = tempfile.mkdtemp(prefix="pdpd-", dir=shared if os.access(shared, os.W_OK) else folder)
+    try:
+        yield room
+    finally:
+        shutil.rmtree(room, ignore_errors=True)
 
 
 def make_domain(served, name="acme", **more):

@@ -1,0 +1,52 @@
+"""What bytes cost of the processor's time if they come one by one."""
+import pathlib
+
+from checks import Between
+
+from .shared import serving, within
+
+# Bytes that come one by one, how often, and how much longer those behind many others may take than the first.
+SINGLE, REPEATED, ROUNDS, MOST_TIMES = 50, 5, 3, 3
+
+
+def sleeps(served):
+    """How often the program has slept until something came."""
+    text = pathlib.Path(f"/proc/{served.process.pid}/status").read_text()
+    return int(text.partition("\nvoluntary_ctxt_switches:")[2].split()[0])
+
+
+def send_and_wait(served, client, data):
+    """Sends bytes, and waits until the program has read them and waits for more."""
+    before = sleeps(served)
+    client.send(data)
+    while sleeps(served) == before:
+        pass
+
+
+def seconds_of_single_bytes(served, before):
+    """The least processor time of some bytes that come one by one behind those that came before."""
+    with served.client() as client:
+        client.send(before)
+        client.is_silent(0.1)
+        found = []
+        for _ in range(REPEATED):
+            began = served.processor_seconds()
+            for _ in range(SINGLE):
+                send_and_wait(served, client, b"a")
+            found.append(served.processor_seconds() - began)
+        return min(found)
+
+
+def single():
+    """A byte of a head or a body takes as long behind many others as behind few."""
+    target = b"GET /" + b"a" * 16_000
+    fields = b"".join(b"X-%d: %s\r\n" % (number, b"v" * 200) for number in range(60))
+    small, large = (b"POST /domains/acme/pdp HTTP/1.1\r\n%sContent-Length: 524288\r\n\r\n" % more
+                    for more in (b"", fields))
+    with serving("single.db") as served:
+        for what, few, more in (("a head", target[:20], target[:14_000]), ("a body behind a long head", small, large),
+                                ("a body", small, small + b" " * 520_000)):
+            first, last = zip(*([seconds_of_single_bytes(served, before) for before in (few, more)]
+                                for _ in range(ROUNDS)))
+            within(f"{what}: how much longer its last bytes take than its first", min(last) / min(first),
+                   Between(0, MOST_TIMES))
