@@ -1,7 +1,8 @@
 #!/usr/bin/env python3
 """Does what the guide shows, as a newcomer would: pastes the blocks of commands of README.md and docs/guide, as they
 stand, in a copy of the repository in which only `make run` was run; decides the cases of the cookbook, and the page's
-table of what an Indeterminate becomes; and has the desk find the mistakes that are answered 200.
+table of what an Indeterminate becomes; has the desk find the mistakes that are answered 200; and asks `pdpd-shards`
+what stands before a first start.
 
 usage: tests/guide.py PDPD XA_TRIALS [PART..]     the programs, proved or not (in place of the second `none`: the model
                                                   alone decides cases), and the parts that are run, all if none is
@@ -43,6 +44,16 @@ OK = '"Status":{"StatusCode":{"Value":"urn:oasis:names:tc:xacml:1.0:status:ok"}}
 ALGORITHM = "urn:oasis:names:tc:xacml:%s:rule-combining-algorithm:%s"
 OF_MAKE = ("MAKELEVEL", "MAKEFLAGS", "MFLAGS", "MAKEOVERRIDES")
 UNPROVED = "isn't known here"  # what is said of a program that somebody names
+# nobody listens any more
+CLOSED = "the port is closed"
+ENDS = f"curl --silent --max-time 9 http://127.0.0.1:8080/ && exit 9; echo {CLOSED}"
+# what `pdpd-shards` says, with folders of its own
+SHARDS = """import sys
+sys.path.insert(0, "deploy")
+from operating import cli, settings
+settings.LOCKS = settings.FILE.parent / "locks"
+sys.exit(cli.main(sys.argv[1:]))
+"""
 
 checks = Checks("tests/guide.py")
 expect = checks.expect
@@ -123,8 +134,8 @@ def paste():
         started = run(["bash", "-c", "build/pdpd --version"], copy.folder)[1]
         expect("and so does what it leaves, when it is started", UNPROVED in started and "pdpd 0." in started, True)
         readme(copy.folder)
-        said = pasted("docs/guide/RUNNING.md", copy.folder, free_port())
-        for wanted in ("listening 127.0.0.1:", '{"Domain":["acme"]}', "0 77\nHTTP/1.1 201 Created"):
+        said = pasted("docs/guide/RUNNING.md", copy.folder, free_port(), behind=f"wait $pid || true; {ENDS}")
+        for wanted in ("listening 127.0.0.1:", '{"Domain":["acme"]}', "0 77\nHTTP/1.1 201 Created", CLOSED):
             expect(f"docs/guide/RUNNING.md shows {wanted}", wanted in said, True)
         said = pasted("docs/guide/API.md", copy.folder, free_port())
         expect("docs/guide/API.md: changes that are answered with {}", said.count("{}"), 7)
@@ -137,7 +148,8 @@ def paste():
 def readme(folder):
     """README.md starts a server that stays, and asks it."""
     port = free_port()
-    said = pasted("README.md", folder, port, behind="kill %1; wait")
+    said = pasted("README.md", folder, port, behind=f"kill %1; wait; {ENDS}")
+    expect(f"README.md: behind `kill %1` nobody listens: {said[-500:]}", CLOSED in said, True)
     expect("README.md: a decision", re.search(r'"Decision":"(Permit|Deny)"', said) is not None, True)
     expect("README.md: whoever starts the server is told what its program lacks", UNPROVED in said, True)
 
@@ -278,11 +290,33 @@ def ready():
                    "unproved")
 
 
+def operator():
+    """What `pdpd-shards` says before a first start, and which file it names: the one in PDPD_SETTINGS."""
+    with tempfile.TemporaryDirectory() as made:
+        held = (TOP / "deploy" / "shards.conf").read_text(encoding="utf-8")
+        file = pathlib.Path(made) / "own.conf"
+        # none of an installation that this machine may have
+        folders = "DATA|BACKUPS|HAPROXY_ETC|HAPROXY_RUN|SERVICES|SERVICE_FOLDERS"
+        held = re.sub(f"(?m)^({folders})=.*$", rf"\1={made}/\1", held)
+        for name, value in (("SUPERVISOR", "runit"), ("FIRST_PORT", "900")):
+            held = re.sub(f"(?m)^{name}=.*$", f"{name}={value}", held)
+        file.write_text(held)
+
+        def shards(*words):
+            return run([sys.executable, "-c", SHARDS, *words], TOP, PDPD_SETTINGS=str(file))
+        status, said = shards("backup")
+        expect(f"backup: a sentence, and what to do: {said}",
+               (status, said.count("\n"), "shard 0 doesn't run: start it" in said), (1, 1, True))
+        status, said = shards("config")
+        expect(f"config: {said[:200]}", (status, f"of {file}: what" in said, "/etc/pdpd/shards.conf" in said),
+               (0, True, False))
+
+
 def main():
     if len(sys.argv) < 3:
         print(__doc__, file=sys.stderr)
         return 2
-    checks.run((ready, paste, recipes, indeterminates, mistakes, commands), sys.argv[3:])
+    checks.run((ready, paste, recipes, indeterminates, mistakes, commands, operator), sys.argv[3:])
     return checks.status()
 
 

@@ -4,6 +4,7 @@ pdpd serves one connection after another. So HAProxy lets one message at a time 
 and the others queue in it. What pdpd would answer by closing a connection, and what could hold it up,
 ends here. So does what one client could take away from all others: connections, messages under way, memory.
 """
+from .settings import FILE
 
 JSON = "content-type application/json string"
 # Which bytes no field may have; pdpd would close the connection (RFC 9110, section 5.5).
@@ -337,6 +338,6 @@ backend shard{shard}
 def configuration(settings):
     """The whole file."""
     return "".join((
-        "# Written by `pdpd-shards config`, of /etc/pdpd/shards.conf: what is changed here is lost.\n",
+        f"# Written by `pdpd-shards config`, of {FILE}: what is changed here is lost.\n",
         global_part(settings), defaults_part(settings), frontends(settings), other_parts(settings),
         backends(settings)))

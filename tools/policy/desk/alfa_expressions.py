@@ -3,7 +3,7 @@ from __future__ import annotations
 
 from collections.abc import Callable
 
-from .alfa_parts import Attribute, Call, Function, Literal, Name, Part
+from .alfa_parts import Attribute, Call, File, Function, Literal, Name, Part
 from .alfa_tokens import Comment, Stop, Token, tokens_of
 from .faults import Remarks
 from .positions import Source
@@ -11,18 +11,19 @@ from .xml_reading import Spot
 
 MOST_NESTED = 100
 COMPARISONS = ("==", ">", "<", ">=", "<=", "~")
+DECLARING = ("namespace", "attribute", "category", "obligation", "advice", "policy", "policyset")
 
 
 class Words:
     """Reads the words of a source, one after another."""
 
-    def __init__(self, source: Source, remarks: Remarks):
-        self.source, self.remarks, self.place = source, remarks, 0
+    def __init__(self, file: File):
+        self.file, self.source, self.remarks, self.place = file, file.source, file.remarks, 0
         self.path, self.nested = "the file", 0
         # the comments of the parts that are open; those beside them have no place in a document
         self.open: list[Part] = []
         self.loose: list[Comment] = []
-        self.tokens: list[Token] = tokens_of(source, remarks)
+        self.tokens: list[Token] = tokens_of(file.source, file.remarks)
 
     # Words.
 
@@ -35,9 +36,10 @@ class Words:
         return Spot(self.source, self.path, start, self.tokens[self.place - 1].end if end is None else end)
 
     def stop(self, sentence: str, token: Token | None = None) -> Stop:
-        """Says what is wrong with the word that stands here."""
+        """Says what is wrong with the word that stands here; of what is no word that is said."""
         token = token or self.token
-        self.remarks.fault("NotAlfa", self.spot(token.start, token.end), sentence)
+        if token.kind != "none":
+            self.remarks.fault("NotAlfa", self.spot(token.start, token.end), sentence)
         return Stop()
 
     def missing(self, what: str) -> Stop:
@@ -100,16 +102,21 @@ class Words:
         found = self.next()
         return Literal("text", found.value, None, self.spot(found.start))
 
-    def recovering(self, words: tuple[str, ...], does: Callable[[], None]) -> None:
-        """Reads one item. Behind a fault reading goes on with the next item, which begins with one of these words, or
-        with the brace that ends what the item stands in."""
+    def recovering(self, words: tuple[str, ...], does: Callable[[], None], around: Part | None = None) -> None:
+        """Reads one item, of the part around it if it stands in one. Behind a fault reading goes on with the next item,
+        which begins with one of these words, or with the brace that ends what the item stands in."""
         began, path, nested, count = self.place, self.path, self.nested, len(self.open)
         try:
             does()
         except Stop:
             self.path, self.nested = path, nested
             del self.open[count:]
-            self.skip(began, words)
+            if around is not None:
+                around.is_cut = True
+            try:
+                self.skip(began, words)
+            finally:
+                self.passed(self.tokens[began:self.place])
 
     def skip(self, began: int, words: tuple[str, ...]) -> None:
         """Passes over the rest of an item; raises Stop at the end of the file."""
@@ -120,6 +127,18 @@ class Words:
             self.next()
         if self.token.kind == "end":
             raise Stop
+
+    def passed(self, tokens: list[Token]) -> None:
+        """Keeps the names that are declared in words that were passed over: nothing says that they aren't there."""
+        is_declared = False
+        for token in tokens:
+            if token.kind == "name" and token.value in DECLARING:
+                is_declared = True
+            elif token.kind == "sign" and token.value in "{=":
+                is_declared = False
+            elif token.kind == "name" and is_declared:
+                self.file.passed.add(token.value)
+            self.file.has_passed_import |= token.kind == "name" and token.value == "import"
 
     def nest(self, step: int) -> None:
         """Goes in, or out."""

@@ -11,6 +11,7 @@ from .alfa_reading import file_of
 from .alfa_typed import TURNED, Expressions
 from .drafted import Draft, document_text
 from .faults import Remarks
+from .model import values
 from .xml_reading import Spot
 
 NO_MATCH = ("A match compares an attribute with a value, as user.role == \"nurse\", or is a function of a "
@@ -108,7 +109,9 @@ class Translating(Expressions):
         if entry is None:
             return Draft({"Expression": expression}, name.spot)
         wanted = plain(entry.held.members["type"])
-        if kind is not None and kind.removeprefix("bag ") != wanted:
+        if not self.known.category(entry):
+            self.placeholders.add((name.spot.start, name.spot.end))
+        if kind is not None and wanted in values.TYPES and kind.removeprefix("bag ") != wanted:
             self.fault("IllTyped(WrongType)", held.spot,
                        f"{name.text} is of the type {wanted}, and this is {names.kind_shown(kind)}.")
         return Draft({"AttributeId": Draft(entry.id, name.spot),
@@ -132,7 +135,7 @@ class Translating(Expressions):
         return Draft(held.id.text, held.id.spot) if held.id else Draft(name, held.spot)
 
     def rule(self, held: Part, name: str) -> dict[str, Draft]:
-        if held.effect is None:
+        if held.effect is None and not held.is_cut:
             self.fault("NotAlfa", held.spot, "This rule says neither permit nor deny.")
         members = {"RuleId": self.id(held, name), "Effect": Draft(held.effect or "Deny", held.spot)}
         members |= self.described(held) | self.target(held.target, held.spot)
@@ -143,6 +146,9 @@ class Translating(Expressions):
     def algorithm(self, held: Part) -> Draft:
         """The combining algorithm."""
         name = held.algorithm
+        if name is None and held.is_cut:
+            self.placeholders.add((held.spot.start, held.spot.end))
+            return Draft("", held.spot)
         if name is None:
             what = "rules" if held.kind == "policy" else "policies"
             self.fault("NotAlfa", held.spot, f"This {held.kind} doesn't say how its {what} are combined: "
@@ -211,8 +217,9 @@ def translated(entry: Entry, known: Names, version: str, is_pinned: bool) -> Doc
 def imported_alfa(files: list[tuple[str, bytes]], version: str,
                   is_pinned: bool = False) -> tuple[list[File], list[Document]]:
     """The files as they were read, and their documents, of which there are none where a declaration or a
-    file as a whole has a fault: names of one file stand for what another declares. All documents are of the
-    version, to which references are pinned where that is wanted."""
+    file as a whole has a fault: names of one file stand for what another declares. Then what is wrong with the
+    documents is said of the files. All documents are of the version, to which references are pinned where that is
+    wanted."""
     read = [file_of(path, held) for path, held in files]
     if any(file.whole is None for file in read):
         return read, []
@@ -221,6 +228,8 @@ def imported_alfa(files: list[tuple[str, bytes]], version: str,
         read[0].remarks.fault("NotAlfa", Spot(read[0].source, "the file", 0, 0),
                               "No policy and no policyset stands here: there is nothing to make a document "
                               "of.")
-    if any(file.remarks.faults() for file in read):
-        return read, []
-    return read, [translated(entry, known, version, is_pinned) for entry in known.tables["part"].values()]
+    is_faulty = any(file.remarks.faults() for file in read)
+    found = [translated(entry, known, version, is_pinned) for entry in known.parts]
+    for one in found if is_faulty else ():
+        one.file.remarks.found += one.remarks.found
+    return read, [] if is_faulty else found

@@ -111,6 +111,10 @@ class Names:
         self.tables: dict[str, dict[str, Entry]] = {
             kind: {} for kind in ("attribute", "category", "obligation", "advice", "part")}
         self.inner: dict[str, Entry] = {}
+        # all policies and sets that stand in a namespace, those too that have no name, or another's
+        self.parts: list[Entry] = []
+        self.passed = {name for file in files for name in file.passed}
+        self.has_passed_import = any(file.has_passed_import for file in files)
         for file in files:
             for namespace in file.whole.all():
                 self.take(file, namespace)
@@ -124,12 +128,14 @@ class Names:
         """Takes in what a namespace declares."""
         for held in [*namespace.declared, *namespace.parts]:
             kind = "part" if isinstance(held, Part) else held.kind
+            entry = Entry(full_name(namespace, held.name.text if held.name else held.kind), held, namespace, file)
+            if kind == "part":
+                self.parts.append(entry)
             if held.name is None:
                 file.remarks.fault("NotAlfa", held.spot,
                                    f"This {held.kind} stands in no policyset, and is a document of its own: "
                                    f"give it a name.")
                 continue
-            entry = Entry(full_name(namespace, held.name.text), held, namespace, file)
             other = self.tables[kind].setdefault(entry.full, entry)
             if other is not entry:
                 place = other.held.name.spot.place
@@ -151,6 +157,8 @@ class Names:
         known = [full for table in self.tables.values() for full in table]
         for held in namespace.imports:
             wanted = held.text.removesuffix(".*")
+            if self.may_be_there(wanted):
+                continue
             if wanted != "System" and not wanted.startswith("System.") and not any(
                     full == prefix + wanted or full.startswith(f"{prefix}{wanted}.")
                     for prefix in prefixes(namespace) for full in known):
@@ -209,7 +217,9 @@ class Names:
 
     def unknown(self, kind: str, name: Name, namespace: Namespace, remarks: Remarks,
                 more: list[str]) -> None:
-        """Remarks that a name stands for nothing."""
+        """Remarks that a name stands for nothing, unless it may stand for what couldn't be read."""
+        if self.has_passed_import or self.may_be_there(name.text):
+            return
         what = KIND_NAMES.get(kind, kind)
         others = [other for other in self.tables
                   if other != kind and self.found(other, name, namespace)]
@@ -227,6 +237,10 @@ class Names:
         nearest = self.nearest(name.text, [*self.tables[kind], *more])
         remarks.fault("NoSuchName", name.spot, f'No {what} "{name.text}" is declared in the files given.'
                       + meant(nearest), found=name.text, nearest=nearest)
+
+    def may_be_there(self, name: str) -> bool:
+        """Whether a part of the name is declared where something couldn't be read."""
+        return not self.passed.isdisjoint(name.split("."))
 
     def nearest(self, name: str, known: list[str]) -> str:
         """The known name that is most like it, as a whole or in its last part."""

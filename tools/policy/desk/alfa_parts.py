@@ -67,7 +67,8 @@ class Duty:
 @dataclass
 class Part:
     """A rule, a policy or a set. `target` has the clauses, each a list of alternatives, each a list of
-    matches; `inner` has rules, or policies, sets and names of such."""
+    matches; `inner` has rules, or policies, sets and names of such. `is_cut` says that something in it couldn't be
+    read, so that what is missing may stand there."""
     kind: str
     name: Name | None
     id: Literal | None
@@ -79,6 +80,7 @@ class Part:
     inner: list = field(default_factory=list)
     duties: list[Duty] = field(default_factory=list)
     comments: list[str] = field(default_factory=list)
+    is_cut: bool = False
 
 
 @dataclass
@@ -106,7 +108,10 @@ class Namespace:
 
 @dataclass
 class File:
-    """A file that was read: the namespace around all of it; None where it is no ALFA."""
+    """A file that was read: the namespace around all of it that could be read, None where that is nothing; the names
+    that are declared where something couldn't be, and whether an import stands there."""
     source: Source
     remarks: Remarks
     whole: Namespace | None
+    passed: set[str] = field(default_factory=set)
+    has_passed_import: bool = False

@@ -24,23 +24,22 @@ IN_ATTRIBUTES = ("id", "type", "category")
 class Reader(Expressions):
     """Reads a file."""
 
-    def file(self) -> Namespace:
-        """The namespace around all of the file."""
-        found = Namespace("", None)
+    def all(self) -> None:
+        """Reads the namespace around all of the file, into the file."""
+        found = self.file.whole = Namespace("", None)
         while self.token.kind != "end":
             self.recovering(IN_NAMESPACES, lambda: self.item(found))
         self.next()
-        return found
 
     def item(self, around: Namespace) -> None:
         """One item of a namespace."""
         word = self.token.value if self.token.kind == "name" else ""
         if word in ("policy", "policyset"):
-            around.parts.append(self.part(around.name))
+            self.part(around.name, around.parts)
         elif word in OF_THE_STANDARD:
             self.of_the_standard(around)
         elif word == "namespace":
-            around.inner.append(self.namespace(around))
+            self.namespace(around)
         elif word == "import":
             around.imports.append(self.imported())
         elif word in IN_NAMESPACES:
@@ -48,19 +47,19 @@ class Reader(Expressions):
         else:
             raise self.missing(f"One of {', '.join(IN_NAMESPACES[:8])}" + (' or "}"' if around.name else ""))
 
-    def namespace(self, around: Namespace) -> Namespace:
+    def namespace(self, around: Namespace) -> None:
         self.nest(1)
         self.next()
         name = self.name("The name of a namespace")
         found = Namespace(f"{around.name}.{name.text}" if around.name else name.text, around)
         outside, self.path = self.path, found.name
         self.take("{")
+        around.inner.append(found)
         while not self.is_next("}"):
             self.recovering(IN_NAMESPACES, lambda: self.item(found))
         self.next()
         self.path = outside
         self.nest(-1)
-        return found
 
     def imported(self) -> Name:
         """The name behind `import`; `.*` stands behind one whose whole namespace is meant."""
@@ -116,8 +115,8 @@ class Reader(Expressions):
 
     # Policies, sets and rules.
 
-    def part(self, around: str) -> Part:
-        """A policy, a set or a rule."""
+    def part(self, around: str, beside: list) -> None:
+        """A policy, a set or a rule, which is put to those beside it."""
         self.nest(1)
         behind = [comment for comment in self.token.comments if comment.is_behind]
         for comment in behind:
@@ -135,13 +134,13 @@ class Reader(Expressions):
         self.path = ".".join(filter(None, (around, found.name.text if found.name else found.kind)))
         found.spot = self.spot(start)
         self.take("{")
+        beside.append(found)
         while not self.is_next("}"):
-            self.recovering(IN_PARTS[found.kind], lambda: self.item_of(found))
+            self.recovering(IN_PARTS[found.kind], lambda: self.item_of(found), found)
         self.next()
         self.open.pop()
         self.path = outside
         self.nest(-1)
-        return found
 
     def once(self, found: Part, member: str, word: Token) -> None:
         if getattr(found, member) is not None:
@@ -153,7 +152,7 @@ class Reader(Expressions):
         if not self.is_next(*known):
             self.other(found, known)
         elif word.value in ("rule", "policy", "policyset"):
-            found.inner.append(self.part(self.path))
+            self.part(self.path, found.inner)
         elif word.value == "on":
             found.duties += self.duties()
         elif word.value == "target":
@@ -174,7 +173,12 @@ class Reader(Expressions):
         if self.is_next("condition"):
             raise self.stop(f"A {found.kind} has no condition: write it in a rule, or what can be matched in "
                             f"the target.")
+        if found.kind == "policyset" and self.is_next("rule"):
+            raise self.stop("A policyset has no rule: write it in a policy.")
         if found.kind != "policyset" or self.token.kind != "name":
+            # what was read as references may have been the words before this brace
+            while self.is_next("{", "=") and found.inner and isinstance(found.inner[-1], Name):
+                found.inner.pop()
             raise self.missing(f"One of {', '.join(known)} or \"}}\"")
         found.inner.append(self.name("The name of a policy"))
 
@@ -233,17 +237,17 @@ class Reader(Expressions):
 
 def file_of(path: str, held: bytes) -> File:
     """The ALFA in the bytes of a file."""
-    source, remarks = Source(path, held), Remarks()
+    found = File(Source(path, held), Remarks(), None)
     try:
-        reader = Reader(source, remarks)
-        whole = reader.file()
+        reader = Reader(found)
+        reader.all()
     except Stop:
-        return File(source, remarks, None)
+        return found
     if reader.loose:
         first = reader.loose[0]
         count = len(reader.loose)
         said = "One comment stands" if count == 1 else f"{count} comments stand"
-        remarks.note("comments", Spot(source, "the file", first.start, first.end),
-                     f"{said} beside policies and sets, where no document has a place for it: "
-                     f"only comments in and directly before policies, sets and rules are kept.")
-    return File(source, remarks, None if remarks.faults() else whole)
+        found.remarks.note("comments", Spot(found.source, "the file", first.start, first.end),
+                           f"{said} beside policies and sets, where no document has a place for it: "
+                           f"only comments in and directly before policies, sets and rules are kept.")
+    return found

@@ -34,8 +34,8 @@ class Comment:
 
 @dataclass
 class Token:
-    """A word: its kind (`name`, `text`, `integer`, `double`, `sign` or `end`), what it says, and the
-    comments directly before it."""
+    """A word: its kind (`name`, `text`, `integer`, `double`, `sign`, `end`, or `none` for what is no word, which is
+    remarked), what it says, and the comments directly before it."""
     kind: str
     value: str
     start: int
@@ -128,14 +128,14 @@ class Tokens:
                 kind, value, last = self.word()
             except Stop:  # what can't be a word is passed over, up to the end of its line if it is a text
                 rest = self.text[start:].split("\n", 1)[0] if self.text[start] in "\"'" else self.text[start]
-                self.offset = last = start + len(rest)
-                continue
+                kind, value, last = "none", rest, start + len(rest)
             self.offset = last
             found.append(Token(kind, value, start, last, comments))
 
 
 def tokens_of(source: Source, remarks: Remarks) -> list[Token]:
-    """The words of a source. What is none is remarked, and raises Stop."""
+    """The words of a source. What is none is remarked; it raises Stop where nothing behind it can be read, as where it
+    has a brace."""
     reader = Tokens(source, remarks)
     if len(source.held) > MOST_BYTES:
         remarks.fault("TooLarge", Spot(source, "the file", 0, 0), f"A file has at most {MOST_BYTES} bytes.")
@@ -148,6 +148,6 @@ def tokens_of(source: Source, remarks: Remarks) -> list[Token]:
                                             f"save the file as UTF-8.") from None
     reader.offset = 1 if source.text.startswith("\ufeff") else 0
     found = reader.all()
-    if remarks.faults():
+    if any(one.kind == "none" and ("{" in one.value or "}" in one.value) for one in found):
         raise Stop
     return found

@@ -73,9 +73,13 @@ class Expressions:
         entry = self.known.one("attribute", held.name, self.namespace, self.remarks)
         if entry is None:
             return None, None
+        if plain(entry.held.members["type"]) not in [*values.TYPES, *left_out.TYPES]:  # it is said where it is declared
+            return None, None
         kind = self.type(entry.held.members["type"], "", held.name.spot)
         if kind is None:
             return None, None
+        if not self.known.category(entry):
+            self.placeholders.add((held.spot.start, held.spot.end))
         members = {"Category": self.known.category(entry), "AttributeId": entry.id,
                    "DataType": kind, "MustBePresent": held.is_needed}
         found = {name: Draft(value, held.spot) for name, value in members.items()}

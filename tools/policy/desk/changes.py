@@ -15,6 +15,8 @@ from .model import versions
 from .wire import ServerFault
 
 MOST_DOCUMENTS = 1024
+# records in which is looked whether a folder was deployed before
+MOST_LOOKED = 20
 
 
 @dataclass
@@ -97,6 +99,25 @@ class Changes:
             return False
         ids = {one and one[:2] for one in self.roots}
         return self.root.is_moved or ids != {None} and (self.target.root and self.target.root[:2]) not in ids
+
+    def deployed_as(self) -> int | None:
+        """The last of the newest finished deployments that brought this very content; None without one, or where a
+        record can't be read."""
+        finished = [number for number in self.records.numbers() if self.records.is_finished(number)]
+        digest = self.content.digest()
+        try:
+            return next((number for number in finished[:-MOST_LOOKED - 1:-1]
+                         if self.records.head(number).target == digest), None)
+        except ServerFault:
+            return None
+
+    def replaced(self) -> list[tuple[Key, Key]]:
+        """The documents that come into effect in place of a newer version, each with that."""
+        found = []
+        for key in sorted(self.reached):
+            newer = [one for one in self.of_order("withdraw") if one[:2] == key[:2] and one.version > key.version]
+            found += [(key, max(newer))] if newer else []
+        return found
 
     def deletes(self) -> list[Key]:
         """The documents that are deleted."""

@@ -265,8 +265,8 @@ def may_go_on(changes: Changes, options: argparse.Namespace) -> None:
         else:
             raise ServerFault(f"deployment {number} of something else was begun {head.begun} by {head.by}, "
                               "and isn't finished. Wait for it; where it was cut, deploy its folder again, "
-                              "or "
-                              "--take-over puts this one in its place")
+                              "`policy rollback` goes back to the one before, and --take-over puts this one in "
+                              "its place")
 
 
 def carried_out(client: Client, changes: Changes, options: argparse.Namespace, found: Program | None) -> int:

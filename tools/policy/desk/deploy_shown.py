@@ -43,10 +43,23 @@ def differences(changes: Changes) -> str:
     found = [f"{listed_shown([key_shown(key) for key in keys])} {one if len(keys) == 1 else several}"
              for keys, one, several in told if keys]
     found += ["the rows are others"] if changes.has_rows() else []
-    found += [f"deployment {number} isn't finished" for number in changes.records.begun()]
+    found += [f"deployment {number} isn't finished: where it was cut, deploy its folder again, or `policy rollback`"
+              for number in changes.records.begun()]
     if not found and changes.records.last() is None:
         found.append("no deployment is recorded")
     return "; ".join(found)
+
+
+def history(changes: Changes) -> str:
+    """What the records say of a folder that isn't what runs: as which deployment it was made, and what came after; the
+    empty text where they don't have it, or where it is gone back to it."""
+    number, last = changes.deployed_as(), changes.records.last()
+    if number is None or changes.back_to is not None or changes.records.begun():
+        return ""
+    if number == last:
+        return f"This folder was deployed as number {number}, and the domain was changed since, without a record."
+    by = changes.records.head(last).by
+    return f"This folder was deployed as number {number}; number {last}, by {by}, came after."
 
 
 def print_verdict(changes: Changes, is_same: bool) -> None:
@@ -55,7 +68,8 @@ def print_verdict(changes: Changes, is_same: bool) -> None:
     if changes.is_others_root():
         said = "the root isn't this folder's: `policy deploy` sets it" + (f". Besides, {told}" if told else "")
     elif not is_same:
-        said = f"differs: {told or 'the root is another'}. `policy diff --live` shows how"
+        said = " ".join(filter(None, (f"differs: {told or 'the root is another'}.", history(changes),
+                                      "`policy diff --live` shows how")))
     elif changes.root.is_shown:
         said = "is what runs there"
     else:
@@ -90,19 +104,30 @@ def print_mixed(changes: Changes, actions: list[Action]) -> None:
     mixed = [place for place, action in enumerate(actions, 1) if action.is_mixed]
     if not changes.roots:
         print(text.wrapped("What the root is now isn't known: " + changes.root.whence
-                           + ". So whether every ask between is answered as before or as after isn't known "
-                             "either;"
-                           " --live-root ID, or --live-root none, says what it is."))
+                           + ". So whether every decision request between is answered as before or as after isn't "
+                             "known either; --live-root ID, or --live-root none, says what it is."))
     elif not mixed:
-        print("Meanwhile every ask is answered as before or as after.")
+        print("Meanwhile every decision request is answered as before or as after.")
     else:
         print(text.wrapped(text.painted("No order keeps answers whole", "bold", "yellow")
-                           + f": from step {mixed[0]} to step {mixed[-1] + 1} an ask may be answered "
+                           + f": from step {mixed[0]} to step {mixed[-1] + 1} a decision request may be answered "
                              f"neither as before nor as after."))
         for reason in changes.order.reasons:
             print(text.wrapped(reason, "    - ", "      "))
         print(text.wrapped("References that name versions, under a set with a new version of its own and a "
                            "root that names that, keep answers whole.", "    ", "    "))
+
+
+def print_history(changes: Changes) -> None:
+    """Of whose deployment this one takes the place, where it isn't the next step."""
+    replaced = changes.replaced()
+    said = history(changes)
+    if replaced:
+        told = [f"{key_shown(key)} in place of {version_shown(newer.version)}" for key, newer in replaced]
+        said = f"{listed_shown(told)}. {said}".rstrip()
+    if said:
+        print(text.wrapped(said, text.painted("older" if replaced else "changed", "bold", "yellow")
+                           + " " * (6 if replaced else 4), " " * 11))
 
 
 def print_changes(changes: Changes, actions: list[Action]) -> None:
@@ -112,6 +137,8 @@ def print_changes(changes: Changes, actions: list[Action]) -> None:
     if changes.is_others_root():
         print(text.wrapped("the root isn't this folder's: it is set", text.painted("root", "red") + "       ",
                            " " * 11))
+    if changes.back_to is None and not changes.is_nothing():
+        print_history(changes)
     idle = [key_shown(key) for key in sorted(set(changes.target.documents) - changes.reached)]
     if idle:
         print(text.wrapped(f"{listed_shown(idle)}: the root doesn't reach "

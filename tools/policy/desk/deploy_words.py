@@ -39,8 +39,8 @@ def add_change(parser: argparse.ArgumentParser) -> None:
     parser.add_argument("--yes", action="store_true", help="doesn't ask")
     parser.add_argument("--dry-run", action="store_true", help="shows what would be done, and does nothing")
     parser.add_argument("--only-whole", action="store_true",
-                        help="does nothing where an ask between may be answered neither as before nor as "
-                             "after")
+                        help="does nothing where a decision request between may be answered neither as before "
+                             "nor as after")
     parser.add_argument("--take-over", action="store_true",
                         help="takes the place of a deployment of something else that was begun and isn't "
                              "finished")

@@ -19,7 +19,8 @@ MOST_PRINTED = 200
 FINE, FAULTS, USAGE, DISAGREE = 0, 1, 2, 3
 ONLY_MODEL = "There is no proved program: only the model in Python spoke. "
 WAY_TO_BOTH = ("`--program PATH` names a program that answers too." if program.IS_PACKED else
-               "`tools/policy/policy.py build` proves and builds the program.")
+               "`--program try` asks one that is compiled without proof, in minutes at first; `tools/policy/policy.py "
+               "build` proves and builds it, within an hour.")
 
 
 def chosen_program(options: argparse.Namespace) -> program.Program | None:

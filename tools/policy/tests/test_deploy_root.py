@@ -3,8 +3,9 @@ from __future__ import annotations
 
 import json
 import unittest
+from unittest import mock
 
-from .deploy_tests import ADMIN, ASKED, COMBINING, DeployTest, policy, policy_set, request, row, rows, serving
+from .deploy_tests import ADMIN, ASKED, COMBINING, DeployTest, policy, policy_set, request, row, rows, serving, wire
 from .test_deploy import P1, Q1, SET_ROOT, files
 
 ONE = policy_set("urn:s", "1", [("urn:p", "1")])
@@ -116,6 +117,37 @@ class ByHand(DeployTest):
         self.assertIn("is what runs there", self.told("status", "--strict", folder, status=0))
         self.root("{}")
         self.assertIn(OTHERS, self.told("status", folder, status=1))
+
+    def test_how_many_are_asked(self) -> None:
+        """At most 20, of which those that the records decide come first."""
+        one, exchange, asked = policy("urn:p", "1", "p1", attribute="urn:a"), wire.Client.exchange, []
+
+        def counted(client: wire.Client, method: str, path: str, body: bytes | None) -> wire.Reply:
+            asked.append((method, path.rpartition("/")[2]) == ("POST", "pdp"))
+            return exchange(client, method, path, body)
+        unknown = [{"Request": json.loads(request("bob")), "Decision": "NotApplicable"}] * 25
+        known = {"Request": json.loads(request("alice")), "Decision": "Permit"}
+        for cases, count in ((unknown, 20), ([*unknown, known], 1)):
+            held = files(one, Q1, rows=rows(row("alice", "urn:a")), cases=json.dumps({"Case": cases}))
+            folder = self.written(held, "urn:p", Cases=["cases.json"])
+            self.deployed(folder)
+            asked.clear()
+            with mock.patch.object(wire.Client, "exchange", counted):
+                self.told("status", folder, status=0)
+            self.assertEqual(sum(asked), count)
+
+    def test_a_case_with_an_environment(self) -> None:
+        """What it names shows the root. If it names nothing, that is no sign that the root was moved."""
+        asked = json.loads(ASKED[0])
+        asked["Request"]["Environment"] = {"Attribute": []}
+        cases = json.dumps({"Case": [{"Request": asked, "At": "1999-12-31T10:00:00Z", "Decision": "Permit"}]})
+        folder = self.written(files(P1, cases=cases), "urn:p", Cases=["cases.json"])
+        self.deployed(folder)
+        self.assertIn("is what runs there", self.told("status", "--strict", folder, status=0))
+        self.root("{}")
+        self.assertIn(UNSURE, self.told("status", folder, status=0))
+        self.deployed(folder)
+        self.assertIn("is what runs there", self.told("status", "--strict", folder, status=0))
 
     def test_what_differs(self) -> None:
         """`status` says what somebody changed by hand, the root beside it."""

@@ -194,6 +194,32 @@ class Lints(DeskTest):
             '"VariableDefinition": [', f'"VariableDefinition": [{{"VariableId": "who", "Expression": {asked}}}, '))
         self.assertIn("not-one-value", self.codes(named, (), twice))
 
+    def test_what_stands_in_place_of_a_one_and_only(self) -> None:
+        """By the function in which it stands: only for equality is-in, only for a boolean any-of."""
+        rows = json.dumps({"Row": [{"Category": "AccessSubject", "Entity": "a", "AttributeId": "urn:a",
+                                    "DataType": "string", "Value": value} for value in "xy"]})
+        asked = {"AttributeDesignator": {"Category": "AccessSubject", "AttributeId": "urn:a", "DataType": "string",
+                                         "MustBePresent": False}}
+
+        def applied(name: str, *arguments: object) -> dict:
+            said = [one if isinstance(one, dict) else {"AttributeValue": {
+                "DataType": "string" if isinstance(one, str) else "integer", "Value": one}} for one in arguments]
+            return {"Apply": {"FunctionId": f"urn:oasis:names:tc:xacml:{name}", "Expression": said}}
+        one = applied("1.0:function:string-one-and-only", asked)
+        equal = {"Function": {"FunctionId": FUNCTION + "string-equal"}}
+        number = applied("3.0:function:integer-from-string", one)
+        for condition, word, other in (
+                (applied("1.0:function:string-equal", one, "x"), "string-is-in", "bag-size"),
+                (applied("1.0:function:string-less-than", one, "x"), 'any number with "string-less-than"', "is-in"),
+                (applied("3.0:function:any-of", equal, one, asked), "any-of-any takes", "is-in"),
+                (applied("1.0:function:string-equal", applied("3.0:function:string-substring", one, 0, 1), "x"),
+                 "string-bag-size with 1", "any-of"),
+                (applied("1.0:function:integer-equal", number, 1), "string-bag-size with 1", "any-of")):
+            found = checked(policy([rule("r", "Permit", Condition=condition)]), (), rows)
+            self.assertEqual([one.code for one in found.remarks.found], ["not-one-value"], word)
+            self.assertIn(word, found.remarks.found[0].sentence)
+            self.assertNotIn(other, found.remarks.found[0].sentence)
+
     def test_members_that_stand_twice(self) -> None:
         held = edited(POLICY, ('"Version": "1.0",', '"Version": "1.1",\n  "Version": "1.0",'))
         self.remark(checked(held).remarks, "repeated-member", held.index('"Version"'), "the last one counts",

@@ -1,12 +1,14 @@
 """The desk as one file: outside the clone, on each Python that is there, against a running server."""
 from __future__ import annotations
 
+import hashlib
 import os
 import pathlib
 import re
 import shutil
 import subprocess
 import sys
+import tarfile
 import tempfile
 import unittest
 
@@ -85,6 +87,19 @@ class Packed(DeployTest):
         subprocess.run([sys.executable, TOOL / "pack.py", other], check=True, capture_output=True)
         self.assertEqual(other.read_bytes(), self.file.read_bytes())
         self.assertTrue(os.access(other, os.X_OK))
+
+    def test_in_the_archive(self) -> None:
+        """The archive of `make dist` holds these very bytes, to be run, and their checksum."""
+        stub = self.room / "pdpd"
+        stub.write_text("#!/bin/sh\necho pdpd 9.9\n", encoding="ascii")
+        stub.chmod(0o755)
+        packs = [sys.executable, TOP / "deploy" / "dist.py", "--program", stub, "--to", self.room / "dist"]
+        subprocess.run(packs, check=True, capture_output=True)
+        with tarfile.open(self.room / "dist" / "pdpd-9.9.tar.gz") as archive:
+            entry = archive.getmember("pdpd-9.9/policy.pyz")
+            held, sums = archive.extractfile(entry).read(), archive.extractfile("pdpd-9.9/SHA256SUMS").read()
+        self.assertEqual((held == self.file.read_bytes(), entry.mode), (True, 0o755))
+        self.assertIn(f"{hashlib.sha256(held).hexdigest()}  policy.pyz\n", sums.decode())
 
     def test_the_version(self) -> None:
         """It is that of pdpd."""
