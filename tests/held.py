@@ -1,12 +1,16 @@
-"""Memory that `pdpd replay` holds, counted by a few lines of C before the C library: however many messages of a route
-have come, no more is held at once, and none is left at the end."""
+"""Memory that both programs hold, counted by a few lines of C before the C library: however many messages of a route
+have come, no more is held at once, and none is left at the end; and a response that is refused for its length takes
+neither the memory of one that is sent nor more allocations."""
+import collections
 import json
 import os
 import subprocess
 
-from sent import OPERATOR, making, message, policy, rows_body
+from growths import encoded, line
+from sent import OPERATOR, UNAVAILABLE, making, message, policy, rows_body
 
-# The most bytes that are held at once, and those that are held at the end, told then.
+# The most bytes that are held at once, those that are held at the end, how many allocations there were, and how many
+# bytes they took, told then.
 COUNTING = r"""
 #define _GNU_SOURCE
 #include <dlfcn.h>
@@ -14,10 +18,12 @@ COUNTING = r"""
 #include <stdio.h>
 #include <stdlib.h>
 
-static size_t held, most;
+static size_t held, most, count, bytes;
 
 static void *taken(void *place) {
     held += malloc_usable_size(place);
+    bytes += malloc_usable_size(place);
+    count++;
     if (held > most) most = held;
     return place;
 }
@@ -45,7 +51,7 @@ void free(void *place) {
 }
 
 __attribute__((destructor)) static void tell(void) {
-    fprintf(stderr, "%zu %zu\n", most, held);
+    fprintf(stderr, "%zu %zu %zu %zu\n", most, held, count, bytes);
 }
 """
 
@@ -55,18 +61,28 @@ OFTEN, DECISIONS = 60, 1_000
 DOMAINS = 129
 # Bytes of an entry of the transcript, and how many more may be held at once if messages come twice as often.
 ENTRY, MOST_MORE = 40_000, 4_096
-# Values of one response, and the bytes that it may take beside those of its body.
-VALUES, MOST_OF_VALUES = 4_097, 16 * 2 ** 20
+# Values of one response, the bytes that they may take at once, and those that all allocations for one of them may take.
+VALUES, MOST_OF_VALUES, MOST_OF_A_VALUE = 4_097, 16 * 2 ** 20, 16_384
 DATES, TIMES = ("urn:dates", "date"), ("urn:times", "dateTime")
+# A request with two objects of each category, which is 64 individual requests, and the bytes that a result shows of an
+# object: the response has 32 times the bytes of the request.
+CATEGORIES, SHOWN, ASSIGNMENTS = 6, 40_000, 100
+
+# What a run has held: the most bytes at once, those that are left at its end, how many allocations it took, and how
+# many bytes these had together.
+Held = collections.namedtuple("Held", "most left allocations taken")
+
+
+def counted(words, library, given):
+    """What a run holds, and what it writes."""
+    surroundings = {**os.environ, "LD_PRELOAD": library}
+    ran = subprocess.run(words, input=given, capture_output=True, env=surroundings, check=True)
+    return Held(*map(int, ran.stderr.split()[-4:])), ran.stdout
 
 
 def most_and_left(program, library, transcript):
     """The most bytes that a run over a transcript holds at once, and those that are left at its end."""
-    how = {"stdout": subprocess.DEVNULL, "stderr": subprocess.PIPE, "check": True}
-    ran = subprocess.run([program, "replay", OPERATOR], input=transcript,
-                         env={**os.environ, "LD_PRELOAD": library}, **how)
-    most, left = map(int, ran.stderr.split()[-2:])
-    return most, left
+    return counted([program, "replay", OPERATOR], library, transcript)[0][:2]
 
 
 # ---- messages
@@ -125,6 +141,8 @@ CYCLES = {
     "a decision that is too long to be kept": lambda number: [asking("urn:n", "string", [f"{number:020}" * 900])],
     "refusals": lambda _: [in_acme("GET pap/policy/urn:q/1.0"), message("GET", "/", OPERATOR),
                            in_acme("GET pip", token="no-token"), in_acme("POST pdp", "{")],
+    "a change and an ask": lambda _: [in_acme("PUT pap/root", '{"PolicyIdReference":{"Id":"urn:p"}}'),
+                                      in_acme("POST pdp", '{"Request":{}}')],
     "a view that is evicted": lambda number: [asking(*DATES, [day(number)], f"d{number % DOMAINS}")],
 }
 
@@ -156,9 +174,56 @@ def faults_of_values(program, library):
     """What is wrong with the memory that the texts of many values take in one response."""
     faults = []
     for name, data_type, value in ((*DATES, "2026-11-29"), (*TIMES, "2026-11-29T20:00:00Z")):
-        few, many = (most_and_left(program, library, transcript_of(
-            [*beginning(), asking(name, data_type, [value] * count)]))[0] for count in (1, VALUES))
-        print(f"tests/memory.py: {many - few} bytes more are held at once for {VALUES} values of {data_type}")
-        if many > few + MOST_OF_VALUES:
-            faults.append(f"{VALUES} values of {data_type} take {many - few} bytes")
+        (few, _), (many, written) = (counted([program, "replay", OPERATOR], library, transcript_of(
+            [*beginning(), asking(name, data_type, [value] * count)])) for count in (1, VALUES))
+        more, taken = many.most - few.most, (many.taken - few.taken) // VALUES
+        print(f"tests/memory.py: {more} bytes more are held at once for {VALUES} values of {data_type}, and each takes "
+              f"{taken} in all")
+        if more > MOST_OF_VALUES or taken > MOST_OF_A_VALUE:
+            faults.append(f"{VALUES} values of {data_type} take {more} bytes at once, and each takes {taken}")
+        if written.count(f'"Value":"{value}"'.encode()) != VALUES:
+            faults.append(f"{VALUES} values of {data_type} aren't answered")
+    return faults
+
+
+def duty_policy():
+    """A policy that permits, with an obligation of many assignments: to make one takes more allocations than to write
+    it."""
+    told = [{"AttributeId": f"a{number}", "Expression": {"AttributeValue": {"DataType": "string", "Value": "v"}}}
+            for number in range(ASSIGNMENTS)]
+    made = json.loads(policy("Permit"))
+    made["Policy"]["ObligationExpressions"] = [{"ObligationId": "o", "FulfillOn": "Permit",
+                                                "AttributeAssignmentExpression": told}]
+    return json.dumps(made)
+
+
+def asking_for_much():
+    """A decision request whose response shows each of its objects 32 times."""
+    shown = [{"AttributeId": "a", "IncludeInResult": True, "Value": "x" * SHOWN}]
+    objects = [{"CategoryId": f"urn:c{number // 2}", "Attribute": shown} for number in range(2 * CATEGORIES)]
+    return in_acme("POST pdp", json.dumps({"Request": {"Category": objects}}))
+
+
+def responding(program, library, most):
+    """What a row of xa_trials holds in which that is asked, where a response may have so many bytes; and the reply."""
+    messages = [*(held for held, _ in making("acme", "acme-token-1", duty_policy())), asking_for_much()]
+    row = line(["server_in_memory", f"reply:{most}", *("piece:" + encoded(each) for each in messages)])
+    held, written = counted([program], library, row.encode())
+    return held, written.rstrip(b"\n").split(b"\t")[-1]
+
+
+def faults_of_refusals(program, library):
+    """What is wrong with the memory and the allocations of a response that is refused for its length: at a quarter of
+    it, and at the last of its 64 results, behind which nothing is decided again."""
+    sent, reply = responding(program, library, 2 ** 40)
+    length = 2 ** CATEGORIES * CATEGORIES * SHOWN
+    early, late = (responding(program, library, most) for most in (length // 4, length - SHOWN))
+    print(f"tests/memory.py: a response of over {length} bytes takes {sent.allocations} allocations; refused at its "
+          f"last result, {late[0].allocations}; at a quarter of it, {early[0].most} bytes are held at once")
+    refusal = encoded(UNAVAILABLE).encode()
+    faults = [] if len(reply) > length and {early[1], late[1]} == {refusal} else ["a long response is answered wrongly"]
+    if early[0].most > length // 2:
+        faults.append(f"a response that is refused early takes {early[0].most} bytes")
+    if late[0].allocations > sent.allocations:
+        faults.append(f"a response that is refused takes {late[0].allocations} allocations, {sent.allocations} if sent")
     return faults

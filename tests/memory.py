@@ -21,7 +21,7 @@ import time
 sys.dont_write_bytecode = True
 import programs  # noqa: E402
 from growths import FAILING, TOP, Replay, Rows, by_model, compiled, entries, in_turn, not_asked, script  # noqa: E402
-from held import COUNTING, faults_of_routes, faults_of_values, most_and_left  # noqa: E402
+from held import COUNTING, faults_of_refusals, faults_of_routes, faults_of_values, most_and_left  # noqa: E402
 from serving import OPERATOR, UNAVAILABLE, decided, making, message  # noqa: E402
 
 MIB = 2 ** 20
@@ -139,6 +139,7 @@ def main():
         library = compiled(FAILING, f"{folder}/failing.so")
         counting = compiled(COUNTING, f"{folder}/counting.so")
         faults = figures(pdpd, counting) + faults_of_routes(pdpd, counting) + faults_of_values(pdpd, counting)
+        faults += faults_of_refusals(xa_trials, counting)
         faults += [f"the script doesn't ask for: {command}" for command in not_asked(script())]
         tables = Refusing("the script over tables", Replay(pdpd, library), script())
         vectors = Refusing("the script over a keeper in memory", Rows(xa_trials, library), script())

@@ -31,7 +31,8 @@ PARTS = (
     stores.no_databases, stores.no_stores, stores.half_stores, stores.lost_logs, stores.modes,
     sockets.sockets, sockets.taking, memory.memory, memory.stack, memory.address_space, disks.file_size, sockets.idle,
     limits.long_replies, limits.limits, limits.work_unless_set, limits.reading_and_views,
-    sizes.long_parts, sizes.many_domains, sizes.long_text, sizes.full_domain, costs.single, sockets.last)
+    sizes.long_parts, sizes.many_domains, sizes.long_text, sizes.many_assignments, sizes.full_domain,
+    costs.single, costs.kept, sockets.last)
 
 
 def main():

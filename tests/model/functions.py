@@ -147,11 +147,10 @@ def is_among(value, others):
 
 def distinct(values):
     """Each value at its first appearance alone."""
-    found = []
+    found = {}
     for value in values:
-        if not is_among(value, found):
-            found.append(value)
-    return found
+        found.setdefault(key(value), value)
+    return list(found.values())
 
 
 def subset(first, second):

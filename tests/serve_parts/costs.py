@@ -1,12 +1,14 @@
-"""What bytes cost of the processor's time if they come one by one."""
+"""What bytes cost of the processor's time if they come one by one, and a decision that is kept among many."""
 import pathlib
 
 from checks import Between
 
-from .shared import serving, within
+from .shared import PERMIT, expect, in_acme, make_domain, serving, within
 
 # Bytes that come one by one, how often, and how much longer those behind many others may take than the first.
 SINGLE, REPEATED, ROUNDS, MOST_TIMES = 50, 5, 3, 3
+# How many decisions are kept, and the most bytes of a request whose decision is.
+FEW_KEPT, MOST_KEPT, LONGEST_KEPT = 32, 512, 16_384
 
 
 def sleeps(served):
@@ -40,7 +42,7 @@ def seconds_of_single_bytes(served, before):
 def single():
     """A byte of a head or a body takes as long behind many others as behind few."""
     target = b"GET /" + b"a" * 16_000
-    fields = b"".join(b"X-%d: %s\r\n" % (number, b"v" * 200) for number in range(60))
+    fields = b"".join(b"X-%d-%s:\r\n" % (number, b"n" * 220) for number in range(60))
     small, large = (b"POST /domains/acme/pdp HTTP/1.1\r\n%sContent-Length: 524288\r\n\r\n" % more
                     for more in (b"", fields))
     with serving("single.db") as served:
@@ -50,3 +52,31 @@ def single():
                                 for _ in range(ROUNDS)))
             within(f"{what}: how much longer its last bytes take than its first", min(last) / min(first),
                    Between(0, MOST_TIMES))
+
+
+def long_ask(number):
+    """A decision request whose body is as long as one whose decision is kept, and has its number at the end."""
+    return in_acme("POST pdp", f'{{"Request":{{"Action":{{"Id":"{number:04}"}}}}}}'.rjust(LONGEST_KEPT))
+
+
+def seconds_of_kept(count):
+    """The least processor time of asks whose decisions are kept, where so many are."""
+    with serving(f"kept-{count}.db") as served:
+        make_domain(served)
+        with served.client() as client:
+            replies = {client.ask(long_ask(number)) for number in range(count)}
+            expect(f"{count} decisions", replies, {PERMIT})
+            found = []
+            for _ in range(REPEATED * ROUNDS):
+                began = served.processor_seconds()
+                for number in range(FEW_KEPT):
+                    client.ask(long_ask(number))
+                found.append(served.processor_seconds() - began)
+    return min(found)
+
+
+def kept():
+    """A decision that is kept is found among the most that are as soon as among few."""
+    few, many = map(seconds_of_kept, (FEW_KEPT, MOST_KEPT))
+    within(f"how much longer an ask takes where {MOST_KEPT} decisions are kept than where {FEW_KEPT} are", many / few,
+           Between(0, MOST_TIMES))

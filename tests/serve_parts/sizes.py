@@ -5,7 +5,8 @@ import json
 from serving import ABSENT, CREATED, DONE, OPERATOR, answered, fault, message, policy, reply
 
 from .limits import OK, growing_policy, response
-from .shared import ASK, LIST, PERMIT, creates, expect, in_acme, listing, make_domain, room_in_memory, serving
+from .shared import (
+    ASK, LIST, PERMIT, creates, environment, expect, in_acme, listing, make_domain, room_in_memory, serving)
 
 ROWS, DOCUMENTS, BODY = 4_096, 1_024, 524_288
 STARTED = CREATED[:12].decode()
@@ -45,6 +46,23 @@ def long_text():
             {"Decision": "Permit", "Obligations": [{"AttributeAssignment": [assigned], "Id": "o"}], "Status": OK}])])
 
 
+def many_assignments():
+    """An assignment of each value of a request, of which there are as many as its body has room for."""
+    designator = {"Category": "Action", "AttributeId": "a", "DataType": "integer", "MustBePresent": True}
+    held = json.loads(policy())
+    each = {"AttributeId": "b", "Expression": {"AttributeDesignator": designator}}
+    held["Policy"]["ObligationExpressions"] = [
+        {"ObligationId": "o", "FulfillOn": "Permit", "AttributeAssignmentExpression": [each]}]
+    begun, ended = '{"Request":{"Action":{"Attribute":{"AttributeId":"a","Value":[', "]}}}}"
+    count = (BODY - len(begun) - len(ended) + 1) // 2
+    assigned = {"AttributeId": "b", "DataType": "http://www.w3.org/2001/XMLSchema#integer", "Value": 0}
+    with serving("assignments.db", env=environment(PDPD_REPLY="0")) as served:
+        make_domain(served, text=json.dumps(held))
+        expect(f"{count:,} assignments", served.once(in_acme("POST pdp", begun + ",".join("0" * count) + ended)), [
+            response([{"Decision": "Permit", "Obligations": [{"AttributeAssignment": [assigned] * count, "Id": "o"}],
+                       "Status": OK}])])
+
+
 def filling(texts, ids, rows, row):
     """Fills acme with documents, each made active, and rows; and beta with one row."""
     def fill(served):
@@ -76,6 +94,9 @@ def full_domain():
     with room_in_memory() as room:
         for what, before in (("a full domain", fill), ("a full domain after a stop", lambda served: None)):
             with serving(f"{room}/full.db") as served:
+                expect(f"{what}: it listens", faults := served.listened(), None)
+                if faults:
+                    return
                 before(served)
                 expect(what, served.once(*asked), wanted)
                 found = json.loads(served.once(in_acme("GET pap/policies"))[0].partition(b"\r\n\r\n")[2])["Policy"]

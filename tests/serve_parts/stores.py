@@ -81,6 +81,16 @@ def file_alone(path, log, aside):
     aside.rename(log)
 
 
+def whole_by_link(path):
+    """By a link to a store whose file has nothing yet and whose log has all, the log is found beside the file."""
+    link = folder / "whole-link.db"
+    link.symlink_to(path)
+    with serving("whole-link.db") as served:
+        expect("a whole store by a link", (served.listened(), served.listens and served.once(LIST, ASK)),
+               (None, [listing(["acme"]), PERMIT]))
+    expect("a whole store by a link: no line", served.said, b"")
+
+
 def half_stores():
     """A log without its file, and a file without its log: neither is written over, a line says what lies there, and
     with the other half all is there."""
@@ -90,6 +100,7 @@ def half_stores():
     expect("a new store that was killed has all in its log", sizes(path, log), (PAGE, True))
     log_alone(path, log, aside)
     file_alone(path, log, aside)
+    whole_by_link(path)
     with serving("half.db", 1) as served:
         expect("with both all is there", served.once(LIST, ASK), [listing(["acme"]), PERMIT])
         ends_well("both halves", served)
