@@ -1,6 +1,4 @@
-pub mod ConnectionLemmas
 pub mod HeadingLemmas
-pub mod LineLemmas
 pub mod PartLemmas
 pub mod PieceLemmas
 pub mod ReadingLemmas

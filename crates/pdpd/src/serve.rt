@@ -4,13 +4,14 @@ ghost use Rattle.std.specs.Prelude.{OnOk, Err, None, Some};
 ghost use Rattle.std.specs.Net.Grammar.{IsSocketText, Parses};
 ghost use Rattle.sqlite.specs.Files.{over_files};
 ghost use Rattle.xa_server.specs.Decisions.{nothing_cached};
+ghost use Rattle.xa_server.specs.Driven.{seen_by};
 ghost use Rattle.xa_server.specs.Front.{FrontState, front_state};
 ghost use Rattle.xa_server.specs.Lines.{none_open};
 ghost use Rattle.xa_store.specs.KeeperReading.{custody_by};
 ghost use Rattle.pdpd.specs.declared.fault.Fault.TheVariants.{Address};
 ghost use Rattle.pdpd.specs.Connections.{AreIsolated, IsConnectionServed};
 ghost use Rattle.pdpd.specs.Fault.{IsNoAddress, IsOfConnections, IsOfFiles, IsOfServing, fault_of_end};
-ghost use Rattle.pdpd.specs.running.Serving.{Serves, ServesOne, WasSound, seen_beside_front};
+ghost use Rattle.pdpd.specs.running.Serving.{Serves, ServesOne, WasSound};
 ghost use Rattle.pdpd.specs.Token.{IsOperator};
 
 mod listening;
@@ -56,10 +57,11 @@ fn serve_connection<R: Records, I: Reader, W: Writer, C: Clock>(
     clock: &mut C,
 ) -> Result<(), Fault>
     requires { front.old.lines ≡ none_open }
-    ensures served { let seen = seen_beside_front I.Reader W.Writer C.Clock in
+    ensures served { let seen = seen_by R.custody W.Writer C.Clock in
         OnOk result ((R.custody front.new.server.records).sound
         → IsConnectionServed (front_state R.custody front.old) (front_state R.custody front.new)
-        (seen reader.old writer.old clock.old) (seen reader.new writer.new clock.new)) }
+        (seen (I.remaining reader.old) (I.reads reader.old) front.old.server writer.old clock.old)
+        (seen (I.remaining reader.new) (I.reads reader.new) front.new.server writer.new clock.new)) }
     ensures closed { front.new.lines ≡ none_open }
     ensures sound { WasSound R.custody front.old front.new }
     ensures err { IfErr result IsOfConnections }
@@ -68,9 +70,8 @@ fn serve_connection<R: Records, I: Reader, W: Writer, C: Clock>(
         unreachable!()
     };
     let end = drive(front, conn, reader, writer, clock);
-    let Ok(()) = front.close(conn) else {
-        unreachable!()
-    };
+    // It fails only if it isn't open: either way it isn't afterwards.
+    let _closed = front.close(conn);
     check_end(end)
 }
 
