@@ -1,3 +1,4 @@
+pub mod BeginningLemmas
 pub mod ConnectionLemmas
 pub mod HeadingLemmas
 pub mod LineLemmas

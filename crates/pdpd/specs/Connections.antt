@@ -1,5 +1,7 @@
 -- Connections that were served, one after another.
-use Rattle.std.specs.Prelude.{◌≡◌, ℕ, zero, suc, List, [], ◌++◌, Some, None}
+use Rattle.std.specs.Prelude.{◌≡◌, ℕ, zero, suc, List, [], ◌++◌, Option, Some, None}
+use Rattle.sqlite.specs.Recovery.{Image}
+use Rattle.sqlite_disk.specs.declared.Disk.{Ghosts}
 use Rattle.xa_server.specs.declared.drive_end.DriveEnd.{DriveEnd}
 use Rattle.xa_server.specs.declared.lines.Conn.{Conn}
 use Rattle.xa_server.specs.declared.replies.Reply.{Reply}
@@ -10,6 +12,8 @@ use Rattle.xa_server.specs.Isolation.{IsIsolatedBesideRefusals}
 use Rattle.xa_server.specs.Lines.{empty_stream, none_open, with_line}
 use Rattle.xa_server.specs.Served.{IsRun}
 use Rattle.xa_server.specs.Work.{IsWorkOfRun}
+use Rattle.pdpd.specs.declared.store.closed.ClosedStore.{ClosedStore}
+use Rattle.pdpd.specs.Beginning.{Begins, IsLeftIn}
 use Rattle.pdpd.specs.Fault.{fault_of_end}
 
 -- no connection was open. One was opened, of which nothing had come; it was driven to an end after which the next is
@@ -42,3 +46,13 @@ pub record AreIsolated (count : ℕ) (old new : FrontState) : Type 0 where
   pub is_run : IsRun old.server.world events replies new.server.world
   pub work : IsWorkOfRun old.server.world old.server.decisions events replies new.server.world new.server.decisions
   pub isolated : IsIsolatedBesideRefusals old.server.world new.server.world events replies
+
+-- a store was served and closed. Its two files held `image`, and `token` is known of the token file's text. `count`
+-- connections were served from what the files held, and what they have left is in the files
+pub record ServesFiles {D : Type 0} {g : Ghosts D} (image : Image) (token : Option (List ℕ)) (count : ℕ)
+    (closed : ClosedStore D g) : Type 0 where
+  pub old : FrontState
+  pub new : FrontState
+  pub begins : Begins image token old
+  pub isolated : AreIsolated count old new
+  pub left : IsLeftIn closed new.server.world.kept

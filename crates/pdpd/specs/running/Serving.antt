@@ -7,7 +7,7 @@ use Rattle.xa_server.specs.declared.writer.Writer.{Ghosts as WriterGhosts}
 use Rattle.xa_server.specs.Driven.{Known}
 use Rattle.xa_server.specs.Front.{FrontModel, FrontState}
 use Rattle.pdpd.specs.declared.fault.Fault.{Fault}
-use Rattle.pdpd.specs.declared.serve.setting.Setting.TheVariants.{Work, Reply, Reading, Views, Idle}
+use Rattle.pdpd.specs.declared.serve.setting.Setting.TheVariants.{Work, Reply, Reading, Views, Idle, Sums}
 use Rattle.pdpd.specs.Connections.{AreIsolated, IsConnectionServed}
 use Rattle.pdpd.specs.Fault.{IsOfSetting}
 
@@ -15,7 +15,8 @@ use Rattle.pdpd.specs.Fault.{IsOfSetting}
 abbrev pub IsOfSettings : Fault → Type 0
 IsOfSettings fault =
     IsOfSetting Work fault
-    ⊎ (IsOfSetting Reply fault ⊎ (IsOfSetting Reading fault ⊎ (IsOfSetting Views fault ⊎ IsOfSetting Idle fault)))
+    ⊎ (IsOfSetting Reply fault
+    ⊎ (IsOfSetting Reading fault ⊎ (IsOfSetting Views fault ⊎ (IsOfSetting Idle fault ⊎ IsOfSetting Sums fault))))
 
 -- what is known of a connection by what its reader, its writer and the clock say; a `Front` says nothing of its calls
 abbrev pub seen_beside_front : {I W C : Type 0} → ReaderGhosts I → WriterGhosts W → ClockGhosts C → I → W → C → Known
