@@ -1,3 +1,4 @@
+pub mod BeginningLemmas
 pub mod HeadingLemmas
 pub mod PartLemmas
 pub mod PieceLemmas

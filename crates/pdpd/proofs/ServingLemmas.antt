@@ -4,6 +4,7 @@ use Rattle.std.specs.Prelude.{◌↔◌, IfErr, MatchResult, OnOk, Result}
 use Rattle.std.specs.Net.Grammar.{IsSocketText}
 use Rattle.std.specs.declared.net.socket_addr.SocketAddr.{SocketAddr}
 use Rattle.std.proofs.lemmas.Result.{IfErr-at_err}
+use Rattle.sqlite.specs.Recovery.{Image}
 use Rattle.xa_http.specs.Stream.{Stream}
 use Rattle.xa_records.specs.Keeper.{Custody}
 use Rattle.xa_server.specs.declared.drive_end.DriveEnd.{DriveEnd}
@@ -13,7 +14,6 @@ use Rattle.xa_server.specs.declared.front_error.FrontError.TheVariants.{Full, No
 use Rattle.xa_server.specs.declared.lines.Conn.{Conn}
 use Rattle.xa_server.specs.declared.replies.Reply.{Reply}
 use Rattle.xa_server.specs.Alone.{Event}
-use Rattle.xa_server.specs.Decisions.{nothing_cached}
 use Rattle.xa_server.specs.Driven.{IsConnection, IsConnectionOf, IsDrivenWithin, KeepsOpen, Known}
 use Rattle.xa_server.specs.declared.front.Front.{Front}
 use Rattle.xa_server.specs.Front.{FrontState, front_state}
@@ -21,15 +21,16 @@ use Rattle.xa_server.specs.Connection.{IsOneRun, empty_stream}
 use Rattle.xa_server.specs.Lines.{IsClosed, IsOpened, Lines, first_free, line_at, none_open, with_line}
 use Rattle.xa_server.specs.World.{ServerModel, ServerState, server_state}
 use Rattle.xa_server.proofs.ConnectionLemmas.{no_run, runs_on}
+use Rattle.pdpd.specs.Beginning.{Begins}
 use Rattle.pdpd.specs.Connections.{AreIsolated, IsConnectionServed}
+use Rattle.pdpd.specs.declared.exit.Exit.TheVariants.{Done}
 use Rattle.pdpd.specs.declared.fault.Fault.{Fault}
 use Rattle.pdpd.specs.declared.fault.Fault.TheVariants as variant
 use Rattle.pdpd.specs.declared.fault.Fault.TheVariants.{Address, TokenUnread, TokenBad, Store, Shut, Socket, Connection, Clock, Output, Memory}
 use Rattle.pdpd.specs.declared.serve.setting.Setting.{Setting}
 use Rattle.pdpd.specs.declared.serve.setting.Setting.TheVariants as set
-use Rattle.pdpd.specs.Fault.{IsNoAddress, IsOfConnections, IsOfFiles, IsOfServing, IsOfSetting, IsOfStore, IsOfToken, fault_of_end}
+use Rattle.pdpd.specs.Fault.{IsNoAddress, IsOfConnections, IsOfFiles, IsOfServing, IsOfSetting, IsOfStore, IsOfToken, exit_of_fault, fault_of_end}
 use Rattle.pdpd.specs.running.Serving.{IsOfSettings, Serves, ServesOne}
-use Rattle.pdpd.specs.Token.{IsOperator}
 use Rattle.pdpd.proofs.ReadyLemmas.{none_some, some_number}
 
 -- ---- a connection
@@ -160,16 +161,29 @@ unfolding Serves ServesOne
 served_more count old mid new before (known_before, known_now, is) = more_isolated count old mid new known_before known_now before is
 
 -- from the front of the files
-pub served_from : {R : Type 0} (custody : R → Custody) (count : ℕ) (old new : Front R) → IsOperator old.server.operator → old.server.decisions ≡ nothing_cached
-    → old.lines ≡ none_open → Serves count (front_state custody old) (front_state custody new)
-    → (from : FrontState) × IsOperator from.server.world.operator × (from.server.decisions ≡ nothing_cached) × (from.lines ≡ none_open)
-    × AreIsolated count from (front_state custody new)
+pub served_from : {R : Type 0} (custody : R → Custody) (image : Image) (token : Option (List ℕ)) (count : ℕ) (old new : Front R) → Begins image token (front_state custody old)
+    → Serves count (front_state custody old) (front_state custody new) → (from : FrontState) × Begins image token from × AreIsolated count from (front_state custody new)
 unfolding Serves
-served_from custody count old new operator decisions none is = (front_state custody old, operator, decisions, none, is)
+served_from custody image token count old new begins is = (front_state custody old, begins, is)
 
 -- the last of them
 pub served_last : (count others : ℕ) (old mid new : FrontState) → count ≡ others + 1 → Serves others old mid → ServesOne mid new → Serves count old new
 served_last count others old mid new same before is = subst (λ (n : ℕ). Serves n old new) (sym same) (served_more others old mid new before is)
+
+-- ---- no fault ends the program well
+
+pub fault_not_done : (fault : Fault) → exit_of_fault fault ≢ Done
+fault_not_done Address = λ same. cc
+fault_not_done (variant.Setting setting) = λ same. cc
+fault_not_done TokenUnread = λ same. cc
+fault_not_done TokenBad = λ same. cc
+fault_not_done (Store fault) = λ same. cc
+fault_not_done Shut = λ same. cc
+fault_not_done Socket = λ same. cc
+fault_not_done Connection = λ same. cc
+fault_not_done Clock = λ same. cc
+fault_not_done Output = λ same. cc
+fault_not_done Memory = λ same. cc
 
 -- ---- faults that are no fault of the address
 
@@ -188,7 +202,8 @@ settings_not_address fault (inl is) = setting_not_address set.Work fault is
 settings_not_address fault (inr (inl is)) = setting_not_address set.Reply fault is
 settings_not_address fault (inr (inr (inl is))) = setting_not_address set.Reading fault is
 settings_not_address fault (inr (inr (inr (inl is)))) = setting_not_address set.Views fault is
-settings_not_address fault (inr (inr (inr (inr is)))) = setting_not_address set.Idle fault is
+settings_not_address fault (inr (inr (inr (inr (inl is))))) = setting_not_address set.Idle fault is
+settings_not_address fault (inr (inr (inr (inr (inr is))))) = setting_not_address set.Sums fault is
 
 pub token_not_address : (fault : Fault) → IsOfToken fault → fault ≢ Address
 token_not_address Address none = absurd none

@@ -1,5 +1,7 @@
 -- Connections that were served, one after another.
-use Rattle.std.specs.Prelude.{◌≡◌, ℕ, zero, suc, List, [], ◌++◌, None}
+use Rattle.std.specs.Prelude.{◌≡◌, ℕ, zero, suc, List, [], ◌++◌, Option, None}
+use Rattle.sqlite.specs.Recovery.{Image}
+use Rattle.sqlite_disk.specs.declared.Disk.{Ghosts}
 use Rattle.xa_http.specs.Stream.{Stream}
 use Rattle.xa_server.specs.declared.drive_end.DriveEnd.{DriveEnd}
 use Rattle.xa_server.specs.declared.replies.Reply.{Reply}
@@ -8,6 +10,8 @@ use Rattle.xa_server.specs.Connection.{IsOneRun, empty_stream}
 use Rattle.xa_server.specs.Driven.{IsDrivenWithin, Known}
 use Rattle.xa_server.specs.Front.{FrontState}
 use Rattle.xa_server.specs.Lines.{none_open}
+use Rattle.pdpd.specs.declared.store.closed.ClosedStore.{ClosedStore}
+use Rattle.pdpd.specs.Beginning.{Begins, IsLeftIn}
 use Rattle.pdpd.specs.Fault.{fault_of_end}
 
 -- no connection was open. One was opened, of which nothing had come; it was driven to an end after which the next is
@@ -40,3 +44,13 @@ pub record AreIsolated (count : ℕ) (old new : FrontState) : Type 0 where
   pub replies : List Reply
   pub served : AreServed count old new events replies
   pub run : IsOneRun old.server new.server events replies
+
+-- a store was served and closed. Its two files held `image`, and `token` is known of the token file's text. `count`
+-- connections were served from what the files held, and what they have left is in the files
+pub record ServesFiles {D : Type 0} {g : Ghosts D} (image : Image) (token : Option (List ℕ)) (count : ℕ)
+    (closed : ClosedStore D g) : Type 0 where
+  pub old : FrontState
+  pub new : FrontState
+  pub begins : Begins image token old
+  pub isolated : AreIsolated count old new
+  pub left : IsLeftIn closed new.server.world.kept

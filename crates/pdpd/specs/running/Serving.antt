@@ -5,7 +5,7 @@ use Rattle.xa_server.specs.declared.front.Front.{Front}
 use Rattle.xa_server.specs.Driven.{Known}
 use Rattle.xa_server.specs.Front.{FrontState}
 use Rattle.pdpd.specs.declared.fault.Fault.{Fault}
-use Rattle.pdpd.specs.declared.serve.setting.Setting.TheVariants.{Work, Reply, Reading, Views, Idle}
+use Rattle.pdpd.specs.declared.serve.setting.Setting.TheVariants.{Work, Reply, Reading, Views, Idle, Sums}
 use Rattle.pdpd.specs.Connections.{AreIsolated, IsConnectionServed}
 use Rattle.pdpd.specs.Fault.{IsOfSetting}
 
@@ -13,7 +13,8 @@ use Rattle.pdpd.specs.Fault.{IsOfSetting}
 abbrev pub IsOfSettings : Fault → Type 0
 IsOfSettings fault =
     IsOfSetting Work fault
-    ⊎ (IsOfSetting Reply fault ⊎ (IsOfSetting Reading fault ⊎ (IsOfSetting Views fault ⊎ IsOfSetting Idle fault)))
+    ⊎ (IsOfSetting Reply fault
+    ⊎ (IsOfSetting Reading fault ⊎ (IsOfSetting Views fault ⊎ (IsOfSetting Idle fault ⊎ IsOfSetting Sums fault))))
 
 -- a connection was served, whatever is known of its reader, its writer and the clock
 unfoldable pub ServesOne : FrontState → FrontState → Type 0
