@@ -49,9 +49,12 @@ pub untimed : (spare : ℕ) (a : Situation) (j : Option (List (Option ℤ))) (se
 untimed spare a j seen result looks is tells none =
     let there : IsLook a.stream look.Message = subst (λ (l : Look). IsLook a.stream l) is looks in
     let message : Message = there.1.0 in
-    ends_idle spare NoClock a (after_told a j) refl
-    (message, record { held = there.1.1; ended = message.close }, (there.0, there.1.2, refl),
-    tells_last a j None (subst (λ (r : Option ℤ). Grows a.known.told j (r ∷ [])) none tells))
+    ends_idle spare NoClock a (after_told a j) refl (
+      message,
+      record { held = there.1.1; ended = message.close },
+      (there.0, there.1.2, refl),
+      tells_last a j None (subst (λ (r : Option ℤ). Grows a.known.told j (r ∷ [])) none tells),
+    )
 
 -- the session had ended
 pub ended_before : (spare : ℕ) (a : Situation) (seen : Look) → IsLook a.stream seen → seen ≡ look.Ended → IsDrivenWithin spare Ended a a
@@ -110,9 +113,11 @@ message_fails spare WriteFault sound a b moment reply served holds left reads to
     ends_now spare WriteFault a b ((moment, served.0) ∷ []) (reply ∷ []) (serves_run moment served.0 reply a.server b.server (served.2 holds))
     (served_last false sound a b moment reply served holds left reads told sent)
 message_fails spare Shut sound a b moment reply served holds left reads told (sent, shut) =
-    ends_now spare Shut a b ((moment, served.0) ∷ []) (reply ∷ []) (serves_run moment served.0 reply a.server b.server (served.2 holds))
-    (served_last true sound a b moment reply served holds left reads told sent, (shut_refused reply b.known.is_open shut).0,
-    (shut_refused reply b.known.is_open shut).1)
+    ends_now spare Shut a b ((moment, served.0) ∷ []) (reply ∷ []) (serves_run moment served.0 reply a.server b.server (served.2 holds)) (
+      served_last true sound a b moment reply served holds left reads told sent,
+      (shut_refused reply b.known.is_open shut).0,
+      (shut_refused reply b.known.is_open shut).1,
+    )
 message_fails spare Ended sound a b moment reply served holds left reads told none = absurd none
 message_fails spare ReadFault sound a b moment reply served holds left reads told none = absurd none
 message_fails spare NoClock sound a b moment reply served holds left reads told none = absurd none

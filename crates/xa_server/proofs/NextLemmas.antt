@@ -34,11 +34,12 @@ pub first_answered : {E : Type 0} (sound : Type 0) (moment : ℤ) (old new : Ser
     → AnswersNext {E = E} sound moment old s (Ok answered) new t
 first_answered sound moment old new s t looked last reply answered same (message, first, serves) ended by =
     let is : answered ≡ answered_by t.ended reply = by ∙ ap (λ (b : Bool). answered_by b reply) ended in (
-      Some (next.Message message), (
+      Some (next.Message message),
+      (
         subst (λ (u : Stream). IsFirst u message t) same first,
         (reply, is),
         λ holds. subst (λ (r : Option Reply). ServesNext moment old (Some (next.Message message)) r new) (sym (ap reply_of is ∙ by_last t.ended)) (serves holds),
-      )
+      ),
     )
   where
     by_last : (b : Bool) → reply_of (answered_by b reply) ≡ Some reply

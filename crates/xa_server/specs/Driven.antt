@@ -1,6 +1,6 @@
 -- What a connection is answered until it ends, and how its reader, its writer and the clock were called for it.
-use Rattle.std.specs.Prelude.{◌≡◌, ◌≢◌, ◌<◌, ◌+◌, ◌⊎◌, ℕ, ℤ, Bool, true, false, List, [], ◌∷◌, ◌++◌, length, map, Option}
-use Rattle.std.specs.Prelude.{Some, None}
+use Rattle.std.specs.Prelude.{◌≡◌, ◌≢◌, ◌<◌, ◌+◌, ◌⊎◌, ℕ, ℤ, Bool, true, false, List, [], ◌∷◌, ◌++◌, length, map}
+use Rattle.std.specs.Prelude.{Option, Some, None}
 use Rattle.std.specs.Io.KnownBytes.{Appends, Consumes, IsAtEnd}
 use Rattle.std.specs.List.{All}
 use Rattle.std.specs.declared.io.ErrorKind.{ErrorKind}
@@ -109,8 +109,8 @@ WentOn (reply ∷ replies) old new = (mid : Bool) × (may_go_on reply mid ≡ tr
 abbrev pub IsWaiting : Stream → Type 0
 IsWaiting stream = IsNext stream next.More stream
 
--- after so many reads, each with room for 65,536 bytes, messages were answered, each at the moment that the clock told for
--- it and with one whole reply, and the connection goes on
+-- after so many reads, each with room for 65,536 bytes, messages were answered, each at the moment that the clock told
+-- for it and with one whole reply, and the connection goes on
 pub record HasAnswered (count : ℕ) (old new : Situation) : Type 0 where
   pub calls : Calls
   pub events : List Event
@@ -159,11 +159,11 @@ pub record MessageLast (whole : Bool) (old new : Situation) (event : Event) (rep
 
 -- ---- a connection
 
--- how a connection ended, when it might have been read from so often yet. `events` and `replies` are of the message that
--- came last, unless the connection could have gone on after it: at `Ended` the session has ended by its last message or
--- by a fault, or the stream has; at `NoClock` a message is whole, and there was no moment for it; at `Memory` it was
--- wanted for a message or a fault, or for the piece that was read last; and at `Shut` a message was refused for want of
--- storage, and the keeper isn't open
+-- how a connection ended, when it might have been read from so often yet. `events` and `replies` are of the message
+-- that came last, unless the connection could have gone on after it: at `Ended` the session has ended by its last
+-- message or by a fault, or the stream has; at `NoClock` a message is whole, and there was no moment for it; at
+-- `Memory` it was wanted for a message or a fault, or for the piece that was read last; and at `Shut` a message was
+-- refused for want of storage, and the keeper isn't open
 abbrev pub Ends : DriveEnd → ℕ → Situation → Situation → List Event → List Reply → Type 0
 Ends Ended spare old new [] [] =
     ((new ≡ old) × (old.stream.ended ≡ true))

@@ -72,7 +72,11 @@ fn send_reply<R: Records, W: Writer>(
 
 /// Ends a connection by the fault that stands at the front of its stream, and sends the reply to it. How the
 /// connection has ended.
-fn answer_fault<W: Writer>(connection: &mut Connection, writer: &mut W, fault: SessionFault) -> DriveEnd
+fn answer_fault<W: Writer>(
+    connection: &mut Connection,
+    writer: &mut W,
+    fault: SessionFault,
+) -> DriveEnd
     requires { IsLook connection.old (look.Fault fault) }
     ensures { IsFaultSent result fault connection.old connection.new
         (W.contents writer.old) (W.contents writer.new) (W.writes writer.old) (W.writes writer.new) }

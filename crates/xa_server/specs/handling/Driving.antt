@@ -63,8 +63,8 @@ IsFaultSent _ fault old new contents_old contents_new writes_old writes_new = �
 
 -- ---- messages
 
--- the next message was answered, or there is none yet; or the connection has ended, however often it might have been read
--- from yet
+-- the next message was answered, or there is none yet; or the connection has ended, however often it might have been
+-- read from yet
 abbrev pub IsNextAnswered : Result Bool DriveEnd → Situation → Situation → Type 0
 IsNextAnswered (Ok true) old new = HasAnswered 0 old new
 IsNextAnswered (Ok false) old new = HasAnswered 0 old new × IsWaiting new.stream
