@@ -23,14 +23,13 @@ use Rattle.xa_server.specs.Decisions.{nothing_cached}
 use Rattle.xa_server.specs.declared.front.Front.{Front}
 use Rattle.xa_server.specs.Front.{FrontState, front_state}
 use Rattle.xa_server.specs.Lines.{none_open}
-use Rattle.xa_store.specs.declared.schema.version.SchemaVersion.TheVariants.{Schema1, Schema2}
 use Rattle.xa_store.specs.Keeper.{Keeper, IsSound}
 use Rattle.xa_store.specs.KeeperReading.{custody_by, kept_by}
 use Rattle.xa_store.specs.Meaning.{kept_in, kept_in_schema_1}
-use Rattle.xa_store.specs.Opened.{opened}
 use Rattle.xa_store.specs.Opening.{IsBlank, no_tables}
 use Rattle.xa_store.specs.Sound.{IsOurDatabase, OpensSoundly, RestsIn}
 use Rattle.xa_store.specs.Tables.{schema_1, schema_2}
+use Rattle.xa_store.specs.keeping.Migration.{IsSoundSchema1}
 use Rattle.xa_store.proofs.ReopenLemmas.{are_ours}
 use Rattle.pdpd.specs.declared.fault.Fault.{Fault}
 use Rattle.pdpd.specs.declared.fault.Fault.TheVariants.{Store}
@@ -64,10 +63,18 @@ module _ (s : State) (fresh : IsJustOpened s) (live : IsLive s) where
   kept_over g k clean is = record {
     ours = λ are.
         let given = is.opens (rests_in schema_2 are) clean in
-        (ap (λ (d : Database). opened Schema2 d.trees) (sym fresh.clean) ∙ given.0, given.3);
+        let sound : OpensSoundly s.now.trees = record {
+          database = subst (λ (d : Database). IsOurDatabase d.trees) (sym fresh.clean) are;
+          opens = given.0;
+        } in
+        (subst (λ (d : Database). OpensSoundly d.trees) fresh.clean sound, given.3);
     ours_of_schema_1 = λ are.
         let given = is.migrates (rests_in schema_1 are) clean in
-        (ap (λ (d : Database). opened Schema1 d.trees) (sym fresh.clean) ∙ given.0, given.2.kept);
+        let sound : IsSoundSchema1 s.now.trees = record {
+          database = subst (λ (d : Database). ObeysRules schema_1 d.trees) (sym fresh.clean) are;
+          opens = given.0;
+        } in
+        (subst (λ (d : Database). IsSoundSchema1 d.trees) fresh.clean sound, given.2.kept);
     none = λ are. (is.makes (is_blank are) clean).2;
   }
 

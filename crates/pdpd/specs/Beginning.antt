@@ -12,12 +12,11 @@ use Rattle.xa_records.specs.Kept.{Kept, nothing_kept}
 use Rattle.xa_server.specs.Decisions.{nothing_cached}
 use Rattle.xa_server.specs.Front.{FrontState}
 use Rattle.xa_server.specs.Lines.{none_open}
-use Rattle.xa_store.specs.declared.schema.version.SchemaVersion.TheVariants.{Schema1, Schema2}
 use Rattle.xa_store.specs.Meaning.{kept_in, kept_in_schema_1}
-use Rattle.xa_store.specs.Opened.{opened}
 use Rattle.xa_store.specs.Opening.{no_tables}
 use Rattle.xa_store.specs.Sound.{IsOurDatabase, OpensSoundly}
 use Rattle.xa_store.specs.Tables.{schema_1}
+use Rattle.xa_store.specs.keeping.Migration.{IsSoundSchema1}
 use Rattle.pdpd.specs.declared.store.closed.ClosedStore.{ClosedStore}
 use Rattle.pdpd.specs.Token.{IsOperatorIn}
 
@@ -26,8 +25,8 @@ use Rattle.pdpd.specs.Token.{IsOperatorIn}
 -- what is kept over these trees: what the program's tables of schema 2 mean, or of schema 1; nothing, if there is no
 -- table at all. Tables that opening doesn't find sound are refused. Trees of other tables are refused, too
 pub record IsKeptOver (db : Trees) (kept : Kept) : Type 0 where
-  pub ours : IsOurDatabase db → (opened Schema2 db ≡ Ok tt) × (kept ≡ kept_in db)
-  pub ours_of_schema_1 : ObeysRules schema_1 db → (opened Schema1 db ≡ Ok tt) × (kept ≡ kept_in_schema_1 db)
+  pub ours : IsOurDatabase db → OpensSoundly db × (kept ≡ kept_in db)
+  pub ours_of_schema_1 : ObeysRules schema_1 db → IsSoundSchema1 db × (kept ≡ kept_in_schema_1 db)
   pub none : ObeysRules no_tables db → kept ≡ nothing_kept
 
 -- what is kept over two files that hold `image`: what is kept over the trees that they hold. If they hold no database
