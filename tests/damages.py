@@ -49,9 +49,25 @@ DAMAGES = {
         f"INSERT INTO attributes SELECT {OF_SOURCES} FROM sources WHERE number = 1 AND place = 0",
     "all rows in the table of schema 1":
         f"INSERT INTO attributes SELECT {OF_SOURCES} FROM sources; DELETE FROM sources",
-    "role 2 beside a further table": f"{FURTHER}; UPDATE tokens SET role = 2",
-    "a gap in place beside a further table": f"{FURTHER}; DELETE FROM sources WHERE number = 3 AND place = 5",
-    "a body that is no document beside a further table": f"{FURTHER}; UPDATE policies SET body = x'7b7d'",
+}
+# what stands beside the tables of a store of schema 2, and the statements that drop it
+FOREIGN = {
+    "a further table": (FURTHER, 'DROP TABLE "other";'),
+    "an index": ("CREATE INDEX places ON sources (category)", 'DROP INDEX "places";'),
+    "a view": ("CREATE VIEW names AS SELECT name FROM domains", 'DROP VIEW "names";'),
+    "a trigger": ("CREATE TRIGGER last AFTER UPDATE ON meta BEGIN DELETE FROM roots; END", 'DROP TRIGGER "last";'),
+    "tables with an index and a key, of which one has quotes in its name":
+        ('CREATE TABLE "a ""b""" (x INTEGER) STRICT; CREATE INDEX i ON "a ""b""" (x); '
+         "CREATE TABLE keyed (x TEXT UNIQUE) STRICT",
+         'DROP INDEX "i"; DROP TABLE "a ""b"""; DROP TABLE "keyed";'),
+    "a table that isn't read": ("CREATE TABLE odd (x TEXT PRIMARY KEY) WITHOUT ROWID", 'DROP TABLE "odd";'),
+}
+# what is damaged beside a further table, which is told first
+DAMAGED_BESIDE = {
+    "role 2": "UPDATE tokens SET role = 2",
+    "a body that is no document": "UPDATE policies SET body = x'7b7d'",
+    "no row of meta": "DELETE FROM meta",
+    "schema 3": "UPDATE meta SET schema_no = 3",
 }
 # tables that are of neither schema
 SCHEMAS = {
@@ -67,8 +83,6 @@ SCHEMAS = {
     "a column less": "ALTER TABLE sources DROP COLUMN issuer",
     "the number of schema 1": "UPDATE meta SET schema_no = 1",
     "no table meta": "DROP TABLE meta",
-    "no row of meta beside a further table": f"{FURTHER}; DELETE FROM meta",
-    "schema 3 beside a further table": f"{FURTHER}; UPDATE meta SET schema_no = 3",
 }
 # of a store of schema 1
 FIRST_DAMAGES = {
@@ -80,7 +94,13 @@ FIRST_DAMAGES = {
     "an entity that isn't UTF-8": "UPDATE attributes SET entity = CAST(x'ff' AS TEXT) WHERE place = 1",
     "a number not below the next": "UPDATE meta SET next_number = 3",
     "a negative epoch": "UPDATE domains SET epoch = -1 WHERE name = 'beta'",
-    "role 2 beside a further table": f"{FURTHER}; UPDATE tokens SET role = 2",
+}
+# what stands beside the tables of schema 1, and the statements that drop it
+FIRST_FOREIGN = {
+    "a further table": (FURTHER, 'DROP TABLE "other";'),
+    "an index with the name of a table of schema 2":
+        ("CREATE INDEX sources ON attributes (category)", 'DROP INDEX "sources";'),
+    "a view of that name": ("CREATE VIEW sources AS SELECT name FROM domains", 'DROP VIEW "sources";'),
 }
 # tables beside which there is no schema 1, or a number that isn't its
 FIRST_SCHEMAS = {
@@ -89,8 +109,6 @@ FIRST_SCHEMAS = {
     "two rows of meta": "INSERT INTO meta VALUES (2, 1, 4)",
     "a table of sources": MAKING[-1],
     "another table of that name": "CREATE TABLE Sources (x INTEGER) STRICT",
-    "an index of that name": "CREATE INDEX sources ON attributes (category)",
-    "a view of that name": "CREATE VIEW sources AS SELECT name FROM domains",
     "a table less": "DROP TABLE attributes",
     "the table of sources and a damaged row": f"{MAKING[-1]}; UPDATE tokens SET role = 2",
 }

@@ -13,6 +13,7 @@ REPLY_BAD = b"pdpd serve: PDPD_REPLY is to be a number of bytes, or 0 for no lim
 READING_BAD = b"pdpd serve: PDPD_READING is to be a number of bytes of policies, or 0 for no limit\n"
 VIEWS_BAD = b"pdpd serve: PDPD_VIEWS is to be a number of bytes of memory, or 0 for none\n"
 IDLE_BAD = b"pdpd serve: PDPD_IDLE is to be a number of seconds, or 0 for no limit\n"
+SUMS_BAD = b"pdpd serve: PDPD_SUMS is to be 1, or 0 for a new file without sums\n"
 
 # ---- the token file and the address
 
@@ -28,8 +29,13 @@ NOT_TAKEN = "taking a connection failed; start the program again"
 NO_DATABASE = "not a database of SQLite that can be read; name another file"
 SCHEMA = "not a store of this program (schema); name another file"
 ROW = "a row of the store is damaged; put back a backup"
-OTHER_TABLES = ("other tables, indexes or views stand beside the program's, or its own were made otherwise; "
-                "it is served, but nothing is proved of what is kept there")
+CORRUPT = ("the file's pages are damaged, or another program has written it and spoiled their sums; "
+           "put back a backup")
+BESIDE = "beside the program's tables stands what isn't the program's; what removes it: "
+FOREIGN = ("other tables, indexes, views or triggers stand beside the program's (the line before names them), "
+           "and nothing would be proved of what is kept there; drop them")
+MADE_OTHERWISE = ("its tables weren't made as this program makes them (in another order, say), and nothing would be "
+                  "proved of what is kept there; carry their rows into a new store")
 NO_FOLDER = "can't be opened; its folder isn't there, make that first"
 UNOPENED = ("can't be opened; it has to be a file, and this user has to be allowed to read and write it, "
             "and to write in its folder")
@@ -47,3 +53,8 @@ SHUT = "writing or reading it failed, and it can't go on; look after the disk, t
 def line(subject, advice):
     """The line of `pdpd serve` about a file, an address or a word."""
     return f"pdpd serve: {subject}: {advice}\n".encode()
+
+
+def foreign_lines(path, drops):
+    """The lines about a store beside whose tables stands what these statements drop."""
+    return line(path, BESIDE + drops) + line(path, FOREIGN)

@@ -17,15 +17,15 @@ import sys
 sys.dont_write_bytecode = True
 from checks import is_program  # noqa: E402
 from serving import OPERATOR  # noqa: E402
-from tables_parts import first, foreign, greatest, own, refused  # noqa: E402
+from tables_parts import first, foreign, greatest, own, refused, sums  # noqa: E402
 from tables_parts.shared import PROGRAM, TOKEN_FILE, checks, folder  # noqa: E402
 
 PARTS = (
     own.fresh, own.all_values, own.walks,
-    foreign.journals, foreign.further_table, foreign.index_or_view, foreign.another_table_alone,
-    foreign.in_another_order, foreign.sparse, foreign.short,
+    foreign.journals, foreign.sparse, foreign.short,
     first.first_schema, first.first_without_domains, first.first_in_another_order,
-    greatest.greatest, greatest.full, own.vacuumed, refused.damaged, refused.orphans, refused.another_meta)
+    greatest.greatest, greatest.full, refused.damaged, refused.foreign, refused.of_another, refused.made_otherwise,
+    refused.orphans, refused.another_meta, sums.flipped, sums.as_asked, sums.spoiled, sums.vacuumed)
 
 
 def main():

@@ -42,14 +42,19 @@ def as_not_begun(what):
 
 @contextlib.contextmanager
 def open_store(path):
-    """A store's file."""
+    """A store's file. All that is written stays in its log, where pdpd gives each page the sum that SQLite doesn't
+    know: a second connection, which only reads, is closed last, and can't write the log back."""
+    uri = pathlib.Path(path).as_uri()
     with as_not_begun(f"{path} can't be opened"):
-        base = sqlite3.connect(f"{pathlib.Path(path).as_uri()}?mode=rw", uri=True, isolation_level=None)
-    with contextlib.closing(base):
+        reader = sqlite3.connect(f"{uri}?mode=ro", uri=True)
+        base = sqlite3.connect(f"{uri}?mode=rw", uri=True, isolation_level=None)
+    with contextlib.closing(reader), contextlib.closing(base):
         with as_not_begun(f"{path} can't be read"):
             base.execute("PRAGMA foreign_keys = ON")
             base.execute("PRAGMA synchronous = FULL")
+            base.execute("PRAGMA wal_autocheckpoint = 0")
             schema = base.execute("SELECT schema_no FROM meta").fetchone()
+            reader.execute("SELECT schema_no FROM meta").fetchone()
         if schema != (SCHEMA,):
             raise NotBegun(f"the schema of {path} isn't number {SCHEMA}: this tool isn't of the pdpd that had it "
                            "open last")

@@ -4,7 +4,6 @@ import os
 import pathlib
 import re
 import signal
-import sqlite3
 import sys
 import threading
 import time
@@ -159,11 +158,9 @@ def copied(source, target):
     """Copies the domain as a move that is cut behind its copy leaves it."""
     sys.path.insert(0, str(LIBRARY))
     from operating import carrying
-    one, other = (sqlite3.connect(path, isolation_level=None) for path in (source, target))
-    carrying.put_rows(one, other, "mover")
-    other.execute("COMMIT")
-    one.close()
-    other.close()
+    with carrying.open_store(source) as one, carrying.open_store(target) as other:
+        carrying.put_rows(one, other, "mover")
+        other.execute("COMMIT")
     for path in (source, target):
         owner = os.stat(os.path.dirname(path))
         for suffix in ("", "-wal", "-shm"):

@@ -4,8 +4,8 @@ import os
 import pathlib
 import re
 import shutil
-import sqlite3
 import subprocess
+import sys
 import time
 
 from checks import Between
@@ -250,9 +250,10 @@ def another_schema(machine, checks):
     name = re.search(r"/0/([^,]+), ", shards("backup", 0))[1]
     folder = machine.folder / "schema"
     shutil.copytree(f"/var/lib/pdpd-backups/0/{name}", folder)
-    with sqlite3.connect(folder / "pdpd.db") as base:
+    sys.path.insert(0, str(LIBRARY))
+    from operating import carrying
+    with carrying.open_store(folder / "pdpd.db") as base:
         base.execute("UPDATE meta SET schema_no = schema_no + 1")
-    base.close()
     before = (folder / "pdpd.db").read_bytes()
     words = ["pdpd", "serve", folder / "pdpd.db", "127.0.0.1:7199", "/etc/pdpd/token", "1"]
     ran = subprocess.run(words, capture_output=True, text=True, check=False, timeout=20)

@@ -1,7 +1,8 @@
 """What is refused on the command line, in the environment and of the token file, in the order in which it is looked
 for."""
 from said import (
-    ADDRESS_BAD, IDLE_BAD, READING_BAD, REPLY_BAD, SHARED, TOKEN_BAD, TOKEN_UNREAD, USAGE, VIEWS_BAD, WORK_BAD, line)
+    ADDRESS_BAD, IDLE_BAD, READING_BAD, REPLY_BAD, SHARED, SUMS_BAD, TOKEN_BAD, TOKEN_UNREAD, USAGE, VIEWS_BAD,
+    WORK_BAD, line)
 from serving import OPERATOR
 
 from .shared import LIST, environment, expect, expect_refusal, folder, listing, serving, words_to_serve
@@ -10,7 +11,7 @@ NEVER = folder / "never.db"
 GOOD = words_to_serve(NEVER)
 # each setting with what is said of it, in the order in which they are looked at
 SETTINGS = (("PDPD_WORK", WORK_BAD), ("PDPD_REPLY", REPLY_BAD), ("PDPD_READING", READING_BAD),
-            ("PDPD_VIEWS", VIEWS_BAD), ("PDPD_IDLE", IDLE_BAD))
+            ("PDPD_VIEWS", VIEWS_BAD), ("PDPD_IDLE", IDLE_BAD), ("PDPD_SUMS", SUMS_BAD))
 TOKENS = {
     "empty": b"", "seven": b"1234567\n", "sixty-five": b"x" * 65, "space": b"operator token\n",
     "carriage": b"operator-token-1\r\n", "second": b"\noperator-token-1\n", "high": b"operator-\xfftoken\n",
@@ -42,9 +43,9 @@ def addresses():
 
 
 def settings():
-    """Settings that are no numbers."""
+    """Settings that are no numbers, and one that is too great."""
     for name, said in SETTINGS:
-        for word in ("", "x", "-1", "+1", " 1", "1.5", "18446744073709551616"):
+        for word in ("", "x", "-1", "+1", " 1", "1.5", "2" if name == "PDPD_SUMS" else "18446744073709551616"):
             expect_refusal(f"{name}={word!r}", with_word(3, folder / "no-token"), 2, said,
                            env=environment(**{name: word}))
 

@@ -7,7 +7,7 @@ from kept import (
 from serving import OPERATOR
 
 from .shared import (
-    LIST, creates, expect, expect_replies, expect_rows, expect_warning, filled_model, folder, puts_rows, readings,
+    LIST, creates, expect, expect_replies, expect_rows, filled_model, folder, puts_rows, readings,
     said_of, serving)
 
 KEPT = pathlib.Path(__file__).resolve().parent.parent / "schema-1.sql"
@@ -66,18 +66,12 @@ def first_without_domains():
 
 
 def first_in_another_order():
-    """Schema 1 beside a further table, and with rows whose rowids have gaps and stand in another order than their
-    places: all rows go over, and the table is left."""
-    path, model = folder / "first-further.db", filled_model(all_rows)
-    write(path, as_first(model.rows()), [*FIRST_MAKING, "CREATE TABLE other (x INTEGER) STRICT"])
+    """Schema 1 with rows whose rowids have gaps and stand in another order than their places: all rows go over."""
+    path, model = folder / "first-order.db", filled_model(all_rows)
+    write(path, as_first(model.rows()), FIRST_MAKING)
     db = opened(path)
-    db.execute("INSERT INTO other VALUES (7)")
     db.execute("UPDATE attributes SET rowid = 100000 - 7 * rowid")
     db.close()
     with serving(path) as served:
-        expect_replies("schema 1 and a further table", served, model, [*readings(), creates("third")])
-    expect_warning("schema 1 and a further table", path, served)
-    db = opened(path)
-    expect("schema 1 and a further table: the table is left", list(db.execute("SELECT x FROM other")), [(7,)])
-    expect("schema 1 and a further table: the rows", rows_in(db), model.rows())
-    db.close()
+        expect_replies("schema 1 in another order", served, model, [*readings(), creates("third")])
+    expect_rows("schema 1 in another order", path, model)

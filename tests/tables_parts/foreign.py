@@ -1,13 +1,9 @@
 """Stores of schema 2 that sqlite3 wrote, in some ways: they open here, answer, and are changed."""
 from changing import all_rows, issued_rows, random_message
-from kept import MAKING, Model, opened, schema_numbered, schema_of, write
-from serving import OPERATOR
+from kept import MAKING, opened, schema_numbered, schema_of, write
 
 from .shared import (
-    LIST, creates, expect, expect_replies, expect_rows, expect_warning, filled_model, folder, puts_rows, readings,
-    said_of, serving, to_acme)
-
-PLACES = "CREATE INDEX places ON sources (category)"
+    creates, expect, expect_replies, expect_rows, filled_model, folder, puts_rows, readings, said_of, serving, to_acme)
 
 
 def journals():
@@ -22,48 +18,6 @@ def journals():
                            [*(random_message() for _ in range(60)), *readings()])
         expect(f"{journal}: what is said", served.said, said_of(path, journal))
         expect_rows(f"{journal}: after changes", path, model)
-
-
-def further_table():
-    """A further table and an index beside the program's tables: a line tells of them."""
-    path, model = folder / "further.db", filled_model()
-    write(path, model.rows(), making=[*MAKING, "CREATE TABLE other (x INTEGER) STRICT", PLACES])
-    with serving(path) as served:
-        expect_replies("a further table and index", served, model, [*readings(), creates("third")])
-    expect_warning("a further table and index", path, served)
-
-
-def index_or_view():
-    """An index, and a view, alone beside the program's tables."""
-    for what, sql in (("an index alone", PLACES), ("a view alone", "CREATE VIEW names AS SELECT name FROM domains")):
-        path, model = folder / f"{what.split()[1]}.db", filled_model()
-        write(path, model.rows(), making=[*MAKING, sql])
-        with serving(path) as served:
-            expect_replies(what, served, model, readings())
-        expect_warning(what, path, served)
-
-
-def another_table_alone():
-    """A file that has another table and none of the program's: these are made beside it, and it is left."""
-    path = folder / "beside.db"
-    db = opened(path)
-    db.executescript("CREATE TABLE other (x INTEGER) STRICT; INSERT INTO other VALUES (7)")
-    db.close()
-    with serving(path) as served:
-        expect_replies("another table alone", served, Model(OPERATOR), [creates("acme"), LIST])
-    expect_warning("another table alone", path, served)
-    db = opened(path)
-    expect("another table alone: it is left", list(db.execute("SELECT x FROM other")), [(7,)])
-    db.close()
-
-
-def in_another_order():
-    """Tables that were made in another order."""
-    path, model = folder / "order.db", filled_model()
-    write(path, model.rows(), making=[MAKING[1], MAKING[0], *reversed(MAKING[2:])])
-    with serving(path) as served:
-        expect_replies("tables made in another order", served, model, [*readings(), creates("third")])
-    expect_warning("tables made in another order", path, served)
 
 
 def sparse():

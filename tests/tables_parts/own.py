@@ -2,11 +2,11 @@
 import json
 
 from changing import issued_rows, random_message
-from kept import TABLES, Model, opened
+from kept import TABLES, Model
 from said import NO_LOG, line
-from serving import OPERATOR, making, message, policy
+from serving import OPERATOR, making
 
-from .shared import LIST, creates, expect, expect_replies, expect_rows, folder, puts_rows, serving, to_acme
+from .shared import LIST, expect, expect_replies, expect_rows, folder, puts_rows, serving, to_acme
 
 MESSAGES = 600
 
@@ -55,24 +55,3 @@ def walks():
         expect("it ends", served.ended(), (b"", line(path, NO_LOG), 0))
     expect_rows("after a stop", path, model)
     expect("there is something of everything", [table for table in TABLES if not model.rows()[table]], ["attributes"])
-
-
-def vacuumed():
-    """What was removed stays in the file until it is written over; sqlite3's VACUUM of a closed store drops it,
-    and the store opens."""
-    path, model, secret = folder / "vacuum.db", Model(OPERATOR), "a description that nobody else has"
-    with serving(path, 1) as served:
-        expect_replies("vacuum: what is removed", served, model,
-                       [*(held for held, _ in making("acme", "acme-token-1")),
-                        *(held for held, _ in making("gone", "gone-token-1", policy(description=secret * 300))),
-                        message("DELETE", "/operator/domains/gone", OPERATOR)])
-        expect("vacuum: it ends", served.ended(), (b"", b"", 0))
-    expect("vacuum: what was removed is there", secret.encode() in path.read_bytes(), True)
-    db = opened(path)
-    db.execute("VACUUM")
-    db.close()
-    expect("vacuum: it is there no more", secret.encode() in path.read_bytes(), False)
-    with serving(path) as served:
-        expect_replies("vacuum: what is kept", served, model,
-                       [LIST, to_acme("GET", "/pap/policies"), creates("third")])
-    expect_rows("vacuum", path, model)

@@ -7,7 +7,7 @@ import tempfile
 from changing import issued_rows, policy_set
 from checks import Checks, program_named
 from kept import TABLES, Model, faults_of, opened, rows_in, schema_numbered, schema_of
-from said import NO_LOG, OTHER_TABLES, line
+from said import NO_LOG, line
 from serving import OPERATOR, Served, making, message, policy
 
 PROGRAM = program_named(sys.argv[1:])
@@ -74,8 +74,8 @@ def expect_rows(what, path, model):
 
 # ---- the program
 
-def serving(path, connections=1_000_000):
-    return Served(PROGRAM, str(path), TOKEN_FILE, connections)
+def serving(path, connections=1_000_000, **more):
+    return Served(PROGRAM, str(path), TOKEN_FILE, connections, **more)
 
 
 def expect_replies(what, served, model, messages):
@@ -92,11 +92,6 @@ def expect_replies(what, served, model, messages):
                 if differing == 1:
                     expect(f"{what}: {held[:200]}", found, wanted)
     expect(f"{what}: replies that differ from the model's", differing, 0)
-
-
-def expect_warning(what, path, served):
-    """That the program has told of tables of which nothing is proved."""
-    expect(f"{what}: it is told", served.said, line(path, OTHER_TABLES))
 
 
 def said_of(path, journal):

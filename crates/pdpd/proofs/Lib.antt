@@ -1,6 +1,5 @@
-pub mod ConnectionLemmas
+pub mod BeginningLemmas
 pub mod HeadingLemmas
-pub mod LineLemmas
 pub mod PartLemmas
 pub mod PieceLemmas
 pub mod ReadingLemmas

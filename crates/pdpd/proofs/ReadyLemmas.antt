@@ -1,98 +1,90 @@
--- What is held of the connections between entries, whatever the keeper does.
-use Rattle.std.proofs.Common.{◌≡◌, ℕ, zero, suc, ◌+◌, ◌<◌, ◌≤◌, arith, Bool, true, false, List, [], ◌∷◌, length, slice_index_or, slice_set, refl, sym, ap, subst, ◌∙◌, Option, Some, None, Ok, set-set, length-set}
-use Rattle.std.specs.Prelude.{slice_get, if◌then◌else◌, ◌&&◌, nat_le, option_map}
-use Rattle.std.specs.List.{All}
-use Rattle.std.proofs.lemmas.Bool.{false≢true}
-use Rattle.std.proofs.lemmas.List.Elements.{All-head, All-replicate, All-set, All-tail}
+-- The connections of a transcript between its entries: all are open, each by its own number.
+use Rattle.std.proofs.Common.{◌≡◌, ◌≢◌, ◌⊎◌, inl, inr, ℕ, zero, suc, ◌<◌, arith, Bool, true, false, List, [], ◌∷◌, length, get_or, set, nat_eq, slice_index_or, slice_set, replicate, Option, Some, None, refl, sym, ap, subst, ◌∙◌}
+use Rattle.std.specs.Prelude.{eqb}
+use Rattle.std.proofs.lemmas.Bool.Decides.{eqb_tells}
+use Rattle.std.proofs.lemmas.List.{get_or-set_same, get_or-set_other}
 use Rattle.xa_http.specs.Stream.{Stream}
 use Rattle.xa_server.specs.declared.lines.Conn.{Conn}
-use Rattle.xa_server.specs.Lines.{IsOpen, Lines, empty_stream, first_free, with_line}
-use Rattle.pdpd.specs.declared.replay.transcript_connection.TranscriptConnection.{TranscriptConnection}
-use Rattle.pdpd.specs.Replay.{all_open}
-use Rattle.pdpd.specs.running.Replaying.{AreOf, AreReady, HasFree, IsBegun, IsOneOpen, IsReady, StaysReady, connections_from}
-use Rattle.pdpd.specs.running.Telling.{HasRoom, LeavesAt, TakesPieces, progress_at}
-use Rattle.pdpd.proofs.ConnectionLemmas.{line_found, line_put, none_some, some_number}
-use Rattle.pdpd.proofs.LineLemmas.{waiting_room}
-use Rattle.pdpd.proofs.PieceLemmas.{set_same}
+use Rattle.xa_server.specs.Connection.{empty_stream}
+use Rattle.xa_server.specs.Front.{FrontState}
+use Rattle.xa_server.specs.Lines.{IsOpen, Lines, all_open, line_at, with_line}
+use Rattle.pdpd.specs.declared.replay.heading.Heading.{Heading}
+use Rattle.pdpd.specs.Replay.{ConnectionTakes, IsEntryReplied}
+use Rattle.pdpd.specs.running.Replaying.{AreReady, Writes}
+use Rattle.pdpd.specs.running.Telling.{HasRoom}
+
+pub none_some : (X : Type 0) (x : X) → None ≡ Some x → ⊥
+none_some X x same = cc
+
+pub some_number : (m n : ℕ) → Some m ≡ Some n → m ≡ n
+some_number m n same = cc
+
+some_stream : (s t : Stream) → Some s ≡ Some t → s ≡ t
+some_stream s t same = cc
+
+-- ---- at the beginning
+
+replicated : (count number : ℕ) → number < count → slice_index_or (replicate count (Some empty_stream)) number None ≡ Some empty_stream
+replicated zero number within = absurd (omega (arith, within))
+replicated (suc count) zero within = refl
+replicated (suc count) (suc number) within = replicated count number (omega (arith, within))
+
+empty_room : HasRoom empty_stream
+unfolding HasRoom
+empty_room = λ on. omega arith
+
+pub room_of_new : (s : Stream) → s ≡ empty_stream → HasRoom s
+room_of_new s new = subst (λ (t : Stream). HasRoom t) (sym new) empty_room
+
+pub all_ready : (lines : Lines) → lines ≡ all_open → AreReady lines
+unfolding AreReady
+all_ready lines opened = λ number within.
+    (empty_stream, ap (λ (ls : Lines). slice_index_or ls number None) opened ∙ replicated 64 number within, empty_room)
 
 -- ---- one of them
 
--- all have room, and so has one
-room_at : (lines : Lines) (number : ℕ) (s : Stream) → slice_index_or lines number None ≡ Some s → All HasRoom lines → HasRoom (Some s)
-room_at [] number s opens all = absurd (none_some Stream s opens)
-room_at (line ∷ lines) zero s opens all = subst (λ (l : Option Stream). HasRoom l) opens (All-head HasRoom line lines all)
-room_at (line ∷ lines) (suc number) s opens all = room_at lines number s opens (All-tail HasRoom line lines all)
-
-pub ready_within : (connections : List TranscriptConnection) (lines : Lines) (number : ℕ) → AreReady connections lines → number < 64 → number < length connections
+-- it is open
+pub ready_some : (number : ℕ) (lines : Lines) → AreReady lines → number < 64 → line_at (record { number = number }) lines ≢ None
 unfolding AreReady
-ready_within connections lines number ready within = omega (arith, within, ready.1)
+ready_some number lines ready within = λ none. let is = ready number within in none_some Stream is.0 (sym none ∙ is.1)
 
-pub ready_one : (connections : List TranscriptConnection) (lines : Lines) (number : ℕ) (was : TranscriptConnection) → AreReady connections lines → slice_get connections number ≡ Some was
-    → IsReady was lines
-unfolding AreReady IsReady
-ready_one connections lines number was ready held =
-    let found = line_found connections lines number was ready.0 held in
-    (found.0, found.1, room_at lines was.conn.number found.0 found.1.line ready.2)
+-- and has room
+pub ready_room : (number : ℕ) (lines : Lines) (s : Stream) → AreReady lines → number < 64 → line_at (record { number = number }) lines ≡ Some s → HasRoom s
+unfolding AreReady
+ready_room number lines s ready within there =
+    let is = ready number within in subst (λ (t : Stream). HasRoom t) (some_stream is.0 s (sym is.1 ∙ there)) is.2
 
-pub ready_open : (was : TranscriptConnection) (lines : Lines) → IsReady was lines → IsOneOpen was.conn lines
-unfolding IsReady IsOneOpen
-ready_open was lines (s, line, room) = (s, line.line)
+within_lines : (n : ℕ) (lines : Lines) (stream : Stream) → get_or lines n None ≡ Some stream → n < length lines
+within_lines n [] stream there = absurd (none_some Stream stream there)
+within_lines zero (line ∷ lines) stream there = omega arith
+within_lines (suc n) (line ∷ lines) stream there = omega (arith, within_lines n lines stream there)
 
-pub ready_free : (was : TranscriptConnection) (old mid : Lines) → IsReady was old → mid ≡ with_line was.conn None old → HasFree mid
-unfolding IsReady HasFree
-ready_free was old mid (s, line, room) put = (was.conn.number, ap first_free put ∙ line.free)
-
-pub ready_takes : (was : TranscriptConnection) (lines : Lines) → IsReady was lines → was.has_ended ≡ false → TakesPieces was.conn lines
-unfolding IsReady TakesPieces
-ready_takes was lines (s, line, room) on = (s, line.line, sym line.ended ∙ on, room)
-
--- ---- what was done with it
-
--- it was closed, and the next begun in its place
-pub stays_closed : (was is : TranscriptConnection) (old mid new : Lines) → IsReady was old → mid ≡ with_line was.conn None old → IsBegun is mid new → StaysReady was is old new
-unfolding IsReady StaysReady
-stays_closed was is old mid new (s, line, room) put begun =
-    let least : is.conn.number ≡ was.conn.number = some_number is.conn.number was.conn.number (sym begun.least ∙ ap first_free put ∙ line.free) in
-    let same : is.conn ≡ was.conn = λ i. record { number = least i } in (
-      empty_stream,
-      begun.lines
-          ∙ ap (λ (c : Conn). with_line c (Some empty_stream) mid) same
-          ∙ ap (λ (ls : Lines). with_line was.conn (Some empty_stream) ls) put
-          ∙ set-set old was.conn.number None (Some empty_stream),
-      same,
-      begun.goes_on,
-      λ on. omega arith,
+-- all stay so if it has taken bytes
+pub ready_put : (number : ℕ) (old new : Lines) (t : Stream) → AreReady old → new ≡ with_line (record { number = number }) (Some t) old → HasRoom t → AreReady new
+unfolding AreReady
+ready_put number old new t ready put room = λ other within.
+    let was = ready other within in
+    by_number other was (eqb_tells number other)
+  where
+    by_number : (other : ℕ) → ((stream : Stream) × IsOpen (record { number = other }) old stream × HasRoom stream)
+        → ((eqb number other ≡ true) × (number ≡ other)) ⊎ ((eqb number other ≡ false) × (number ≢ other))
+        → (stream : Stream) × IsOpen (record { number = other }) new stream × HasRoom stream
+    by_number other was (inl (test, same)) = (
+      t,
+      ap (λ (ls : Lines). get_or ls other None) put
+          ∙ ap (λ (n : ℕ). get_or (set old n (Some t)) other None) same
+          ∙ get_or-set_same old other (Some t) None (within_lines other old was.0 was.1),
+      room,
+    )
+    by_number other was (inr (test, apart)) = (
+      was.0,
+      ap (λ (ls : Lines). get_or ls other None) put ∙ get_or-set_other old number other (Some t) None (λ same. apart (sym same)) ∙ was.1,
+      was.2,
     )
 
--- nothing was
-pub stays_over : (was : TranscriptConnection) (lines : Lines) → IsReady was lines → StaysReady was was lines lines
-unfolding IsReady StaysReady
-stays_over was lines (s, line, room) = (s, sym (set_same lines was.conn.number s line.line), refl, line.ended, room)
+-- ---- an entry
 
--- it took bytes
-pub stays_taken : (was : TranscriptConnection) (has_ended : Bool) (old new : Lines) → LeavesAt was.conn old new (progress_at has_ended)
-    → StaysReady was (record { conn = was.conn; has_ended = has_ended }) old new
-unfolding LeavesAt StaysReady
-stays_taken was true old new (after, opens, over, lines) = (after, lines, refl, sym over, λ on. absurd (false≢true (sym on ∙ over)))
-stays_taken was false old new (after, opens, waits, lines) = (after, lines, refl, sym waits.0, waiting_room after waits)
-
--- ---- all of them
-
-pub begun_ready : (connections : List TranscriptConnection) (lines : Lines) → lines ≡ all_open → AreOf connections all_open → AreReady connections lines
-unfolding AreReady
-begun_ready connections lines opened are = (
-  subst (λ (ls : Lines). AreOf connections ls) (sym opened) are,
-  ap length are,
-  subst (λ (ls : Lines). All HasRoom ls) (sym opened) (All-replicate HasRoom 64 (Some empty_stream) (λ on. omega arith)),
-)
-
-pub ready_put : (connections are : List TranscriptConnection) (lines new : Lines) (number : ℕ) (was is : TranscriptConnection) → AreReady connections lines
-    → slice_get connections number ≡ Some was → StaysReady was is lines new → are ≡ slice_set connections number is → AreReady are new
-unfolding AreReady StaysReady
-ready_put connections are lines new number was is ready held (after, put, same, ended, room) set =
-    let found = line_found connections lines number was ready.0 held in
-    let at : new ≡ slice_set lines number (Some after) = put ∙ ap (λ (c : Conn). with_line c (Some after) lines) found.2 in (
-      set ∙ line_put connections lines number was is after ready.0 held (same ∙ found.2) ended ∙ sym (ap (connections_from 0) at),
-      ap length set ∙ length-set connections number is ∙ ready.1,
-      subst (λ (ls : Lines). All HasRoom ls) (sym at) (All-set HasRoom lines number (Some after) room ready.2),
-    )
+pub entry_replied : (heading : Heading) (bytes : List ℕ) (old new : FrontState) (s t : Stream) (before now : Option (List ℕ))
+    → line_at (record { number = heading.connection }) old.lines ≡ Some s → new.lines ≡ with_line (record { number = heading.connection }) (Some t) old.lines
+    → Writes before now (ConnectionTakes heading bytes s t old.server new.server) → Writes before now (IsEntryReplied heading bytes old new)
+entry_replied heading bytes old new s t before now opens put takes = (takes.0, takes.1, (s, t, opens, takes.2, put))

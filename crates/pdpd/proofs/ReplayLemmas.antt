@@ -8,20 +8,21 @@ use Rattle.xa_server.specs.declared.replies.Reply.{Reply}
 use Rattle.xa_server.specs.Alone.{Event}
 use Rattle.xa_records.specs.Keeper.{Custody}
 use Rattle.xa_server.specs.Decisions.{nothing_cached}
-use Rattle.xa_server.specs.Front.{FrontModel, FrontState, ServerState, front_state, server_state}
+use Rattle.xa_server.specs.declared.front.Front.{Front}
+use Rattle.xa_server.specs.Front.{FrontState, front_state}
+use Rattle.xa_server.specs.Lines.{all_open}
 use Rattle.xa_server.specs.Served.{IsRun}
-use Rattle.xa_server.specs.World.{World}
+use Rattle.xa_server.specs.World.{ServerState, World, server_state}
 use Rattle.xa_server.proofs.ConnectionLemmas.{appends_none, appends_trans, consumes_none, consumes_trans, run_trans}
 use Rattle.xa_server.proofs.IsolationLemmas.{isolated}
-use Rattle.pdpd.specs.declared.replay.transcript_connection.TranscriptConnection.{TranscriptConnection}
 use Rattle.pdpd.specs.declared.exit.Exit.{Exit}
 use Rattle.pdpd.specs.declared.exit.Exit.TheVariants as exit
 use Rattle.pdpd.specs.declared.replay.heading.Heading.{Heading}
 use Rattle.pdpd.specs.declared.replay.transcript.EntryFault.{EntryFault}
 use Rattle.pdpd.specs.declared.replay.transcript.EntryFault.TheVariants as read
 use Rattle.pdpd.specs.Exit.{breaks_off, exit_of_read, tells_of_entries}
-use Rattle.pdpd.specs.Replay.{AreEntries, AreReplied, ConnectionTakes, Entry, Exchange, Gave, IsEntryReplied, IsReplayed, IsTranscriptRead, OpenTakes, Replays, StreamTakes, all_open, beginning, followed, no_exchange}
-use Rattle.pdpd.specs.running.Replaying.{AreOf, AreReady, TakesAsHeld, Writes}
+use Rattle.pdpd.specs.Replay.{AreEntries, AreReplied, ConnectionTakes, Entry, Exchange, Gave, IsEntryReplied, IsReplayed, IsTranscriptRead, OpenTakes, Replays, StreamTakes, beginning, followed, no_exchange}
+use Rattle.pdpd.specs.running.Replaying.{Writes}
 use Rattle.pdpd.specs.Transcript.{IsEntry, IsNoEntry, Rejects, TakesEntry, TakesOrRejects}
 
 -- ---- what an entry takes is a run
@@ -31,17 +32,17 @@ stream_run : (heading : Heading) (bytes : List ℕ) (was is : Stream) (old new :
 stream_run heading bytes was is old new exchange (after, replies, answered, kept, same) =
     subst (λ (e : Exchange). IsRun old e.events e.replies new) (sym same) answered.is_run
 
-none_run : (old new : FrontState) (exchange : Exchange) → new.server ≡ old.server → exchange ≡ no_exchange → IsRun old.server.world exchange.events exchange.replies new.server.world
+none_run : (old new : ServerState) (exchange : Exchange) → new ≡ old → exchange ≡ no_exchange → IsRun old.world exchange.events exchange.replies new.world
 none_run old new exchange same none =
-    subst (λ (e : Exchange). IsRun old.server.world e.events e.replies new.server.world) (sym none) (ap (λ (s : ServerState). s.world) same)
+    subst (λ (e : Exchange). IsRun old.world e.events e.replies new.world) (sym none) (ap (λ (s : ServerState). s.world) same)
 
-open_run : (ended : Bool) (heading : Heading) (bytes : List ℕ) (was is : Stream) (old new : FrontState) (exchange : Exchange)
-    → OpenTakes ended heading bytes was is old new exchange → IsRun old.server.world exchange.events exchange.replies new.server.world
+open_run : (ended : Bool) (heading : Heading) (bytes : List ℕ) (was is : Stream) (old new : ServerState) (exchange : Exchange)
+    → OpenTakes ended heading bytes was is old new exchange → IsRun old.world exchange.events exchange.replies new.world
 open_run true heading bytes was is old new exchange takes = none_run old new exchange takes.1 takes.2
-open_run false heading bytes was is old new exchange takes = stream_run heading bytes was is old.server.world new.server.world exchange takes
+open_run false heading bytes was is old new exchange takes = stream_run heading bytes was is old.world new.world exchange takes
 
-takes_run : (heading : Heading) (bytes : List ℕ) (was is : Stream) (old new : FrontState) (exchange : Exchange)
-    → ConnectionTakes heading bytes was is old new exchange → IsRun old.server.world exchange.events exchange.replies new.server.world
+takes_run : (heading : Heading) (bytes : List ℕ) (was is : Stream) (old new : ServerState) (exchange : Exchange)
+    → ConnectionTakes heading bytes was is old new exchange → IsRun old.world exchange.events exchange.replies new.world
 takes_run heading [] was is old new exchange takes = none_run old new exchange takes.1 takes.2
 takes_run heading (byte ∷ bytes) was is old new exchange takes = open_run was.ended heading (byte ∷ bytes) was is old new exchange takes
 
@@ -98,7 +99,7 @@ replays_more : (entries : List Entry) (heading : Heading) (bytes : List ℕ) (ol
     → Replays old new before now (entries ++ record { heading = heading; bytes = bytes } ∷ [])
 replays_more entries heading bytes old mid new before written now r (reply, wrote, replied) =
     let here : IsRun mid.server.world reply.events reply.replies new.server.world
-    = takes_run heading bytes replied.0 replied.1 mid new reply replied.3 in
+    = takes_run heading bytes replied.0 replied.1 mid.server new.server reply replied.3 in
     let run : IsRun old.server.world (r.exchange.events ++ reply.events) (r.exchange.replies ++ reply.replies) new.server.world
     = run_trans old.server.world mid.server.world new.server.world r.exchange.events reply.events r.exchange.replies reply.replies r.is_run here in
     record {
@@ -202,8 +203,8 @@ unfoldable pub ReadTo : Option (List ℕ) → Option (List ℕ) → ℕ → Type
 ReadTo left rest number = SoFar (λ _. ⊤) left rest number
 
 -- and answered
-unfoldable pub AnsweredTo : List TranscriptConnection → List TranscriptConnection → FrontState → FrontState → Option (List ℕ) → Option (List ℕ) → Option (List ℕ) → Option (List ℕ) → ℕ → Type 0
-AnsweredTo held are old new left rest before now number = AreOf held old.lines → SoFar (Replays old new before now) left rest number × AreOf are new.lines
+unfoldable pub AnsweredTo : FrontState → FrontState → Option (List ℕ) → Option (List ℕ) → Option (List ℕ) → Option (List ℕ) → ℕ → Type 0
+AnsweredTo old new left rest before now number = SoFar (Replays old new before now) left rest number
 
 pub given_none : (left : Option (List ℕ)) → ReadTo left left 1
 unfolding ReadTo
@@ -224,35 +225,28 @@ pub given_badly : (left mid rest : Option (List ℕ)) (number : ℕ) (is : Optio
 unfolding ReadTo
 given_badly left mid rest number is f so_far rejects = read_badly (λ _. ⊤) left mid rest number is f so_far rejects
 
-pub answered_none : (held : List TranscriptConnection) (front : FrontState) (left before : Option (List ℕ)) → AnsweredTo held held front front left left before before 1
+pub answered_none : (front : FrontState) (left before : Option (List ℕ)) → AnsweredTo front front left left before before 1
 unfolding AnsweredTo
-answered_none held front left before = λ known. (read_none (Replays front front before before) left (replays_none front before), known)
+answered_none front left before = read_none (Replays front front before before) left (replays_none front before)
 
-pub answered_more : (held were are : List TranscriptConnection) (old mid new : FrontState) (left between rest before written now : Option (List ℕ)) (number : ℕ) (heading : Heading)
-    (bytes : List ℕ) → AnsweredTo held were old mid left between before written number → TakesEntry between rest bytes (Some heading)
-    → TakesAsHeld heading bytes were are mid new written now → AnsweredTo held are old new left rest before now (number + 1)
-unfolding AnsweredTo TakesAsHeld
-answered_more held were are old mid new left between rest before written now number heading bytes so_far takes here = λ known.
-    let was = so_far known in
-    let is = here was.1 in (
-      read_more (Replays old mid before written) (Replays old new before now) left between rest number heading bytes was.0 takes
-          (λ entries r. replays_more entries heading bytes old mid new before written now r is.0),
-      is.1,
-    )
-
-pub answered_all : (held are : List TranscriptConnection) (old new : FrontState) (left mid rest before now : Option (List ℕ)) (number : ℕ) (bytes : List ℕ)
-    → AnsweredTo held are old new left mid before now number → TakesEntry mid rest bytes None → AreOf held old.lines
-    → IsTranscriptRead (Replays old new before now) left rest exit.Done
+pub answered_more : (old mid new : FrontState) (left between rest before written now : Option (List ℕ)) (number : ℕ) (heading : Heading) (bytes : List ℕ)
+    → AnsweredTo old mid left between before written number → TakesEntry between rest bytes (Some heading) → Writes written now (IsEntryReplied heading bytes mid new)
+    → AnsweredTo old new left rest before now (number + 1)
 unfolding AnsweredTo
-answered_all held are old new left mid rest before now number bytes so_far none known =
-    read_all (Replays old new before now) left mid rest number bytes (so_far known).0 none
+answered_more old mid new left between rest before written now number heading bytes so_far takes here =
+    read_more (Replays old mid before written) (Replays old new before now) left between rest number heading bytes so_far takes
+    (λ entries r. replays_more entries heading bytes old mid new before written now r here)
 
-pub answered_badly : (held are : List TranscriptConnection) (old new : FrontState) (left mid rest before now : Option (List ℕ)) (number : ℕ) (is : Option Heading → Type 0)
-    (f : EntryFault) → AnsweredTo held are old new left mid before now number → TakesOrRejects is (Rejects IsNoEntry mid rest) (Err f) → AreOf held old.lines
+pub answered_all : (old new : FrontState) (left mid rest before now : Option (List ℕ)) (number : ℕ) (bytes : List ℕ) → AnsweredTo old new left mid before now number
+    → TakesEntry mid rest bytes None → IsTranscriptRead (Replays old new before now) left rest exit.Done
+unfolding AnsweredTo
+answered_all old new left mid rest before now number bytes so_far none = read_all (Replays old new before now) left mid rest number bytes so_far none
+
+pub answered_badly : (old new : FrontState) (left mid rest before now : Option (List ℕ)) (number : ℕ) (is : Option Heading → Type 0) (f : EntryFault)
+    → AnsweredTo old new left mid before now number → TakesOrRejects is (Rejects IsNoEntry mid rest) (Err f)
     → IsTranscriptRead (Replays old new before now) left rest (exit_of_read number f)
 unfolding AnsweredTo
-answered_badly held are old new left mid rest before now number is f so_far rejects known =
-    read_badly (Replays old new before now) left mid rest number is f (so_far known).0 rejects
+answered_badly old new left mid rest before now number is f so_far rejects = read_badly (Replays old new before now) left mid rest number is f so_far rejects
 
 -- what was held is written at the end
 flushed : (before written now : Option (List ℕ)) (bytes : List ℕ) → Appends before written bytes → Keeps written (append_known now []) → Appends before now bytes
@@ -271,16 +265,12 @@ replays_flushed old new before written now entries keeps r = record {
   wrote = flushed before written now r.exchange.written r.wrote keeps;
 }
 
-pub replayed_all : (connections : List TranscriptConnection) (old mid new : FrontState) (left rest before written now : Option (List ℕ)) (exit : Exit) → mid.lines ≡ all_open
-    → mid.server ≡ old.server → AreReady connections mid.lines
-    → (AreOf connections mid.lines → IsTranscriptRead (Replays mid new before written) left rest exit)
-    → Keeps written (append_known now [])
-    → IsReplayed old new left rest before now exit
-unfolding AreReady
-replayed_all connections old mid new left rest before written now exit opened server ready answered keeps =
-    let begun : mid ≡ record old { lines = all_open } = λ i. record { server = server i; lines = opened i } in
+pub replayed_all : (old new : FrontState) (left rest before written now : Option (List ℕ)) (exit : Exit) → old.lines ≡ all_open
+    → IsTranscriptRead (Replays old new before written) left rest exit → Keeps written (append_known now []) → IsReplayed old new left rest before now exit
+replayed_all old new left rest before written now exit opened answered keeps =
+    let begun : old ≡ record old { lines = all_open } = λ i. record { server = old.server; lines = opened i } in
     let read : IsTranscriptRead (Replays (record old { lines = all_open }) new before written) left rest exit
-    = subst (λ (f : FrontState). IsTranscriptRead (Replays f new before written) left rest exit) begun (answered ready.0) in
+    = subst (λ (f : FrontState). IsTranscriptRead (Replays f new before written) left rest exit) begun answered in
     read_as_well (Replays (record old { lines = all_open }) new before written) (Replays (record old { lines = all_open }) new before now) left rest exit
     (λ entries r. replays_flushed (record old { lines = all_open }) new before written now entries keeps r) read
 
@@ -290,7 +280,7 @@ unbuffered None bytes none = refl
 unbuffered (Some xs) bytes none = ap (λ (bs : List ℕ). Some (xs ++ bs)) none ∙ ap Some (append-nil xs)
 
 -- from where a replay begins
-pub replayed_from : {R : Type 0} (custody : R → Custody) (front : FrontModel R) (records : R) (operator : List ℕ) (new : FrontState)
+pub replayed_from : {R : Type 0} (custody : R → Custody) (front : Front R) (records : R) (operator : List ℕ) (new : FrontState)
     (left given rest before inner now : Option (List ℕ)) (buffer : List ℕ) (exit : Exit) → front.server.operator ≡ operator → front.server.records ≡ records
     → front.server.decisions ≡ nothing_cached → given ≡ left → inner ≡ before → buffer ≡ []
     → IsReplayed (front_state custody front) new given rest (append_known inner buffer) now exit

@@ -4,6 +4,7 @@ use Rattle.std.specs.Prelude.{◌↔◌, IfErr, MatchResult, OnOk, Result}
 use Rattle.std.specs.Net.Grammar.{IsSocketText}
 use Rattle.std.specs.declared.net.socket_addr.SocketAddr.{SocketAddr}
 use Rattle.std.proofs.lemmas.Result.{IfErr-at_err}
+use Rattle.sqlite.specs.Recovery.{Image}
 use Rattle.xa_http.specs.Stream.{Stream}
 use Rattle.xa_records.specs.Keeper.{Custody}
 use Rattle.xa_server.specs.declared.drive_end.DriveEnd.{DriveEnd}
@@ -13,25 +14,24 @@ use Rattle.xa_server.specs.declared.front_error.FrontError.TheVariants.{Full, No
 use Rattle.xa_server.specs.declared.lines.Conn.{Conn}
 use Rattle.xa_server.specs.declared.replies.Reply.{Reply}
 use Rattle.xa_server.specs.Alone.{Event}
-use Rattle.xa_server.specs.Decisions.{nothing_cached}
-use Rattle.xa_server.specs.Driven.{IsConnection, IsDrivenWithin, KeepsOpen, Known}
-use Rattle.xa_server.specs.Front.{FrontModel, FrontState, ServerState, front_state, server_state}
-use Rattle.xa_server.specs.Lines.{IsClosed, IsOpened, Lines, empty_stream, first_free, line_at, none_open, with_line}
-use Rattle.xa_server.specs.Served.{IsRun}
-use Rattle.xa_server.specs.Work.{IsWorkOfRun}
-use Rattle.xa_server.specs.World.{ServerModel}
-use Rattle.xa_server.proofs.ConnectionLemmas.{run_trans, work_trans}
-use Rattle.xa_server.proofs.IsolationLemmas.{isolated}
+use Rattle.xa_server.specs.Driven.{IsConnection, IsConnectionOf, IsDrivenWithin, KeepsOpen, Known}
+use Rattle.xa_server.specs.declared.front.Front.{Front}
+use Rattle.xa_server.specs.Front.{FrontState, front_state}
+use Rattle.xa_server.specs.Connection.{IsOneRun, empty_stream}
+use Rattle.xa_server.specs.Lines.{IsClosed, IsOpened, Lines, first_free, line_at, none_open, with_line}
+use Rattle.xa_server.specs.World.{ServerModel, ServerState, server_state}
+use Rattle.xa_server.proofs.ConnectionLemmas.{no_run, runs_on}
+use Rattle.pdpd.specs.Beginning.{Begins}
 use Rattle.pdpd.specs.Connections.{AreIsolated, IsConnectionServed}
+use Rattle.pdpd.specs.declared.exit.Exit.TheVariants.{Done}
 use Rattle.pdpd.specs.declared.fault.Fault.{Fault}
 use Rattle.pdpd.specs.declared.fault.Fault.TheVariants as variant
 use Rattle.pdpd.specs.declared.fault.Fault.TheVariants.{Address, TokenUnread, TokenBad, Store, Shut, Socket, Connection, Clock, Output, Memory}
 use Rattle.pdpd.specs.declared.serve.setting.Setting.{Setting}
 use Rattle.pdpd.specs.declared.serve.setting.Setting.TheVariants as set
-use Rattle.pdpd.specs.Fault.{IsNoAddress, IsOfConnections, IsOfFiles, IsOfServing, IsOfSetting, IsOfStore, IsOfToken, fault_of_end}
+use Rattle.pdpd.specs.Fault.{IsNoAddress, IsOfConnections, IsOfFiles, IsOfServing, IsOfSetting, IsOfStore, IsOfToken, exit_of_fault, fault_of_end}
 use Rattle.pdpd.specs.running.Serving.{IsOfSettings, Serves, ServesOne}
-use Rattle.pdpd.specs.Token.{IsOperator}
-use Rattle.pdpd.proofs.ConnectionLemmas.{none_some, some_number}
+use Rattle.pdpd.proofs.ReadyLemmas.{none_some, some_number}
 
 -- ---- a connection
 
@@ -71,65 +71,62 @@ driven_alone conn opened left first all keeps =
 line_driven : (number : ℕ) (after : Stream) → number ≡ 0 → slice_index_or (slice_set none_open number (Some after)) number None ≡ Some after
 line_driven number after first = subst (λ (n : ℕ). slice_index_or (slice_set none_open n (Some after)) n None ≡ Some after) (sym first) refl
 
--- so it can be closed
-pub closes : (conn : Conn) (result : Result (Unit {0}) FrontError) (old opened left new : Lines) → old ≡ none_open → IsOpened old (Ok conn) opened
-    → KeepsOpen conn opened left → IsClosed conn left result new → (done : Unit {0}) × (result ≡ Ok done)
-closes conn (Ok done) old opened left new none is keeps closed = (done, refl)
-closes conn (Err NoSuchConnection) old opened left new none is keeps closed =
-    let begun = opened_first conn old opened none is in
-    let alone = driven_alone conn opened left begun.0 begun.1 keeps in
-    absurd (none_some Stream alone.0
-    (sym closed.0 ∙ ap (λ (ls : Lines). slice_index_or ls conn.number None) alone.1 ∙ line_driven conn.number alone.0 begun.0))
-closes conn (Err error.Memory) old opened left new none is keeps closed = absurd closed
-closes conn (Err TooManyConnections) old opened left new none is keeps closed = absurd closed
-closes conn (Err Full) old opened left new none is keeps closed = absurd closed
-
--- and none is open then
-pub closed_again : (conn : Conn) (done : Unit {0}) (old opened left new : Lines) → old ≡ none_open → IsOpened old (Ok conn) opened → KeepsOpen conn opened left
-    → IsClosed conn left (Ok done) new → new ≡ none_open
-closed_again conn done old opened left new none is keeps (stream, line, without) =
+-- so none is open once it is closed
+pub closed_again : (conn : Conn) (result : Result (Unit {0}) FrontError) (old opened left new : Lines) → old ≡ none_open → IsOpened old (Ok conn) opened
+    → KeepsOpen conn opened left → IsClosed conn left result new → new ≡ none_open
+closed_again conn (Ok done) old opened left new none is keeps (stream, line, without) =
     let begun = opened_first conn old opened none is in
     let alone = driven_alone conn opened left begun.0 begun.1 keeps in
     without
     ∙ ap (λ (ls : Lines). with_line conn None ls) alone.1
     ∙ set-set none_open conn.number (Some alone.0) None
     ∙ none_without_first conn.number begun.0
+closed_again conn (Err NoSuchConnection) old opened left new none is keeps closed =
+    let begun = opened_first conn old opened none is in
+    let alone = driven_alone conn opened left begun.0 begun.1 keeps in
+    absurd (none_some Stream alone.0
+    (sym closed.0 ∙ ap (λ (ls : Lines). slice_index_or ls conn.number None) alone.1 ∙ line_driven conn.number alone.0 begun.0))
+closed_again conn (Err error.Memory) old opened left new none is keeps closed = absurd closed
+closed_again conn (Err TooManyConnections) old opened left new none is keeps closed = absurd closed
+closed_again conn (Err Full) old opened left new none is keeps closed = absurd closed
 
-driven_one : (end : DriveEnd) (conn : Conn) (done : Unit {0}) (old opened left new : FrontState) (before now : Known) → old.lines ≡ none_open
-    → IsOpened old.lines (Ok conn) opened.lines → opened.server ≡ old.server → IsConnection end (line_at conn opened.lines) conn opened left before now
-    → KeepsOpen conn opened.lines left.lines → IsClosed conn left.lines (Ok done) new.lines → new.server ≡ left.server → fault_of_end end ≡ None
+driven_one : (end : DriveEnd) (conn : Conn) (old opened left new : FrontState) (before now : Known) → old.lines ≡ none_open → IsOpened old.lines (Ok conn) opened.lines
+    → opened.server ≡ old.server → IsConnection end conn opened left before now → new.lines ≡ none_open → new.server ≡ left.server → fault_of_end end ≡ None
     → IsConnectionServed old new before now
-driven_one end conn done old opened left new before now none is server drives keeps closed same goes_on =
+driven_one end conn old opened left new before now none is server drives closed same goes_on =
     let first = opened_first conn old.lines opened.lines none is in
-    let begun : opened ≡ record old { lines = with_line conn (Some empty_stream) none_open } = λ i. record { server = server i; lines = first.1 i } in
     let there : line_at conn opened.lines ≡ Some empty_stream
     = ap (λ (ls : Lines). slice_index_or ls conn.number None) first.1 ∙ line_of_first conn.number first.0 in
-    let driven_here : IsDrivenWithin 1_000_000 end conn opened left empty_stream before now
-    = subst (λ (l : Option Stream). IsConnection end l conn opened left before now) there drives in
-    let lines : new.lines ≡ none_open = closed_again conn done old.lines opened.lines left.lines new.lines none is keeps closed in
+    let driven_here : IsConnectionOf (Some empty_stream) end conn opened left before now
+    = subst (λ (l : Option Stream). IsConnectionOf l end conn opened left before now) there drives in
     record {
-      conn = conn;
       end = end;
-      left = left;
-      is_driven = subst (λ (f : FrontState). IsDrivenWithin 1_000_000 end conn f left empty_stream before now) begun driven_here;
+      after = driven_here.0;
+      is_driven =
+          subst (λ (s : ServerState). IsDrivenWithin 1_000_000 end (record { server = s; stream = empty_stream; known = before })
+          (record { server = new.server; stream = driven_here.0; known = now })) server
+          (subst (λ (s : ServerState). IsDrivenWithin 1_000_000 end (record { server = opened.server; stream = empty_stream; known = before })
+          (record { server = s; stream = driven_here.0; known = now })) (sym same) driven_here.2);
       goes_on = goes_on;
-      closed = λ i. record { server = same i; lines = lines i };
+      opened = none;
+      closed = closed;
     }
 
--- whatever the last step of serving it gave
-pub served_as : {R : Type 0} (custody : R → Custody) (old opened left new : FrontModel R) (end : DriveEnd) (conn : Conn) (done : Unit {0}) (before now : Known)
+-- whatever the last step of serving it gave; `before` and `now` are what is known by the server beside the rest
+pub served_as : {R : Type 0} (custody : R → Custody) (old opened left new : Front R) (end : DriveEnd) (conn : Conn) (before now : ServerModel R → Known)
     (result : Result (Unit {0}) Fault) → old.lines ≡ none_open → IsOpened old.lines (Ok conn) opened.lines → opened.server ≡ old.server
-    → ((custody left.server.records).sound → IsConnection end (line_at conn opened.lines) conn (front_state custody opened) (front_state custody left) before now)
-    → KeepsOpen conn opened.lines left.lines → IsClosed conn left.lines (Ok done) new.lines → new.server ≡ left.server
-    → MatchResult result (λ _. fault_of_end end ≡ None) (λ fault. fault_of_end end ≡ Some fault)
-    → OnOk result ((custody new.server.records).sound → IsConnectionServed (front_state custody old) (front_state custody new) before now)
-served_as {R = R} custody old opened left new end conn done before now (Ok unit) none is server drives keeps closed same goes_on = λ sound.
-    driven_one end conn done (front_state custody old) (front_state custody opened) (front_state custody left) (front_state custody new) before now none is
-    (ap (λ (s : ServerModel R). server_state custody s) server)
-    (drives (subst (λ (s : ServerModel R). (custody s.records).sound) same sound)) keeps closed
-    (ap (λ (s : ServerModel R). server_state custody s) same)
-    goes_on
-served_as custody old opened left new end conn done before now (Err fault) none is server drives keeps closed same goes_on = tt
+    → ((custody left.server.records).sound → IsConnection end conn (front_state custody opened) (front_state custody left) (before opened.server) (now left.server))
+    → new.lines ≡ none_open → new.server ≡ left.server → MatchResult result (λ _. fault_of_end end ≡ None) (λ fault. fault_of_end end ≡ Some fault)
+    → OnOk result ((custody new.server.records).sound
+    → IsConnectionServed (front_state custody old) (front_state custody new) (before old.server) (now new.server))
+served_as {R = R} custody old opened left new end conn before now (Ok unit) none is server drives closed same goes_on = λ sound.
+    let driven_here : IsConnection end conn (front_state custody opened) (front_state custody left) (before old.server) (now new.server)
+    = subst (λ (s : ServerModel R). IsConnection end conn (front_state custody opened) (front_state custody left) (before s) (now new.server)) server
+    (subst (λ (s : ServerModel R). IsConnection end conn (front_state custody opened) (front_state custody left) (before opened.server) (now s)) (sym same)
+    (drives (subst (λ (s : ServerModel R). (custody s.records).sound) same sound))) in
+    driven_one end conn (front_state custody old) (front_state custody opened) (front_state custody left) (front_state custody new) (before old.server) (now new.server)
+    none is (ap (λ (s : ServerModel R). server_state custody s) server) driven_here closed (ap (λ (s : ServerModel R). server_state custody s) same) goes_on
+served_as custody old opened left new end conn before now (Err fault) none is server drives closed same goes_on = tt
 
 pub served_one : (old new : FrontState) (before now : Known) → IsConnectionServed old new before now → ServesOne old new
 unfolding ServesOne
@@ -139,14 +136,7 @@ served_one old new before now is = (before, now, is)
 
 pub served_none : (front : FrontState) → Serves 0 front front
 unfolding Serves
-served_none front = record {
-  events = [];
-  replies = [];
-  served = (refl, refl, refl);
-  is_run = refl;
-  work = (refl, refl);
-  isolated = λ domain. isolated domain front.server.world front.server.world [] [] refl;
-}
+served_none front = record { events = []; replies = []; served = (refl, refl, refl); run = no_run front.server front.server refl }
 
 pub served_nobody : (count : ℕ) (front : FrontState) → count < 1 → Serves count front front
 served_nobody count front less =
@@ -156,25 +146,14 @@ served_nobody count front less =
 more_isolated : (count : ℕ) (old mid new : FrontState) (known_before known_now : Known) → AreIsolated count old mid
     → IsConnectionServed mid new known_before known_now → AreIsolated (count + 1) old new
 more_isolated count old mid new known_before known_now before is =
-    let here = is.is_driven.0 in
-    let events : List Event = before.events ++ here.events in
-    let replies : List Reply = before.replies ++ here.run in
-    let server : new.server ≡ is.left.server = ap (λ (f : FrontState). f.server) is.closed in
-    let run_here : IsRun mid.server.world here.events here.run new.server.world
-    = subst (λ (s : ServerState). IsRun mid.server.world here.events here.run s.world) (sym server) here.is_run in
-    let work_here : IsWorkOfRun mid.server.world mid.server.decisions here.events here.run new.server.world new.server.decisions
-    = subst (λ (s : ServerState). IsWorkOfRun mid.server.world mid.server.decisions here.events here.run s.world s.decisions) (sym server) here.work in
-    let run : IsRun old.server.world events replies new.server.world
-    = run_trans old.server.world mid.server.world new.server.world before.events here.events before.replies here.run before.is_run run_here in
+    let here = is.is_driven in
     record {
-      events = events;
-      replies = replies;
+      events = before.events ++ (here.goes.events ++ here.last_events);
+      replies = before.replies ++ (here.goes.run ++ here.last_replies);
       served = rw add-one (mid, before.events, before.replies, before.served, known_before, known_now, is, refl, refl);
-      is_run = run;
-      work =
-          work_trans old.server.world mid.server.world new.server.world old.server.decisions mid.server.decisions new.server.decisions before.events here.events before.replies here.run
-          before.work work_here;
-      isolated = λ domain. isolated domain old.server.world new.server.world events replies run;
+      run =
+          runs_on old.server mid.server new.server before.events (here.goes.events ++ here.last_events) before.replies (here.goes.run ++ here.last_replies)
+          before.run here.run;
     }
 
 pub served_more : (count : ℕ) (old mid new : FrontState) → Serves count old mid → ServesOne mid new → Serves (count + 1) old new
@@ -182,16 +161,29 @@ unfolding Serves ServesOne
 served_more count old mid new before (known_before, known_now, is) = more_isolated count old mid new known_before known_now before is
 
 -- from the front of the files
-pub served_from : {R : Type 0} (custody : R → Custody) (count : ℕ) (old new : FrontModel R) → IsOperator old.server.operator → old.server.decisions ≡ nothing_cached
-    → old.lines ≡ none_open → Serves count (front_state custody old) (front_state custody new)
-    → (from : FrontState) × IsOperator from.server.world.operator × (from.server.decisions ≡ nothing_cached) × (from.lines ≡ none_open)
-    × AreIsolated count from (front_state custody new)
+pub served_from : {R : Type 0} (custody : R → Custody) (image : Image) (token : Option (List ℕ)) (count : ℕ) (old new : Front R) → Begins image token (front_state custody old)
+    → Serves count (front_state custody old) (front_state custody new) → (from : FrontState) × Begins image token from × AreIsolated count from (front_state custody new)
 unfolding Serves
-served_from custody count old new operator decisions none is = (front_state custody old, operator, decisions, none, is)
+served_from custody image token count old new begins is = (front_state custody old, begins, is)
 
 -- the last of them
 pub served_last : (count others : ℕ) (old mid new : FrontState) → count ≡ others + 1 → Serves others old mid → ServesOne mid new → Serves count old new
 served_last count others old mid new same before is = subst (λ (n : ℕ). Serves n old new) (sym same) (served_more others old mid new before is)
+
+-- ---- no fault ends the program well
+
+pub fault_not_done : (fault : Fault) → exit_of_fault fault ≢ Done
+fault_not_done Address = λ same. cc
+fault_not_done (variant.Setting setting) = λ same. cc
+fault_not_done TokenUnread = λ same. cc
+fault_not_done TokenBad = λ same. cc
+fault_not_done (Store fault) = λ same. cc
+fault_not_done Shut = λ same. cc
+fault_not_done Socket = λ same. cc
+fault_not_done Connection = λ same. cc
+fault_not_done Clock = λ same. cc
+fault_not_done Output = λ same. cc
+fault_not_done Memory = λ same. cc
 
 -- ---- faults that are no fault of the address
 
@@ -210,7 +202,8 @@ settings_not_address fault (inl is) = setting_not_address set.Work fault is
 settings_not_address fault (inr (inl is)) = setting_not_address set.Reply fault is
 settings_not_address fault (inr (inr (inl is))) = setting_not_address set.Reading fault is
 settings_not_address fault (inr (inr (inr (inl is)))) = setting_not_address set.Views fault is
-settings_not_address fault (inr (inr (inr (inr is)))) = setting_not_address set.Idle fault is
+settings_not_address fault (inr (inr (inr (inr (inl is))))) = setting_not_address set.Idle fault is
+settings_not_address fault (inr (inr (inr (inr (inr is))))) = setting_not_address set.Sums fault is
 
 pub token_not_address : (fault : Fault) → IsOfToken fault → fault ≢ Address
 token_not_address Address none = absurd none

@@ -9,7 +9,7 @@ use Rattle.sha2.specs.Sha256.{sha256}
 use Rattle.xa_notation.specs.Tokens.{is_token, is_visible}
 use Rattle.pdpd.specs.declared.fault.Fault.{Fault}
 use Rattle.pdpd.specs.declared.fault.Fault.TheVariants.{TokenBad}
-use Rattle.pdpd.specs.Token.{IsOperatorOf, first_line}
+use Rattle.pdpd.specs.Token.{IsOperatorIn, first_line}
 
 -- none of them is a line feed
 abbrev pub NoFeed : List ℕ → Type 0
@@ -69,16 +69,16 @@ token_length line is =
     let fits : nat_le (length line) 64 ≡ true = middle (nat_le 8 (length line)) (nat_le (length line) 64) (list_all is_visible line) is in
     grind (arith, nat_tests)
 
--- the token of a front of a text is that of the text
+-- the token of a front of a text is that of the text; if the text isn't known, of the front
 pub known_operator : (known : Option (List ℕ)) (bytes : List ℕ) (result : Result (List ℕ) Fault) → IfSome known (λ text. bytes ≡ take 128 text)
     → MatchResult result (λ operator. (operator ≡ sha256 (first_line bytes)) × IsTrue (is_token (first_line bytes)))
     (λ fault. (fault ≡ TokenBad) × IsFalse (is_token (first_line bytes)))
-    → IfOk result (λ operator. IfSome known (IsOperatorOf operator))
-known_operator None bytes (Ok operator) front is = tt
+    → IfOk result (IsOperatorIn known)
+known_operator None bytes (Ok operator) front is = (bytes, is, tt)
 known_operator (Some text) bytes (Ok operator) front is =
     let line : List ℕ = first_line (take 128 text) in
     let token : IsTrue (is_token line) = subst (λ (bs : List ℕ). IsTrue (is_token (first_line bs))) front is.1 in
     let same : first_line bytes ≡ first_line text =
     ap first_line front ∙ first_of_front 128 text (omega (arith, token_length line token)) in
-    (is.0 ∙ ap sha256 same, subst (λ (l : List ℕ). IsTrue (is_token l)) same is.1)
+    (text, (is.0 ∙ ap sha256 same, subst (λ (l : List ℕ). IsTrue (is_token l)) same is.1), refl)
 known_operator known bytes (Err fault) front is = tt

@@ -1,17 +1,18 @@
 -- The entries of a transcript, answered one after another.
 use Rattle.std.specs.Prelude.{◌≡◌, ◌⊎◌, ℕ, ◌+◌, ⊤, Bool, true, false, List}
-use Rattle.std.specs.Prelude.{[], ◌∷◌, ◌++◌, length, replicate, Option, Some}
+use Rattle.std.specs.Prelude.{[], ◌∷◌, ◌++◌, length, Option, Some}
 use Rattle.std.specs.Io.KnownBytes.{Appends, Consumes, IsAtEnd}
 use Rattle.xa_http.specs.Stream.{Stream, fed}
 use Rattle.xa_records.specs.Kept.{Kept}
 use Rattle.xa_server.specs.declared.replies.Reply.{Reply}
 use Rattle.xa_server.specs.Alone.{Event}
+use Rattle.xa_server.specs.Connection.{empty_stream}
 use Rattle.xa_server.specs.Decisions.{nothing_cached}
 use Rattle.xa_server.specs.Front.{FrontState}
 use Rattle.xa_server.specs.Isolation.{IsIsolatedBesideRefusals}
-use Rattle.xa_server.specs.Lines.{IsOpen, Lines, empty_stream, none_open, with_line}
+use Rattle.xa_server.specs.Lines.{IsOpen, all_open, none_open, with_line}
 use Rattle.xa_server.specs.Served.{IsRun}
-use Rattle.xa_server.specs.World.{World}
+use Rattle.xa_server.specs.World.{ServerState, World}
 use Rattle.pdpd.specs.declared.exit.Exit.{Exit}
 use Rattle.pdpd.specs.declared.exit.Exit.TheVariants.{Done, Malformed}
 use Rattle.pdpd.specs.declared.replay.heading.Heading.{Heading}
@@ -60,15 +61,13 @@ StreamTakes heading bytes was is old new exchange =
     })
 
 -- `StreamTakes`, unless the stream has ended: then the bytes are passed over
-abbrev pub OpenTakes : Bool → Heading → List ℕ → Stream → Stream → FrontState → FrontState → Exchange → Type 0
-OpenTakes true heading bytes was is old new exchange = (is ≡ was) × (new.server ≡ old.server) × (exchange ≡ no_exchange)
-OpenTakes false heading bytes was is old new exchange =
-    StreamTakes heading bytes was is old.server.world new.server.world exchange
+abbrev pub OpenTakes : Bool → Heading → List ℕ → Stream → Stream → ServerState → ServerState → Exchange → Type 0
+OpenTakes true heading bytes was is old new exchange = (is ≡ was) × (new ≡ old) × (exchange ≡ no_exchange)
+OpenTakes false heading bytes was is old new exchange = StreamTakes heading bytes was is old.world new.world exchange
 
 -- a connection takes the bytes of an entry: no bytes close it, and its next begins a new stream
-abbrev pub ConnectionTakes : Heading → List ℕ → Stream → Stream → FrontState → FrontState → Exchange → Type 0
-ConnectionTakes heading [] was is old new exchange =
-    (is ≡ empty_stream) × (new.server ≡ old.server) × (exchange ≡ no_exchange)
+abbrev pub ConnectionTakes : Heading → List ℕ → Stream → Stream → ServerState → ServerState → Exchange → Type 0
+ConnectionTakes heading [] was is old new exchange = (is ≡ empty_stream) × (new ≡ old) × (exchange ≡ no_exchange)
 ConnectionTakes heading (byte ∷ bytes) was is old new exchange =
     OpenTakes was.ended heading (byte ∷ bytes) was is old new exchange
 
@@ -76,7 +75,7 @@ ConnectionTakes heading (byte ∷ bytes) was is old new exchange =
 abbrev pub IsEntryReplied : Heading → List ℕ → FrontState → FrontState → Exchange → Type 0
 IsEntryReplied heading bytes old new exchange =
     (was : Stream) × (is : Stream) × IsOpen (record { number = heading.connection }) old.lines was
-    × ConnectionTakes heading bytes was is old new exchange
+    × ConnectionTakes heading bytes was is old.server new.server exchange
     × (new.lines ≡ with_line (record { number = heading.connection }) (Some is) old.lines)
 
 -- ---- one entry after another
@@ -107,10 +106,6 @@ pub record Replays (old new : FrontState) (before now : Option (List ℕ)) (entr
   pub wrote : Appends before now exchange.written
 
 -- ---- a whole transcript
-
--- every connection is open, and nothing has come on it
-abbrev pub all_open : Lines
-all_open = replicate 64 (Some empty_stream)
 
 -- a reader gave the text of the entries, and `behind` after it; `left` is what is known of it before, and
 -- `rest` afterwards

@@ -1,22 +1,28 @@
--- The settings that the environment gives by the variables PDPD_WORK, PDPD_REPLY, PDPD_READING, PDPD_VIEWS and
--- PDPD_IDLE.
+-- The settings that the environment gives by the variables PDPD_WORK, PDPD_REPLY, PDPD_READING, PDPD_VIEWS, PDPD_IDLE
+-- and PDPD_SUMS.
 use Rattle.std.specs.Prelude.{ℕ, List, Option, Some, None}
 use Rattle.xa_value.specs.Digits.{number_up_to}
 use Rattle.pdpd.specs.declared.serve.setting.Setting.{Setting}
-use Rattle.pdpd.specs.declared.serve.setting.Setting.TheVariants.{Work, Reply, Reading, Views, Idle}
+use Rattle.pdpd.specs.declared.serve.setting.Setting.TheVariants.{Work, Reply, Reading, Views, Idle, Sums}
 
 -- what each setting is if its variable isn't set: the limit of work for one decision request, 0 for none; how many
 -- bytes the body of a response may have, and how many bytes of policies may be read for one decision request, 0 for any
 -- number; how many bytes of memory cached views of domains may take, 0 to cache none; for how many seconds a connection
--- may give nothing, or take nothing, 0 for ever
+-- may give nothing, or take nothing, 0 for ever; 1 if a new file of a store has sums, 0 if not
 abbrev pub default_of : Setting → ℕ
 default_of Work = 150_000_000
 default_of Reply = 16_777_216
 default_of Reading = 16_000_000
 default_of Views = 268_435_456
 default_of Idle = 30
+default_of Sums = 1
 
--- what a setting is, by the text to which its variable is set, if it is: a number
+-- the greatest number that each setting may be
+abbrev pub most_of : Setting → ℕ
+most_of Sums = 1
+most_of _ = 18_446_744_073_709_551_615
+
+-- what a setting is, by the text to which its variable is set, if it is: a number that it may be
 abbrev pub value_of : Setting → Option (List ℕ) → Option ℕ
 value_of setting None = Some (default_of setting)
-value_of setting (Some text) = number_up_to 18_446_744_073_709_551_615 text
+value_of setting (Some text) = number_up_to (most_of setting) text

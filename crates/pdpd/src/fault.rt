@@ -24,6 +24,10 @@ pub enum StoreFault {
     Corrupt,
     /// It has other tables.
     Schema,
+    /// It has other tables, indexes, views or triggers beside the program's.
+    Foreign,
+    /// Its tables have the names of the program's, and were made otherwise.
+    MadeOtherwise,
     /// A row is damaged.
     Row,
     /// The disk is full.
@@ -48,8 +52,13 @@ impl StoreFault {
             StoreFault::Busy => "in use: another program has it open; stop that one first",
             StoreFault::NoDatabase =>
                 "not a database of SQLite that can be read; name another file",
-            StoreFault::Corrupt => "the file's pages are damaged; put back a backup",
+            StoreFault::Corrupt =>
+                "the file's pages are damaged, or another program has written it and spoiled their sums; put back a backup",
             StoreFault::Schema => "not a store of this program (schema); name another file",
+            StoreFault::Foreign =>
+                "other tables, indexes, views or triggers stand beside the program's (the line before names them), and nothing would be proved of what is kept there; drop them",
+            StoreFault::MadeOtherwise =>
+                "its tables weren't made as this program makes them (in another order, say), and nothing would be proved of what is kept there; carry their rows into a new store",
             StoreFault::Row => "a row of the store is damaged; put back a backup",
             StoreFault::Full => "the disk is full; make room on it",
             StoreFault::Disk => "the disk failed; look after it, or put back a backup",

@@ -15,6 +15,7 @@ pub const HELP: &str = "pdpd: policy administration and decisions (XACML 3.0), o
       its response, and PDPD_READING the bytes of policies that are read for it. PDPD_IDLE ends a
       connection that gives or takes nothing for so many seconds. For each of these 0 is no limit.
       PDPD_VIEWS limits the memory for cached views of domains, in bytes (0: none is cached).
+      With PDPD_SUMS 0 a new file has no sums that tell of its damage.
   pdpd replay OPERATOR-TOKEN
       answers the transcript on standard input, over a store in memory.
   pdpd --help, pdpd --version

@@ -3,8 +3,12 @@
 //! and `pdpd --version` say how it is called, and which version it is.
 #![tactic(auto)]
 
-ghost use Rattle.std.specs.Prelude.{◌≡◌, ◌⊎◌, ◌↔◌, Err, IsFalse, IsTrue, map, string_bytes};
+ghost use Rattle.std.specs.Prelude.{◌≡◌, ◌≢◌, ◌⊎◌, ◌↔◌, Err, IfOk, IsFalse, IsTrue, map, string_bytes};
+ghost use Rattle.std.specs.Prelude.{MatchOption, Option, List, ℕ};
+ghost use Rattle.sqlite.specs.WalFiles.{image_at};
 ghost use Rattle.xa_notation.specs.Tokens.{is_token};
+ghost use Rattle.pdpd.specs.Beginning.{HasCleanFiles, known_text};
+ghost use Rattle.pdpd.specs.Connections.{ServesFiles};
 ghost use Rattle.pdpd.specs.declared.exit.Exit.TheVariants.{Done, Failed, Usage};
 ghost use Rattle.pdpd.specs.declared.fault.Fault.TheVariants.{Address};
 ghost use Rattle.pdpd.specs.CommandLine.{command_of};
@@ -30,10 +34,14 @@ mod store;
 use command_line::{Command, ServeCommand, command_of};
 use exit::Exit;
 use fault::{Fault, FaultLine};
+use sqlite::{FileFrom, Start, Unknown};
+use sqlite_disk::Disk;
 use std::env;
-use std::io::ErrorKind;
+use std::fs::{File, OpenFile};
+use std::io::{self, ErrorKind, Read};
 use std::process::ExitCode;
 use store::close_records;
+use store::closed::ClosedStore;
 
 /// The words of the command line, the program's name first.
 fn words(rt: &HostRuntime) -> Result<Vec<String>, Exit> {
@@ -64,24 +72,56 @@ fn print(rt: &HostRuntime, text: &str) -> Exit
     }
 }
 
-/// Serves connections, and then closes the file.
-fn serve_and_close(rt: &HostRuntime, serving: &ServeCommand<'_>) -> Result<(), Fault>
-    ensures { IsNoAddress serving.now.address → result ≡ Err Address }
+/// Connections that were served.
+#[derive(Drop)]
+struct Served<D: Disk> {
+    /// How the program ends by it.
+    exit: Exit,
+    /// The store's files, if all connections were served and the files closed. No code reads them: clauses
+    /// speak of them.
+    closed: Option<ClosedStore<D>>,
+}
+
+/// Serves connections, and then closes the store's files. Gives these as they are left.
+fn serve_and_close<S: Start, F: OpenFile + Read + Drop>(
+    rt: &HostRuntime,
+    serving: &ServeCommand<'_>,
+    token: io::Result<F>,
+    start: S,
+) -> Result<ClosedStore<FileFrom<S>>, Fault>
+    ensures served { IfOk result (λ closed. HasCleanFiles closed
+        → ServesFiles (image_at S.Start) (known_text F.remaining token) serving.now.connections closed) }
+    ensures address { IsNoAddress serving.now.address → result ≡ Err Address }
 {
-    let front = serve::serve(rt, serving)?;
+    let front = serve::serve(rt, serving, token, start)?;
     close_records(front.into_server().into_records())
 }
 
-/// Serves connections, and gives the exit. A line on standard error tells of a fault.
-fn exit_of_serving(rt: &HostRuntime, serving: &ServeCommand<'_>) -> Exit
-    ensures serving { IsTrue (ends_serving result) }
-    ensures address { IsNoAddress serving.now.address → result ≡ Usage }
+/// Serves connections, and says how that ended. A line on standard error tells of a fault.
+#[tactic(auto, using(crate::proofs::ServingLemmas::fault_not_done))]
+fn serve_files<S: Start>(
+    rt: &HostRuntime,
+    serving: &ServeCommand<'_>,
+    start: S,
+) -> Served<FileFrom<S>>
+    ensures done { MatchOption result.closed (result.exit ≢ Done)
+        (λ closed. HasCleanFiles closed → (token : Option (List ℕ))
+        × ServesFiles (image_at S.Start) token serving.now.connections closed) }
+    ensures serving { IsTrue (ends_serving result.exit) }
+    ensures address { IsNoAddress serving.now.address → result.exit ≡ Usage }
 {
-    match serve_and_close(rt, serving) {
-        Ok(()) => Exit::Done,
+    let token = File::open(rt, serving.token_file.as_str());
+    match serve_and_close(rt, serving, token, start) {
+        Ok(closed) => Served {
+            exit: Exit::Done,
+            closed: Some(closed),
+        },
         Err(fault) => {
             let _ = rt.eprintln(FaultLine { serving, fault });
-            fault.exit()
+            Served {
+                exit: fault.exit(),
+                closed: None,
+            }
         }
     }
 }
@@ -96,15 +136,16 @@ fn exit_of_replaying(rt: &HostRuntime, token: &str) -> Exit
     )
 }
 
-/// Does what the words of the command line ask for, and says how that ended.
-fn exit_of_words(rt: &HostRuntime, words: &[String]) -> Exit
+/// Does what the words of the command line ask for, and says how that ended. `start` stands for what the
+/// files of a store hold.
+fn exit_of_words<S: Start>(rt: &HostRuntime, words: &[String], start: S) -> Exit
     ensures { MayEnd (command_of (map string_bytes words.now)) result }
 {
     match command_of(words) {
         Some(Command::Help) => print(rt, help::HELP),
         Some(Command::Version) => print(rt, help::VERSION),
         Some(Command::Replay(token)) => exit_of_replaying(rt, token.as_str()),
-        Some(Command::Serve(serving)) => exit_of_serving(rt, &serving),
+        Some(Command::Serve(serving)) => serve_files(rt, &serving, start).exit,
         None => report(rt, Exit::Usage),
     }
 }
@@ -113,7 +154,7 @@ fn main(rt: HostRuntime) -> ExitCode {
     match words(&rt) {
         Ok(words) => {
             let _touched = stack::touch(words.len());
-            exit_of_words(&rt, &words).status()
+            exit_of_words(&rt, &words, Unknown).status()
         }
         Err(exit) => report(&rt, exit).status(),
     }

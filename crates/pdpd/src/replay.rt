@@ -7,13 +7,13 @@ ghost use Rattle.sqlite.specs.Steps.{over_memory};
 ghost use Rattle.xa_notation.specs.Tokens.{is_token};
 ghost use Rattle.xa_records.specs.Kept.{nothing_kept};
 ghost use Rattle.xa_server.specs.Front.{front_state};
-ghost use Rattle.xa_server.specs.Lines.{none_open};
+ghost use Rattle.xa_server.specs.Lines.{all_open};
 ghost use Rattle.xa_store.specs.Keeper.{IsSound};
 ghost use Rattle.xa_store.specs.KeeperReading.{custody_by};
 ghost use Rattle.pdpd.specs.Exit.{tells_of_entries};
 ghost use Rattle.pdpd.specs.Replay.{IsReplayed, IsTranscriptRead, Replays, beginning};
 ghost use Rattle.pdpd.specs.running.Reading.{remaining_of};
-ghost use Rattle.pdpd.specs.running.Replaying.{AreOf, AreReady, end_of};
+ghost use Rattle.pdpd.specs.running.Replaying.{AreReady, end_of};
 ghost use Rattle.pdpd.specs.running.Serving.{WasSound};
 ghost use Rattle.pdpd.specs.declared.exit.Exit.TheVariants.{Usage};
 
@@ -22,7 +22,6 @@ mod read_buffer;
 mod replayer;
 mod telling;
 mod transcript;
-mod transcript_connection;
 pub(crate) mod transcript_fault;
 mod writing;
 
@@ -64,9 +63,8 @@ fn answer_entries<I: Read, R: Records + Drop, W: Write + Drop>(
     transcript: &mut Transcript<I>,
     replayer: &mut Replayer<R, W>,
 ) -> Result<(), Exit>
-    requires { AreReady replayer.old.connections.items replayer.old.front.lines }
+    requires { AreReady replayer.old.front.lines }
     ensures replayed { (R.custody replayer.new.front.server.records).sound
-        → AreOf replayer.old.connections.items replayer.old.front.lines
         → IsTranscriptRead
         (Replays (front_state R.custody replayer.old.front) (front_state R.custody replayer.new.front)
         (writer_contents W.contents replayer.old.writer) (writer_contents W.contents replayer.new.writer))
@@ -92,14 +90,14 @@ fn answer_entries<I: Read, R: Records + Drop, W: Write + Drop>(
 }
 
 /// Answers the entries of a transcript, each message at the moment of the entry that makes it
-/// whole, and writes the replies. What was answered is written, however it ends. No connection is
-/// open when it begins.
-#[tactic(auto, using(crate::proofs::ReplayLemmas::replayed_all, crate::proofs::ReplayLemmas::broken_off))]
+/// whole, and writes the replies. What was answered is written, however it ends. All connections are
+/// open when it begins, and nothing has come on them.
+#[tactic(auto, using(crate::proofs::ReplayLemmas::replayed_all, crate::proofs::ReplayLemmas::broken_off, crate::proofs::ReadyLemmas::all_ready))]
 fn replay_all<I: Read, R: Records + Drop, W: Write + Drop>(
     transcript: &mut Transcript<I>,
     replayer: &mut Replayer<R, W>,
 ) -> Exit
-    requires { replayer.old.front.lines ≡ none_open }
+    requires { replayer.old.front.lines ≡ all_open }
     ensures replayed { (R.custody replayer.new.front.server.records).sound
         → IsReplayed (front_state R.custody replayer.old.front) (front_state R.custody replayer.new.front)
         (remaining_of I.remaining transcript.old) (remaining_of I.remaining transcript.new)
@@ -109,9 +107,6 @@ fn replay_all<I: Read, R: Records + Drop, W: Write + Drop>(
         (remaining_of I.remaining transcript.old) (remaining_of I.remaining transcript.new) result }
     ensures other { result ≢ Usage }
 {
-    if let Err(exit) = replayer.open_all() {
-        return exit;
-    }
     let exit = match answer_entries(transcript, replayer) {
         Ok(()) => Exit::Done,
         Err(exit) => exit,

@@ -3,15 +3,18 @@ ghost use Rattle.std.specs.Prelude.{◌≡◌, ◌↔◌, IfErr, IfOk, MatchResu
 ghost use Rattle.std.specs.Prelude.{OnOk, Err, None, Some};
 ghost use Rattle.std.specs.Net.Grammar.{IsSocketText, Parses};
 ghost use Rattle.sqlite.specs.Files.{over_files};
+ghost use Rattle.sqlite.specs.WalFiles.{image_at};
 ghost use Rattle.xa_server.specs.Decisions.{nothing_cached};
+ghost use Rattle.xa_server.specs.Driven.{seen_by};
 ghost use Rattle.xa_server.specs.Front.{FrontState, front_state};
 ghost use Rattle.xa_server.specs.Lines.{none_open};
+ghost use Rattle.xa_store.specs.Keeper.{IsSound};
 ghost use Rattle.xa_store.specs.KeeperReading.{custody_by};
 ghost use Rattle.pdpd.specs.declared.fault.Fault.TheVariants.{Address};
+ghost use Rattle.pdpd.specs.Beginning.{Begins, known_text};
 ghost use Rattle.pdpd.specs.Connections.{AreIsolated, IsConnectionServed};
 ghost use Rattle.pdpd.specs.Fault.{IsNoAddress, IsOfConnections, IsOfFiles, IsOfServing, fault_of_end};
-ghost use Rattle.pdpd.specs.running.Serving.{Serves, ServesOne, WasSound, seen_beside_front};
-ghost use Rattle.pdpd.specs.Token.{IsOperator};
+ghost use Rattle.pdpd.specs.running.Serving.{Serves, ServesOne, WasSound};
 
 mod listening;
 pub(crate) mod setting;
@@ -26,6 +29,9 @@ use crate::serve::settings::{Settings, front_of_tables};
 use crate::serve::token::operator_of_file;
 use crate::serve::wall_clock::WallClock;
 use crate::store::{FileRecords, records_in_file};
+use sqlite::Start;
+use std::fs::OpenFile;
+use std::io::{self, Read};
 use std::net::{SocketAddr, TcpListener};
 use std::rt::HostRuntime;
 use xa_records::Records;
@@ -56,10 +62,11 @@ fn serve_connection<R: Records, I: Reader, W: Writer, C: Clock>(
     clock: &mut C,
 ) -> Result<(), Fault>
     requires { front.old.lines ≡ none_open }
-    ensures served { let seen = seen_beside_front I.Reader W.Writer C.Clock in
+    ensures served { let seen = seen_by R.custody W.Writer C.Clock in
         OnOk result ((R.custody front.new.server.records).sound
         → IsConnectionServed (front_state R.custody front.old) (front_state R.custody front.new)
-        (seen reader.old writer.old clock.old) (seen reader.new writer.new clock.new)) }
+        (seen (I.remaining reader.old) (I.reads reader.old) front.old.server writer.old clock.old)
+        (seen (I.remaining reader.new) (I.reads reader.new) front.new.server writer.new clock.new)) }
     ensures closed { front.new.lines ≡ none_open }
     ensures sound { WasSound R.custody front.old front.new }
     ensures err { IfErr result IsOfConnections }
@@ -68,9 +75,8 @@ fn serve_connection<R: Records, I: Reader, W: Writer, C: Clock>(
         unreachable!()
     };
     let end = drive(front, conn, reader, writer, clock);
-    let Ok(()) = front.close(conn) else {
-        unreachable!()
-    };
+    // It fails only if it isn't open: either way it isn't afterwards.
+    let _closed = front.close(conn);
     check_end(end)
 }
 
@@ -159,37 +165,45 @@ fn address_of(word: &str) -> Result<SocketAddr, Fault>
 }
 
 /// The front of a server over the store in the file, for the operator whose token is the first line
-/// of the token file.
-fn front_of_files(
+/// of the token file, which was opened.
+fn front_of_files<S: Start, F: OpenFile + Read + Drop>(
     rt: &HostRuntime,
     serving: &ServeCommand<'_>,
     settings: Settings,
-) -> Result<Front<FileRecords>, Fault>
-    ensures operator { IfOk result (λ front. IsOperator front.server.operator) }
-    ensures decisions { IfOk result (λ front. front.server.decisions ≡ nothing_cached) }
+    token: io::Result<F>,
+    start: S,
+) -> Result<Front<FileRecords<S>>, Fault>
+    ensures begins { IfOk result (λ front. IsSound over_files front.server.records
+        → Begins (image_at S.Start) (known_text F.remaining token)
+        (front_state (custody_by over_files) front)) }
     ensures closed { IfOk result (λ front. front.lines ≡ none_open) }
     ensures err { IfErr result IsOfFiles }
 {
-    let operator = operator_of_file(rt, serving.token_file.as_str())?;
-    let records = records_in_file(rt, serving.database.as_str())?;
+    let operator = operator_of_file(rt, serving.token_file.as_str(), token)?;
+    let records = records_in_file(rt, serving.database.as_str(), settings.sums, start)?;
     front_of_tables(rt.alloc(), records, operator, settings)
 }
 
 /// Serves connections over the store in the file, for the operator whose token is the first line of the
-/// token file. Gives the front back as the connections have left it. Faults are looked for in this order:
-/// the address, PDPD_WORK, PDPD_REPLY, PDPD_READING, PDPD_VIEWS, PDPD_IDLE, the token file, the store, the
-/// socket.
+/// token file. Gives the front back as the connections have left it. `token` is the token file as it was
+/// opened, and `start` stands for what the store's two files hold: no clause ties either to its path. Faults
+/// are looked for in this order: the address, PDPD_WORK, PDPD_REPLY, PDPD_READING, PDPD_VIEWS, PDPD_IDLE,
+/// PDPD_SUMS, the token file, the store, the socket.
 #[tactic(auto, using(crate::proofs::ServingLemmas::settings_not_address, crate::proofs::ServingLemmas::files_not_address, crate::proofs::ServingLemmas::serving_not_address, crate::proofs::ServingLemmas::address_found))]
-pub fn serve(rt: &HostRuntime, serving: &ServeCommand<'_>) -> Result<Front<FileRecords>, Fault>
-    ensures served { IfOk result (λ front. (custody_by over_files front.server.records).sound
-        → (old : FrontState) × IsOperator old.server.world.operator × (old.server.decisions ≡ nothing_cached)
-        × (old.lines ≡ none_open)
+pub fn serve<S: Start, F: OpenFile + Read + Drop>(
+    rt: &HostRuntime,
+    serving: &ServeCommand<'_>,
+    token: io::Result<F>,
+    start: S,
+) -> Result<Front<FileRecords<S>>, Fault>
+    ensures served { IfOk result (λ front. IsSound over_files front.server.records
+        → (old : FrontState) × Begins (image_at S.Start) (known_text F.remaining token) old
         × AreIsolated serving.now.connections old (front_state (custody_by over_files) front)) }
     ensures address { (result ≡ Err Address) ↔ IsNoAddress serving.now.address }
 {
     let address = address_of(serving.address.as_str())?;
     let settings = Settings::read(rt)?;
-    let mut front = front_of_files(rt, serving, settings)?;
+    let mut front = front_of_files(rt, serving, settings, token, start)?;
     // For the proof: by no `?`, whose exit drops the front; the search for that exit's clause doesn't end.
     match serve_at(rt, &mut front, address, serving, settings.idle) {
         Ok(()) => Ok(front),

@@ -1,29 +1,40 @@
 //! The store of `pdpd serve`, and that of `pdpd replay`.
-ghost use Rattle.std.specs.Prelude.{◌≡◌, ◌≢◌, ◌⊎◌, IfErr, IfOk, IsTrue};
+ghost use Rattle.std.specs.Prelude.{◌≡◌, ◌≢◌, ◌⊎◌, false, IfErr, IfOk, IsTrue, MatchResult};
+ghost use Rattle.sqlite.specs.Closing.{IsCopied};
 ghost use Rattle.sqlite.specs.Files.{file_state, over_files};
+ghost use Rattle.sqlite.specs.Held.{state};
+ghost use Rattle.sqlite.specs.State.{HasCleanDisk};
 ghost use Rattle.sqlite.specs.Steps.{over_memory};
+ghost use Rattle.sqlite.specs.WalFiles.{image_at};
 ghost use Rattle.xa_records.specs.Kept.{nothing_kept};
 ghost use Rattle.xa_store.specs.Keeper.{IsSound};
 ghost use Rattle.xa_store.specs.KeeperReading.{kept_by};
+ghost use Rattle.pdpd.specs.Beginning.{HasCleanFiles, IsLeftIn};
 ghost use Rattle.pdpd.specs.declared.exit.Exit.TheVariants.{Memory, Store, Usage};
 ghost use Rattle.pdpd.specs.declared.fault.Fault.TheVariants as fault;
-ghost use Rattle.pdpd.specs.declared.fault.StoreFault.TheVariants.{Unclosed};
+ghost use Rattle.pdpd.specs.declared.fault.StoreFault.TheVariants.{MadeOtherwise, Unclosed};
 ghost use Rattle.pdpd.specs.Fault.{IsOfStore};
+ghost use Rattle.pdpd.specs.running.Opening.{IsKeeperFrom, IsKeeperOver};
 
+pub(crate) mod closed;
+mod foreign;
 mod halves;
 
 use crate::exit::Exit;
 use crate::fault::{Fault, OneLine, StoreFault};
 use crate::mode::lets_others_read;
+use crate::store::closed::ClosedStore;
+use crate::store::foreign::{DropsForeign, OBJECTS, Objects, objects_in};
 use crate::store::halves::{Halves, halves_at};
-use sqlite::{Connection, Error, ErrorCode, File, FileStore, MemStore};
+use sqlite::{Alter, Connection, Error, ErrorCode, FileFrom, FileStore, MemStore, Start};
+use sqlite_disk::Disk;
 use std::alloc::Global;
 use std::fs::{self, OpenOptions};
 use std::os::unix::fs::{OpenOptionsExt, PermissionsExt};
 use xa_store::{OpenError, SqlRecords};
 
-/// What keeps domains in a file.
-pub type FileRecords = SqlRecords<FileStore<File>>;
+/// What keeps domains in two files that held what `S` says.
+pub type FileRecords<S> = SqlRecords<FileStore<FileFrom<S>>>;
 
 /// What keeps domains in memory.
 pub type MemoryRecords = SqlRecords<MemStore>;
@@ -74,15 +85,6 @@ fn fault_of_tables(error: OpenError) -> Fault
     }
 }
 
-/// Warns, by a line on standard error, of a file that holds more than the program's tables, or other
-/// tables. It is served, but nothing is proved of what is kept there.
-fn warn_of_other_tables(rt: &HostRuntime, path: &str) {
-    let _ = eprintln!(rt;
-        "pdpd serve: {}: other tables, indexes or views stand beside the program's, or its own were made otherwise; it is served, but nothing is proved of what is kept there",
-        OneLine { text: path }
-    );
-}
-
 /// Warns, by a line on standard error, of a file without its log.
 fn warn_of_log(rt: &HostRuntime, path: &str) {
     let _ = eprintln!(rt;
@@ -120,7 +122,7 @@ fn warn_of_readers(rt: &HostRuntime, path: &str) {
 /// Makes the file if it isn't there. Its owner alone can read it, and SQLite gives its log the same
 /// mode. If it can't be made, opening it says why.
 fn make_file(rt: &HostRuntime, path: &str) {
-    // `Connection::open` refuses these names, so no file is made.
+    // `Connection::open_from` refuses these names, so no file is made.
     if path == ":memory:" || path.starts_with("file:") {
         return;
     }
@@ -131,39 +133,122 @@ fn make_file(rt: &HostRuntime, path: &str) {
         .open(rt, path);
 }
 
-/// The keeper over the file, which is made if it isn't there. Lines on standard error warn of tables
-/// of which nothing is proved, of a log that isn't there, and of a file that others can read.
-pub fn records_in_file(rt: &HostRuntime, path: &str) -> Result<FileRecords, Fault>
-    ensures sound { IfOk result (λ records.
-        IsTrue records.had_only_our_tables → IsTrue (file_state records.conn).is_open
-        → IsSound over_files records) }
+/// The keeper, if its store has the program's tables as they are made, and no others: of another one no
+/// clause says what it holds, so none is served.
+fn with_only_our_tables<T: Alter + Drop>(records: SqlRecords<T>) -> Result<SqlRecords<T>, Fault>
+    ensures { MatchResult result (λ k. (k ≡ records) × IsTrue k.had_only_our_tables)
+        (λ e. (e ≡ fault.Store MadeOtherwise) × (records.had_only_our_tables ≡ false)) }
+{
+    if records.has_only_our_tables() {
+        Ok(records)
+    } else {
+        Err(Fault::Store(StoreFault::MadeOtherwise))
+    }
+}
+
+/// The keeper that opening the connection gives.
+fn records_of<T: Alter + Drop>(alloc: Global, conn: Connection<T>) -> Result<SqlRecords<T>, Fault>
+    ensures keeper { IfOk result (IsKeeperOver T.Store (state T.Store conn)) }
+    ensures sound { IfOk result (λ k. IsTrue (state T.Store k.conn).is_open → IsSound T.Store k) }
+    ensures clean { IfOk result (λ k. IsTrue (state T.Store k.conn).is_open
+        → HasCleanDisk (state T.Store k.conn) × HasCleanDisk (state T.Store conn)) }
+    ensures err { IfErr result IsOfStore }
+{
+    match SqlRecords::open(alloc, conn) {
+        Ok(records) => with_only_our_tables(records),
+        Err((error, _)) => Err(fault_of_tables(error)),
+    }
+}
+
+/// Names, by a line on standard error, what stands in a store beside the program's tables, by the statements
+/// that drop it.
+fn name_foreign<T: Alter + Drop>(rt: &HostRuntime, path: &str, mut conn: Connection<T>) {
+    if let Ok(rows) = conn.query_all(OBJECTS, &[]) {
+        let _ = eprintln!(rt;
+            "pdpd serve: {}: beside the program's tables stands what isn't the program's; what removes it:{}",
+            OneLine { text: path },
+            DropsForeign {
+                rows: rows.as_slice()
+            }
+        );
+    }
+}
+
+/// The keeper over a connection, whose store's tables are made if there are none. A store with other tables
+/// and not these, or others beside these, is refused before anything is written.
+fn records_over<T: Alter + Drop>(
+    rt: &HostRuntime,
+    path: &str,
+    conn: Connection<T>,
+) -> Result<SqlRecords<T>, Fault>
+    ensures keeper { IfOk result (IsKeeperOver T.Store (state T.Store conn)) }
+    ensures sound { IfOk result (λ k. IsTrue (state T.Store k.conn).is_open → IsSound T.Store k) }
+    ensures clean { IfOk result (λ k. IsTrue (state T.Store k.conn).is_open
+        → HasCleanDisk (state T.Store k.conn) × HasCleanDisk (state T.Store conn)) }
+    ensures err { IfErr result IsOfStore }
+{
+    match objects_in(conn.schema()) {
+        Objects::Own => records_of(rt.alloc(), conn),
+        Objects::OfAnother => Err(Fault::Store(StoreFault::Schema)),
+        Objects::Foreign => {
+            name_foreign(rt, path, conn);
+            Err(Fault::Store(StoreFault::Foreign))
+        }
+    }
+}
+
+/// The keeper over the file, which is made if it isn't there, with sums if that is asked for. `start` stands
+/// for what the file and its log hold, and no clause ties that to the path. Lines on standard error warn of
+/// a log that isn't there, and of a file that others can read.
+pub fn records_in_file<S: Start>(
+    rt: &HostRuntime,
+    path: &str,
+    new_has_sums: bool,
+    start: S,
+) -> Result<FileRecords<S>, Fault>
+    ensures sound { IfOk result (λ k. IsTrue (file_state k.conn).is_open → IsSound over_files k) }
+    ensures keeper { IfOk result (λ k. IsTrue (file_state k.conn).is_open
+        → IsKeeperFrom (image_at S.Start) new_has_sums k) }
     ensures err { IfErr result IsOfStore }
 {
     look_at_halves(rt, path)?;
     make_file(rt, path);
     warn_of_readers(rt, path);
-    let conn = match Connection::open(rt, path) {
-        Ok(conn) => conn,
-        Err(error) => return Err(fault_at(rt, path, fault_of_file(error))),
-    };
-    match SqlRecords::open(rt.alloc(), conn) {
-        Ok(records) => {
-            if !records.has_only_our_tables() {
-                warn_of_other_tables(rt, path);
-            }
-            Ok(records)
-        }
-        Err((error, _)) => Err(fault_of_tables(error)),
+    match Connection::open_from(rt, path, new_has_sums, start) {
+        Ok(conn) => records_over(rt, path, conn),
+        Err((error, _)) => Err(fault_at(rt, path, fault_of_file(error))),
     }
 }
 
-/// Closes the file of a keeper. Its log is written back into it, so that the store is this one file,
-/// and a log without commits.
-pub fn close_records(records: FileRecords) -> Result<(), Fault>
-    ensures { IfErr result (λ e. e ≡ fault.Store Unclosed) }
+/// Closes the files of a connection, and gives them back. The log is written back into the file, so that
+/// the store is this one file, and a log without commits.
+fn close<D: Disk + Drop>(conn: Connection<FileStore<D>>) -> Result<ClosedStore<D>, Fault>
+    ensures copied { IfOk result (λ closed. HasCleanFiles closed → IsCopied conn closed.files) }
+    ensures err { IfErr result (λ e. e ≡ fault.Store Unclosed) }
 {
-    let closed = records.into_connection().close();
-    closed.map_err(|_| Fault::Store(StoreFault::Unclosed))
+    match conn.close_files() {
+        Ok(files) => Ok(ClosedStore::of(files)),
+        Err((_, store)) => {
+            drop(store.close());
+            Err(Fault::Store(StoreFault::Unclosed))
+        }
+    }
+}
+
+/// Closes the files of a keeper, and gives them back. One of other tables than the program's isn't closed,
+/// since no clause says what it holds; none is opened.
+pub fn close_records<D: Disk + Drop>(
+    records: SqlRecords<FileStore<D>>,
+) -> Result<ClosedStore<D>, Fault>
+    ensures closed { IfOk result (λ closed. HasCleanFiles closed
+        → IsSound over_files records × IsLeftIn closed (kept_by over_files records)) }
+    ensures err { IfErr result (λ e. e ≡ fault.Store Unclosed) }
+{
+    records.stays_sound_while_open();
+    if !records.has_only_our_tables() {
+        return Err(Fault::Store(StoreFault::Unclosed));
+    }
+    close(records.into_connection())
 }
 
 /// A keeper in memory, which keeps no domains yet.

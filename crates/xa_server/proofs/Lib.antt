@@ -1,6 +1,5 @@
 pub mod AdmissionLemmas
 pub mod AnswerLemmas
-pub mod SaidLemmas
 pub mod AskLemmas
 pub mod AuthorizationLemmas
 pub mod ConnectionLemmas
@@ -13,7 +12,6 @@ pub mod GrowthLemmas
 pub mod IsolationLemmas
 pub mod KeyedLemmas
 pub mod NameLemmas
-pub mod MultiplexerLemmas
 pub mod ReadyLemmas
 pub mod ReplyLemmas
 pub mod ResourcesLemmas
@@ -21,13 +19,11 @@ pub mod SendingLemmas
 pub mod ServedLemmas
 pub mod StandingLemmas
 pub mod TransferLemmas
-pub mod TurnLemmas
 pub mod ValidLemmas
 pub mod ViewLemmas
 pub mod WorkLemmas
 pub mod LineLemmas
 pub mod PlayLemmas
 pub mod NextLemmas
-pub mod OpenLemmas
 pub mod FrontLawLemmas
 pub mod InterruptionLemmas

@@ -1,27 +1,25 @@
--- The next answer of one connection.
-use Rattle.std.proofs.Common.{◌≡◌, ℕ, ℤ, false, Option, Some, None, Result, Ok, Err, inl, refl, sym, ap, subst, ◌∙◌}
-use Rattle.std.proofs.lemmas.List.{set-get_or}
+-- The next answer of one connection, and of a front.
+use Rattle.std.proofs.Common.{◌≡◌, ℕ, ℤ, Bool, true, false, Option, Some, None, Result, Ok, Err, inl, inr, refl, sym, ap, subst, ◌∙◌}
 use Rattle.xa_http.specs.declared.fault.SessionFault.{SessionFault}
 use Rattle.xa_http.specs.declared.message.Message.{Message}
 use Rattle.xa_http.specs.declared.session.Look.TheVariants as look
 use Rattle.xa_http.specs.declared.session.Next.{Next}
 use Rattle.xa_http.specs.declared.session.Next.TheVariants as next
-use Rattle.xa_http.specs.Messages.{IsLook, IsNext}
+use Rattle.xa_http.specs.Messages.{IsFirst, IsLook, IsNext}
 use Rattle.xa_http.specs.Stream.{Stream}
 use Rattle.xa_http.proofs.LawLemmas.{answers_messages}
 use Rattle.xa_records.specs.Keeper.{Custody}
-use Rattle.xa_server.specs.handling.Answering.{AnswersIfOpen, AnswersNext, IsFaultGiven, IsHandedOn}
-use Rattle.xa_server.specs.Crash.{IfSent}
-use Rattle.xa_server.specs.declared.event.Answer.{Answer}
-use Rattle.xa_server.specs.declared.front_error.FrontError.{FrontError}
-use Rattle.xa_server.specs.declared.front_error.FrontError.TheVariants.{Memory, NoSuchConnection, TooManyConnections, Full}
+use Rattle.xa_server.specs.Connection.{AnswersNext, EndsBy, IsGiven, IsHandedOn, ServesFirst, ServesNext, answer_of, answered_by, reply_in, reply_of}
+use Rattle.xa_server.specs.declared.connection.Answered.{Answered}
+use Rattle.xa_server.specs.declared.connection.Answered.TheVariants as answered
+use Rattle.xa_server.specs.declared.front_error.FrontError.TheVariants.{Memory}
 use Rattle.xa_server.specs.declared.lines.Conn.{Conn}
 use Rattle.xa_server.specs.declared.replies.Reply.{Reply}
-use Rattle.xa_server.specs.Front.{FrontState, ServerState}
-use Rattle.xa_server.specs.Fronting.{AnswersLine, CountsAnswer, IfAnswerSent, TakesNext}
-use Rattle.xa_server.specs.Lines.{Lines, line_at, with_line}
-use Rattle.xa_server.specs.Served.{CountsReply}
-use Rattle.xa_server.specs.World.{World}
+use Rattle.xa_server.specs.declared.replies.Reply.TheVariants.{Sent}
+use Rattle.xa_server.specs.Front.{AnswersLine, FrontState, reply_in_result}
+use Rattle.xa_server.specs.Lines.{IsOpen, line_at, with_line}
+use Rattle.xa_server.specs.World.{ServerState, World}
+use Rattle.xa_server.proofs.LineLemmas.{line_kept}
 
 -- where a message stands at the front, it is what a session gives
 pub only_message : (old new : Stream) (given : Next) → IsLook old look.Message → IsNext old given new
@@ -29,59 +27,98 @@ pub only_message : (old new : Stream) (given : Next) → IsLook old look.Message
 only_message old new given (on, (message, rest, begins)) is =
     (message, (answers_messages old message (record { held = rest; ended = message.close }) given new (on, begins, refl) is).0)
 
--- the reply to a fault is what a connection is answered
-pub fault_answered : (fault : SessionFault) (moment : ℤ) (server : ServerState) (stream after : Stream) (result : Result (Option Answer) FrontError)
-    → stream.ended ≡ false → IsFaultGiven fault stream after result → AnswersNext moment server server stream after result
-fault_answered fault moment server stream after (Ok (Some answer)) on (is, reply, last) = (next.Fault fault, is, (reply, last, refl))
-fault_answered fault moment server stream after (Ok None) on none = absurd none
-fault_answered fault moment server stream after (Err error) on (memory, same) = (memory, on, same, refl)
+-- ---- what a connection is answered
 
--- and of its bytes
-pub fault_taken : (fault : SessionFault) (stream after : Stream) (result : Result (Option Answer) FrontError)
-    → stream.ended ≡ false → IsFaultGiven fault stream after result → TakesNext stream after result
-fault_taken fault stream after (Ok (Some answer)) on (is, reply, last) = (next.Fault fault, is, (reply, last))
-fault_taken fault stream after (Ok None) on none = absurd none
-fault_taken fault stream after (Err error) on (memory, same) = (memory, on, same)
+pub first_answered : {E : Type 0} (sound : Type 0) (moment : ℤ) (old new : ServerState) (s t looked : Stream) (last : Bool) (reply : Reply) (answered : Answered)
+    → looked ≡ s → ServesFirst sound moment old looked reply new t → last ≡ t.ended → answered ≡ answered_by last reply
+    → AnswersNext {E = E} sound moment old s (Ok answered) new t
+first_answered sound moment old new s t looked last reply answered same (message, first, serves) ended by =
+    let is : answered ≡ answered_by t.ended reply = by ∙ ap (λ (b : Bool). answered_by b reply) ended in (
+      Some (next.Message message),
+      (
+        subst (λ (u : Stream). IsFirst u message t) same first,
+        (reply, is),
+        λ holds. subst (λ (r : Option Reply). ServesNext moment old (Some (next.Message message)) r new) (sym (ap reply_of is ∙ by_last t.ended)) (serves holds),
+      ),
+    )
+  where
+    by_last : (b : Bool) → reply_of (answered_by b reply) ≡ Some reply
+    by_last true = refl
+    by_last false = refl
 
--- and of the keeper, which isn't asked
-fault_stays : (fault : SessionFault) (claim : Type 0) (stream after : Stream) (result : Result (Option Answer) FrontError)
-    → IsFaultGiven fault stream after result → claim → IfAnswerSent result claim
-fault_stays fault claim stream after (Ok (Some answer)) (is, reply, last) holds = subst (λ (r : Reply). IfSent r claim) (sym reply) holds
-fault_stays fault claim stream after (Ok None) none holds = absurd none
-fault_stays fault claim stream after (Err error) given holds = holds
+pub fault_answered : {E : Type 0} (fault : SessionFault) (sound : Type 0) (moment : ℤ) (server : ServerState) (s t looked : Stream) (reply : Reply) → looked ≡ s
+    → EndsBy fault looked reply t → AnswersNext {E = E} sound moment server s (Ok (answered.Last reply)) server t
+fault_answered fault sound moment server s t looked reply same (is, said) =
+    (Some (next.Fault fault), (subst (λ (u : Stream). IsNext u (next.Fault fault) t) same is, ap (λ (r : Reply). answered.Last r) said, λ holds. refl))
 
-fault_counts : (fault : SessionFault) (faults : ℕ) (stream after : Stream) (result : Result (Option Answer) FrontError)
-    → IsFaultGiven fault stream after result → CountsAnswer faults faults result
-fault_counts fault faults stream after (Ok (Some answer)) (is, reply, last) = subst (λ (r : Reply). CountsReply faults faults r) (sym reply) refl
-fault_counts fault faults stream after (Ok None) none = absurd none
-fault_counts fault faults stream after (Err error) given = refl
+pub none_answered : {E : Type 0} (sound : Type 0) (moment : ℤ) (server : ServerState) (s t : Stream) (error : E) → s.ended ≡ false → t ≡ s
+    → AnswersNext sound moment server s (Err error) server t
+none_answered sound moment server s t error on same = (None, (on, refl, same))
 
-pub fault_handed : (fault : SessionFault) (custody : Custody) (before : World) (moment : ℤ) (line : Option Stream) (stream after : Stream)
-    (result : Result (Option Answer) FrontError) → IsFaultGiven fault stream after result → IsHandedOn custody custody before moment line result
-fault_handed fault custody before moment line stream after result given = record {
+pub waits_answered : {E : Type 0} (sound : Type 0) (moment : ℤ) (server : ServerState) (s t : Stream) → IsLook s look.More → t ≡ s
+    → AnswersNext {E = E} sound moment server s (Ok answered.Waits) server t
+waits_answered sound moment server s t (on, more) same = (Some next.More, ((on, more, same), refl, λ holds. refl))
+
+pub ended_answered : {E : Type 0} (sound : Type 0) (moment : ℤ) (server : ServerState) (s t : Stream) → IsLook s look.Ended → t ≡ s
+    → AnswersNext {E = E} sound moment server s (Ok answered.Ended) server t
+ended_answered sound moment server s t ended same = (Some next.Ended, ((ended, same), refl, λ holds. refl))
+
+-- ---- what the keeper is told
+
+pub first_handed : (old new : Custody) (before : World) (moment : ℤ) (line : Option Stream) (last : Bool) (reply : Reply) (answered : Answered)
+    → answered ≡ answered_by last reply → IsHandedOn old new before moment line (Some reply)
+    → IsHandedOn old new before moment line (reply_of answered)
+first_handed old new before moment line last reply answered by handed =
+    subst (λ (r : Option Reply). IsHandedOn old new before moment line r) (sym (ap reply_of by ∙ by_last last)) handed
+  where
+    by_last : (b : Bool) → reply_of (answered_by b reply) ≡ Some reply
+    by_last true = refl
+    by_last false = refl
+
+-- one that isn't asked
+pub none_handed : (custody : Custody) (before : World) (moment : ℤ) (line : Option Stream) → IsHandedOn custody custody before moment line None
+none_handed custody before moment line = record {
   sound = λ sound. sound;
   clean = λ clean. clean;
-  stays = λ clean sound. fault_stays fault custody.sound stream after result given sound;
+  stays = λ clean sound. sound;
   crash = λ clean sound left may. inl may;
-  counts = fault_counts fault custody.faults stream after result given;
+  counts = refl;
 }
 
--- a line that was left as it was leaves all
-put_same : (conn : Conn) (old new : Lines) (line after : Option Stream) → line ≡ line_at conn old → new ≡ with_line conn after old → after ≡ line → new ≡ old
-put_same conn old new line after at put same =
-    put ∙ ap (λ l. with_line conn l old) (same ∙ at) ∙ set-get_or old conn.number None
+pub fault_handed : (fault : SessionFault) (custody : Custody) (before : World) (moment : ℤ) (line : Option Stream) (s t : Stream) (reply : Reply)
+    → EndsBy fault s reply t → IsHandedOn custody custody before moment line (Some reply)
+fault_handed fault custody before moment line s t reply (is, said) =
+    subst (λ (r : Reply). IsHandedOn custody custody before moment line (Some r)) (sym said) (record {
+      sound = λ sound. sound;
+      clean = λ clean. clean;
+      stays = λ clean sound. sound;
+      crash = λ clean sound left may. inl may;
+      counts = refl;
+    })
 
--- what was answered to a line is what its connection is answered
-pub answered : (conn : Conn) (moment : ℤ) (old new : FrontState) (line after : Option Stream) (result : Result (Option Answer) FrontError)
-    → line ≡ line_at conn old.lines → new.lines ≡ with_line conn after old.lines → AnswersIfOpen moment old.server new.server line after result
-    → AnswersLine conn moment old new result
-answered conn moment old new line after (Ok answer) at put (stream, rest, there, (given, is, gives), left) =
-    (Some given, (stream, rest, sym at ∙ there, is, gives, put ∙ ap (λ l. with_line conn l old.lines) left))
-answered conn moment old new line after (Err Memory) at put (stream, there, on, same, still) =
-    let lines : new.lines ≡ old.lines = put_same conn old.lines new.lines line after at put same in
-    (None, (stream, sym at ∙ there, on, λ i. record { server = still i; lines = lines i }))
-answered conn moment old new line after (Err NoSuchConnection) at put (there, same, still) =
-    let lines : new.lines ≡ old.lines = put_same conn old.lines new.lines line after at put same in
-    (None, (sym at ∙ there, λ i. record { server = still i; lines = lines i }))
-answered conn moment old new line after (Err TooManyConnections) at put none = absurd none
-answered conn moment old new line after (Err Full) at put none = absurd none
+-- ---- what a connection of a front is answered
+
+reply_same : (answered : Answered) → reply_in_result (Ok (answer_of answered)) ≡ reply_of answered
+reply_same (answered.Reply reply) = refl
+reply_same (answered.Last reply) = refl
+reply_same answered.Waits = refl
+reply_same answered.Ended = refl
+
+pub answered_at : {E : Type 0} (sound : Type 0) (conn : Conn) (moment : ℤ) (old new : FrontState) (s t : Stream) (answered : Answered) → IsOpen conn old.lines s
+    → new.lines ≡ with_line conn (Some t) old.lines → AnswersNext {E = E} sound moment old.server s (Ok answered) new.server t
+    → AnswersLine sound conn moment old (Ok (answer_of answered)) new
+answered_at sound conn moment old new s t answered opens put (Some given, (is, gives, serves)) =
+    (Some given, (s, t, answered, opens, is, gives, refl, put), λ holds. subst (λ (r : Option Reply). ServesNext moment old.server (Some given) r new.server) (sym (reply_same answered)) (serves holds))
+answered_at sound conn moment old new s t answered opens put (None, none) = absurd none
+
+pub unanswered_at : {E : Type 0} (error : E) (sound : Type 0) (conn : Conn) (moment : ℤ) (old new : FrontState) (s t : Stream) → IsOpen conn old.lines s
+    → new.lines ≡ with_line conn (Some t) old.lines → AnswersNext sound moment old.server s (Err error) new.server t
+    → AnswersLine sound conn moment old (Err Memory) new
+unanswered_at error sound conn moment old new s t opens put (None, (on, still, same)) =
+    (None, (s, opens, on, line_kept conn old.lines new.lines s t opens put same), λ holds. still)
+unanswered_at error sound conn moment old new s t opens put (Some given, none) = absurd none
+
+pub line_handed : (old new : Custody) (before : World) (moment : ℤ) (line : Option Stream) (answered : Answered)
+    → IsHandedOn old new before moment line (reply_of answered) → IsHandedOn old new before moment line (reply_in_result (Ok (answer_of answered)))
+line_handed old new before moment line answered handed =
+    subst (λ (r : Option Reply). IsHandedOn old new before moment line r) (sym (reply_same answered)) handed

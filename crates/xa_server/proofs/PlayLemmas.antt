@@ -1,171 +1,132 @@
--- What is played is one run of the server.
-use Rattle.std.proofs.Common.{◌≡◌, ℕ, List, [], ◌∷◌, ◌++◌, Option, Some, None, Ok, Err, refl, ap, subst}
+-- What is played, one event after another, is one run of the server.
+use denote.Ref.{Bor}
+use Rattle.std.proofs.Common.{◌≡◌, ℕ, ℤ, List, [], ◌∷◌, ◌++◌, Option, Some, None, Result, Ok, Err, refl, sym, ap, subst, ◌∙◌}
+use Rattle.std.proofs.lemmas.List.{append_assoc}
 use Rattle.xa_http.specs.declared.session.Next.{Next}
 use Rattle.xa_http.specs.declared.session.Next.TheVariants as next
 use Rattle.xa_server.specs.Alone as messages
+use Rattle.xa_server.specs.Connection.{CountsReplyIf, IfReplySent, IsOneRun, ServesNext}
+use Rattle.xa_server.specs.Crash.{IfSent}
+use Rattle.xa_server.specs.declared.event.Answer.{Answer}
 use Rattle.xa_server.specs.declared.event.Event.{Event}
 use Rattle.xa_server.specs.declared.event.Event.TheVariants as event
 use Rattle.xa_server.specs.declared.event.Outcome.{Outcome}
 use Rattle.xa_server.specs.declared.event.Outcome.TheVariants as outcome
-use Rattle.xa_server.specs.declared.front_error.FrontError.TheVariants.{Memory, NoSuchConnection, TooManyConnections, Full}
+use Rattle.xa_server.specs.declared.front_error.FrontError.{FrontError}
+use Rattle.xa_server.specs.declared.lines.Conn.{Conn}
 use Rattle.xa_server.specs.declared.replies.Reply.{Reply}
 use Rattle.xa_server.specs.declared.replies.Reply.TheVariants.{Sent, Refused}
-use Rattle.xa_server.specs.Decisions.{DecisionsModel}
-use Rattle.xa_server.specs.Front.{Does, FrontState, IsPlayed, Plays, ServerState, message_cut, messages_cut, replies_given, reply_given}
-use Rattle.xa_server.specs.Crash.{IfSent}
-use Rattle.xa_server.specs.Fronting.{CountsOutcome, CountsOutcomes, DoesEvent, DoesLines, IfAllSent, IfOutcomeSent, PlaysLines}
-use Rattle.xa_server.specs.Lines.{Lines}
-use Rattle.xa_server.specs.Served.{IsRun}
-use Rattle.xa_server.specs.Work.{IsWorkOfRun}
-use Rattle.xa_server.specs.World.{World}
-use Rattle.xa_server.proofs.IsolationLemmas.{headline, isolated}
+use Rattle.xa_server.specs.Front.{AnswersAt, AnswersLine, FrontState, IsPlayed, Plays, message_cut, messages_cut, replies_given, reply_given, reply_in_result}
+use Rattle.xa_server.specs.FrontLaws.{StepsArePlayed}
+use Rattle.xa_server.specs.Fronting.{CountsOutcomes, IfAllSent, reply_in_outcome}
+use Rattle.xa_server.specs.Lines.{IsClosed, IsHeld, IsOpened, Lines}
+use Rattle.xa_server.proofs.ConnectionLemmas.{no_run, runs_on, serves_run}
+use Rattle.xa_server.proofs.FrontLawLemmas.{never_none}
 
--- the work of a run, of a server that is so and then so
-abbrev Runs : ServerState → List messages.Event → List Reply → ServerState → Type 0
-Runs old events replies new = IsWorkOfRun old.world old.decisions events replies new.world new.decisions
+-- ---- one event
 
--- what changes nothing of the server goes before a run
-unmoved : (old mid new : ServerState) (events : List messages.Event) (replies : List Reply) → mid ≡ old → Runs mid events replies new
-    → Runs old events replies new
-unmoved old mid new events replies same rest = subst (λ (s : ServerState). Runs s events replies new) same rest
+pub begun : (sound : Type 0) (old new : FrontState) (result : Result Conn FrontError) → IsOpened old.lines result new.lines → new.server ≡ old.server
+    → IsPlayed sound old new (event.Begin ∷ []) (outcome.Begun result ∷ [])
+begun sound old new result is same = record { nexts = None ∷ []; plays = (new.lines, (refl, is), refl); run = λ holds. no_run old.server new.server same }
 
--- an event goes before a run
-goes_before : (e : Event) (old mid new : FrontState) (given : Option Next) (o : Outcome) (events : List messages.Event) (replies : List Reply)
-    → Does e old given o mid → Runs mid.server events replies new.server
-    → Runs old.server (message_cut e given ++ events) (reply_given given o ++ replies) new.server
-goes_before event.Begin old mid new None (outcome.Begun result) events replies does rest = unmoved old.server mid.server new.server events replies does.1 rest
-goes_before (event.Piece conn piece) old mid new None (outcome.Held result) events replies does rest = unmoved old.server mid.server new.server events replies does.1 rest
-goes_before (event.Finish conn) old mid new None (outcome.Finished result) events replies does rest = unmoved old.server mid.server new.server events replies does.1 rest
-goes_before (event.Answer conn moment) old mid new (Some (next.Message message)) (outcome.Answered (Ok (Some answer))) events replies does rest =
-    (mid.server.world, mid.server.decisions, does.4.0, does.4.1, rest)
-goes_before (event.Answer conn moment) old mid new (Some (next.Fault fault)) (outcome.Answered (Ok (Some answer))) events replies does rest =
-    unmoved old.server mid.server new.server events replies does.4.2 rest
-goes_before (event.Answer conn moment) old mid new (Some next.More) (outcome.Answered (Ok None)) events replies does rest =
-    unmoved old.server mid.server new.server events replies does.4 rest
-goes_before (event.Answer conn moment) old mid new (Some next.Ended) (outcome.Answered (Ok None)) events replies does rest =
-    unmoved old.server mid.server new.server events replies does.4 rest
-goes_before event.Begin old mid new (Some taken) (outcome.Begun result) events replies none rest = absurd none
-goes_before event.Begin old mid new None (outcome.Held result) events replies none rest = absurd none
-goes_before event.Begin old mid new (Some taken) (outcome.Held result) events replies none rest = absurd none
-goes_before event.Begin old mid new None (outcome.Answered result) events replies none rest = absurd none
-goes_before event.Begin old mid new (Some taken) (outcome.Answered result) events replies none rest = absurd none
-goes_before event.Begin old mid new None (outcome.Finished result) events replies none rest = absurd none
-goes_before event.Begin old mid new (Some taken) (outcome.Finished result) events replies none rest = absurd none
-goes_before (event.Piece conn piece) old mid new None (outcome.Begun result) events replies none rest = absurd none
-goes_before (event.Piece conn piece) old mid new (Some taken) (outcome.Begun result) events replies none rest = absurd none
-goes_before (event.Piece conn piece) old mid new (Some taken) (outcome.Held result) events replies none rest = absurd none
-goes_before (event.Piece conn piece) old mid new None (outcome.Answered result) events replies none rest = absurd none
-goes_before (event.Piece conn piece) old mid new (Some taken) (outcome.Answered result) events replies none rest = absurd none
-goes_before (event.Piece conn piece) old mid new None (outcome.Finished result) events replies none rest = absurd none
-goes_before (event.Piece conn piece) old mid new (Some taken) (outcome.Finished result) events replies none rest = absurd none
-goes_before (event.Finish conn) old mid new None (outcome.Begun result) events replies none rest = absurd none
-goes_before (event.Finish conn) old mid new (Some taken) (outcome.Begun result) events replies none rest = absurd none
-goes_before (event.Finish conn) old mid new None (outcome.Held result) events replies none rest = absurd none
-goes_before (event.Finish conn) old mid new (Some taken) (outcome.Held result) events replies none rest = absurd none
-goes_before (event.Finish conn) old mid new None (outcome.Answered result) events replies none rest = absurd none
-goes_before (event.Finish conn) old mid new (Some taken) (outcome.Answered result) events replies none rest = absurd none
-goes_before (event.Finish conn) old mid new (Some taken) (outcome.Finished result) events replies none rest = absurd none
-goes_before (event.Answer conn moment) old mid new None (outcome.Begun result) events replies none rest = absurd none
-goes_before (event.Answer conn moment) old mid new (Some taken) (outcome.Begun result) events replies none rest = absurd none
-goes_before (event.Answer conn moment) old mid new None (outcome.Held result) events replies none rest = absurd none
-goes_before (event.Answer conn moment) old mid new (Some taken) (outcome.Held result) events replies none rest = absurd none
-goes_before (event.Answer conn moment) old mid new None (outcome.Finished result) events replies none rest = absurd none
-goes_before (event.Answer conn moment) old mid new (Some taken) (outcome.Finished result) events replies none rest = absurd none
-goes_before (event.Answer conn moment) old mid new (Some (next.Message message)) (outcome.Answered (Ok None)) events replies does rest = absurd does.4
-goes_before (event.Answer conn moment) old mid new (Some (next.Fault fault)) (outcome.Answered (Ok None)) events replies does rest = absurd does.4
-goes_before (event.Answer conn moment) old mid new (Some next.More) (outcome.Answered (Ok (Some answer))) events replies does rest = absurd does.4
-goes_before (event.Answer conn moment) old mid new (Some next.Ended) (outcome.Answered (Ok (Some answer))) events replies does rest = absurd does.4
-goes_before (event.Answer conn moment) old mid new None (outcome.Answered (Ok answer)) events replies none rest = absurd none
-goes_before (event.Answer conn moment) old mid new None (outcome.Answered (Err Memory)) events replies does rest = unmoved old.server mid.server new.server events replies (ap (λ (s : FrontState). s.server) does.3) rest
-goes_before (event.Answer conn moment) old mid new (Some taken) (outcome.Answered (Err Memory)) events replies none rest = absurd none
-goes_before (event.Answer conn moment) old mid new None (outcome.Answered (Err NoSuchConnection)) events replies does rest = unmoved old.server mid.server new.server events replies (ap (λ (s : FrontState). s.server) does.1) rest
-goes_before (event.Answer conn moment) old mid new (Some taken) (outcome.Answered (Err NoSuchConnection)) events replies none rest = absurd none
-goes_before (event.Answer conn moment) old mid new None (outcome.Answered (Err TooManyConnections)) events replies none rest = absurd none
-goes_before (event.Answer conn moment) old mid new (Some taken) (outcome.Answered (Err TooManyConnections)) events replies none rest = absurd none
-goes_before (event.Answer conn moment) old mid new None (outcome.Answered (Err Full)) events replies none rest = absurd none
-goes_before (event.Answer conn moment) old mid new (Some taken) (outcome.Answered (Err Full)) events replies none rest = absurd none
+pub held : (sound : Type 0) (conn : Conn) (piece : Bor (List ℕ)) (old new : FrontState) (result : Result (Unit {0}) FrontError)
+    → IsHeld conn piece.now old.lines result new.lines → new.server ≡ old.server
+    → IsPlayed sound old new (event.Piece conn piece ∷ []) (outcome.Held result ∷ [])
+held sound conn piece old new result is same = record { nexts = None ∷ []; plays = (new.lines, (refl, is), refl); run = λ holds. no_run old.server new.server same }
 
--- what is played is a run
-pub run_of : (events : List Event) (outcomes : List Outcome) (nexts : List (Option Next)) (old new : FrontState) → Plays events outcomes nexts old new
-    → Runs old.server (messages_cut events nexts) (replies_given nexts outcomes) new.server
-run_of [] [] [] old new same = (ap (λ (s : FrontState). s.server.world) same, ap (λ (s : FrontState). s.server.decisions) same)
-run_of (e ∷ events) (o ∷ outcomes) (given ∷ nexts) old new (mid, does, rest) =
-    goes_before e old mid new given o (messages_cut events nexts) (replies_given nexts outcomes) does (run_of events outcomes nexts mid new rest)
-run_of [] [] (given ∷ nexts) old new none = absurd none
-run_of [] (o ∷ outcomes) nexts old new none = absurd none
-run_of (e ∷ events) [] nexts old new none = absurd none
-run_of (e ∷ events) (o ∷ outcomes) [] old new none = absurd none
+pub finished : (sound : Type 0) (conn : Conn) (old new : FrontState) (result : Result (Unit {0}) FrontError) → IsClosed conn old.lines result new.lines
+    → new.server ≡ old.server → IsPlayed sound old new (event.Finish conn ∷ []) (outcome.Finished result ∷ [])
+finished sound conn old new result is same = record { nexts = None ∷ []; plays = (new.lines, (refl, is), refl); run = λ holds. no_run old.server new.server same }
 
--- a run, without its work
-without_work : (old new : World) (held left : DecisionsModel) (events : List messages.Event) (replies : List Reply)
-    → IsWorkOfRun old held events replies new left → IsRun old events replies new
-without_work old new held left [] [] run = run.0
-without_work old new held left (e ∷ events) (r ∷ replies) run = (run.0, run.2, without_work run.0 new run.1 left events replies run.4)
-without_work old new held left [] (r ∷ replies) run = absurd run
-without_work old new held left (e ∷ events) [] run = absurd run
+-- what a connection is answered is one message of a run, or none
+run_of : (conn : Conn) (moment : ℤ) (old new : FrontState) (given : Option Next) (result : Result (Option Answer) FrontError)
+    → AnswersAt conn old.lines given result new.lines → ServesNext moment old.server given (reply_in_result result) new.server
+    → IsOneRun old.server new.server (message_cut (event.Answer conn moment) given ++ []) (reply_given given (outcome.Answered result) ++ [])
+run_of conn moment old new None result is serves = no_run old.server new.server serves
+run_of conn moment old new (Some next.More) result is serves = no_run old.server new.server serves
+run_of conn moment old new (Some next.Ended) result is serves = no_run old.server new.server serves
+run_of conn moment old new (Some (next.Fault fault)) result is serves = no_run old.server new.server serves
+run_of conn moment old new (Some (next.Message message)) (Ok (Some answer)) is serves = serves_run moment message answer.reply old.server new.server serves
+run_of conn moment old new (Some (next.Message message)) (Ok None) is serves = absurd (never_none is.1.ended is.5.0 is.2 is.5.1 is.6)
+run_of conn moment old new (Some (next.Message message)) (Err error) none serves = absurd none
 
--- so the headline holds of what is played
-pub played : (old new : FrontState) (events : List Event) (outcomes : List Outcome)
-    → (nexts : List (Option Next)) × Plays events outcomes nexts old new → IsPlayed old new events outcomes
-played old new events outcomes (nexts, plays) =
-    let work = run_of events outcomes nexts old new plays in
-    let run = without_work old.server.world new.server.world old.server.decisions new.server.decisions (messages_cut events nexts) (replies_given nexts outcomes) work in
-    record {
-      nexts = nexts;
-      plays = plays;
-      run = run;
-      work = work;
-      headline = headline old.server.world new.server.world (messages_cut events nexts) (replies_given nexts outcomes) run;
-      beside_refusals = λ domain. isolated domain old.server.world new.server.world (messages_cut events nexts) (replies_given nexts outcomes) run;
-    }
+pub answered : (sound : Type 0) (conn : Conn) (moment : ℤ) (old new : FrontState) (result : Result (Option Answer) FrontError)
+    → AnswersLine sound conn moment old result new → IsPlayed sound old new (event.Answer conn moment ∷ []) (outcome.Answered result ∷ [])
+answered sound conn moment old new result (given, is, serves) =
+    record { nexts = given ∷ []; plays = (new.lines, is, refl); run = λ holds. run_of conn moment old new given result is (serves holds) }
 
--- ---- one event more
+-- ---- events after others
 
-plays_more : (events : List Event) (outcomes : List Outcome) (nexts : List (Option Next)) (old mid new : FrontState) (e : Event) (o : Outcome) (given : Option Next)
-    → Plays events outcomes nexts old mid → Does e mid given o new → Plays (events ++ e ∷ []) (outcomes ++ o ∷ []) (nexts ++ given ∷ []) old new
-plays_more [] [] [] old mid new e o given same does = (new, subst (λ (s : FrontState). Does e s given o new) same does, refl)
-plays_more (f ∷ events) (p ∷ outcomes) (taken ∷ nexts) old mid new e o given (first, did, rest) does =
-    (first, did, plays_more events outcomes nexts first mid new e o given rest does)
-plays_more [] [] (taken ∷ nexts) old mid new e o given none does = absurd none
-plays_more [] (p ∷ outcomes) nexts old mid new e o given none does = absurd none
-plays_more (f ∷ events) [] nexts old mid new e o given none does = absurd none
-plays_more (f ∷ events) (p ∷ outcomes) [] old mid new e o given none does = absurd none
+plays_on : (events others : List Event) (outcomes rest : List Outcome) (nexts more : List (Option Next)) (old mid new : Lines)
+    → Plays events outcomes nexts old mid → Plays others rest more mid new → Plays (events ++ others) (outcomes ++ rest) (nexts ++ more) old new
+plays_on [] others [] rest [] more old mid new same plays = subst (λ (l : Lines). Plays others rest more l new) same plays
+plays_on (e ∷ events) others (o ∷ outcomes) rest (given ∷ nexts) more old mid new (first, did, rest_of) plays =
+    (first, did, plays_on events others outcomes rest nexts more first mid new rest_of plays)
+plays_on [] others [] rest (given ∷ nexts) more old mid new none plays = absurd none
+plays_on [] others (o ∷ outcomes) rest nexts more old mid new none plays = absurd none
+plays_on (e ∷ events) others [] rest nexts more old mid new none plays = absurd none
+plays_on (e ∷ events) others (o ∷ outcomes) rest [] more old mid new none plays = absurd none
 
-pub event_more : (events : List Event) (outcomes : List Outcome) (old mid new : FrontState) (e : Event) (o : Outcome)
-    → ((nexts : List (Option Next)) × Plays events outcomes nexts old mid) → DoesEvent e mid o new
-    → (nexts : List (Option Next)) × Plays (events ++ e ∷ []) (outcomes ++ o ∷ []) nexts old new
-event_more events outcomes old mid new e o (nexts, plays) (given, does) =
-    (nexts ++ given ∷ [], plays_more events outcomes nexts old mid new e o given plays does)
+cut_on : (events others : List Event) (outcomes : List Outcome) (nexts more : List (Option Next)) (old mid : Lines) → Plays events outcomes nexts old mid
+    → messages_cut (events ++ others) (nexts ++ more) ≡ messages_cut events nexts ++ messages_cut others more
+cut_on [] others [] [] more old mid plays = refl
+cut_on (e ∷ events) others (o ∷ outcomes) (given ∷ nexts) more old mid (first, did, rest_of) =
+    ap (λ (ms : List messages.Event). message_cut e given ++ ms) (cut_on events others outcomes nexts more first mid rest_of)
+    ∙ sym (append_assoc (message_cut e given) (messages_cut events nexts) (messages_cut others more))
+cut_on [] others [] (given ∷ nexts) more old mid none = absurd none
+cut_on [] others (o ∷ outcomes) nexts more old mid none = absurd none
+cut_on (e ∷ events) others [] nexts more old mid none = absurd none
+cut_on (e ∷ events) others (o ∷ outcomes) [] more old mid none = absurd none
 
--- so with the connections alone
-pub lines_more : (events : List Event) (outcomes : List Outcome) (old mid new : Lines) (e : Event) (o : Outcome) → PlaysLines events outcomes old mid
-    → DoesLines e mid o new → PlaysLines (events ++ e ∷ []) (outcomes ++ o ∷ []) old new
-lines_more [] [] old mid new e o same does = (new, subst (λ (ls : Lines). DoesLines e ls o new) same does, refl)
-lines_more (f ∷ events) (p ∷ outcomes) old mid new e o (first, did, rest) does = (first, did, lines_more events outcomes first mid new e o rest does)
-lines_more [] (p ∷ outcomes) old mid new e o none does = absurd none
-lines_more (f ∷ events) [] old mid new e o none does = absurd none
+given_on : (events : List Event) (outcomes rest : List Outcome) (nexts more : List (Option Next)) (old mid : Lines) → Plays events outcomes nexts old mid
+    → replies_given (nexts ++ more) (outcomes ++ rest) ≡ replies_given nexts outcomes ++ replies_given more rest
+given_on [] [] rest [] more old mid plays = refl
+given_on (e ∷ events) (o ∷ outcomes) rest (given ∷ nexts) more old mid (first, did, rest_of) =
+    ap (λ (rs : List Reply). reply_given given o ++ rs) (given_on events outcomes rest nexts more first mid rest_of)
+    ∙ sym (append_assoc (reply_given given o) (replies_given nexts outcomes) (replies_given more rest))
+given_on [] [] rest (given ∷ nexts) more old mid none = absurd none
+given_on [] (o ∷ outcomes) rest nexts more old mid none = absurd none
+given_on (e ∷ events) [] rest nexts more old mid none = absurd none
+given_on (e ∷ events) (o ∷ outcomes) rest [] more old mid none = absurd none
+
+pub none_played : (sound : Type 0) (old : FrontState) → IsPlayed sound old old [] []
+none_played sound old = record { nexts = []; plays = refl; run = λ holds. no_run old.server old.server refl }
+
+pub played_on : (sound before : Type 0) (old mid new : FrontState) (events others : List Event) (outcomes rest : List Outcome) → (sound → before)
+    → IsPlayed before old mid events outcomes → IsPlayed sound mid new others rest → IsPlayed sound old new (events ++ others) (outcomes ++ rest)
+played_on sound before old mid new events others outcomes rest was first later = record {
+  nexts = first.nexts ++ later.nexts;
+  plays = plays_on events others outcomes rest first.nexts later.nexts old.lines mid.lines new.lines first.plays later.plays;
+  run = λ holds.
+      subst (λ (ms : List messages.Event). IsOneRun old.server new.server ms (replies_given (first.nexts ++ later.nexts) (outcomes ++ rest)))
+      (sym (cut_on events others outcomes first.nexts later.nexts old.lines mid.lines first.plays))
+      (subst (λ (rs : List Reply). IsOneRun old.server new.server (messages_cut events first.nexts ++ messages_cut others later.nexts) rs)
+      (sym (given_on events outcomes rest first.nexts later.nexts old.lines mid.lines first.plays))
+      (runs_on old.server mid.server new.server (messages_cut events first.nexts) (messages_cut others later.nexts) (replies_given first.nexts outcomes)
+      (replies_given later.nexts rest) (first.run (was holds)) (later.run holds)));
+}
+
+pub steps_are : (sound : Type 0) → StepsArePlayed sound
+steps_are sound = (
+  none_played sound,
+  λ old mid new events others outcomes rest first later. played_on sound sound old mid new events others outcomes rest (λ holds. holds) first later,
+)
 
 -- ---- the keeper, over one event more
 
-sent_claim : (o : Outcome) (claim other : Type 0) → (claim → other) → IfOutcomeSent o claim → IfOutcomeSent o other
-sent_claim (outcome.Begun result) claim other so if = so if
-sent_claim (outcome.Held result) claim other so if = so if
-sent_claim (outcome.Finished result) claim other so if = so if
-sent_claim (outcome.Answered (Err error)) claim other so if = so if
-sent_claim (outcome.Answered (Ok None)) claim other so if = so if
-sent_claim (outcome.Answered (Ok (Some answer))) claim other so if = by_reply answer.reply if where
-  by_reply : (reply : Reply) → IfSent reply claim → IfSent reply other
-  by_reply (Sent bytes) given = so given
-  by_reply (Refused failure) given = tt
+sent_claim : (reply : Option Reply) (claim other : Type 0) → (claim → other) → IfReplySent reply claim → IfReplySent reply other
+sent_claim None claim other so if = so if
+sent_claim (Some (Sent bytes)) claim other so if = so if
+sent_claim (Some (Refused failure)) claim other so if = tt
 
 -- what holds unless a message was refused holds so over the next event
-pub sent_more : (outcomes : List Outcome) (o : Outcome) (before after : Type 0) → IfAllSent outcomes before → (before → IfOutcomeSent o after)
+pub sent_more : (outcomes : List Outcome) (o : Outcome) (before after : Type 0) → IfAllSent outcomes before → (before → IfReplySent (reply_in_outcome o) after)
     → IfAllSent (outcomes ++ o ∷ []) after
 sent_more [] o before after if so = so if
 sent_more (p ∷ outcomes) o before after if so =
-    sent_claim p (IfAllSent outcomes before) (IfAllSent (outcomes ++ o ∷ []) after) (λ rest. sent_more outcomes o before after rest so) if
+    sent_claim (reply_in_outcome p) (IfAllSent outcomes before) (IfAllSent (outcomes ++ o ∷ []) after) (λ rest. sent_more outcomes o before after rest so) if
 
-pub counts_more : (outcomes : List Outcome) (o : Outcome) (old mid new : ℕ) → CountsOutcomes old mid outcomes → CountsOutcome mid new o
+pub counts_more : (outcomes : List Outcome) (o : Outcome) (old mid new : ℕ) → CountsOutcomes old mid outcomes → CountsReplyIf mid new (reply_in_outcome o)
     → CountsOutcomes old new (outcomes ++ o ∷ [])
-counts_more [] o old mid new same counts = (new, subst (λ n. CountsOutcome n new o) same counts, refl)
+counts_more [] o old mid new same counts = (new, subst (λ n. CountsReplyIf n new (reply_in_outcome o)) same counts, refl)
 counts_more (p ∷ outcomes) o old mid new (first, counted, rest) counts = (first, counted, counts_more outcomes o first mid new rest counts)

@@ -8,8 +8,8 @@ use Rattle.std.specs.declared.io.ErrorKind.TheVariants.{Interrupted}
 use Rattle.std.specs.Prelude.{is_ok}
 use Rattle.std.proofs.lemmas.List.{append-nil, append_assoc, take_all, length-take-le}
 use Rattle.std.proofs.lemmas.List.Elements.{All-nil, All-cons, All-append}
-use Rattle.xa_server.specs.handling.Sending.{IsFlushed, IsTaken, IsWritten, SendsNone, SendsPart, SendsSome}
-use Rattle.xa_server.specs.Transfers.{Grows, HasFailed, IsBrokenOff, IsGivenUp, IsWrittenWhole, IsWrittenOn, WriteEnd, bytes_taken, flushed, took, unflushed, unwritten, write_end}
+use Rattle.xa_server.specs.handling.Sending.{IsFlushed, SendsNone, SendsPart, SendsSome}
+use Rattle.xa_server.specs.Transfers.{Grows, HasFailed, IsBrokenOff, IsGivenUp, IsTaken, IsWritten, IsWrittenWhole, IsWrittenOn, WriteEnd, bytes_taken, flushed, took, unflushed, unwritten, write_end}
 use Rattle.xa_server.proofs.ConnectionLemmas.{appends_kept, appends_none, appends_trans}
 use Rattle.xa_server.proofs.TransferLemmas.{grows_none, grows_trans, taken_trans}
 

@@ -1,7 +1,7 @@
 -- What is known of calls, one after another.
 use Rattle.std.proofs.Common.{◌≡◌, ℕ, List, [], ◌∷◌, ◌++◌, refl, sym, ap, subst, ◌∙◌, Option, Some, None}
 use Rattle.std.specs.Io.KnownBytes.{Appends, Consumes}
-use Rattle.std.specs.Prelude.{Bool, ℤ}
+use Rattle.std.specs.Prelude.{ℤ}
 use Rattle.std.proofs.lemmas.List.{append-nil, append_assoc}
 use Rattle.xa_server.proofs.ConnectionLemmas.{appends_none, appends_trans, consumes_none, consumes_trans}
 use Rattle.xa_server.specs.Driven.{AreMade, AreSent, Calls, Known}
@@ -31,46 +31,28 @@ taken_trans (unflushed kind ∷ ws) vs = taken_trans ws vs
 
 -- ---- all together
 
--- a `Known` of its parts, in this order
-abbrev pub known : Option (List Bool) → Option (List ℕ) → Option (List ReadEnd) → Option (List ℕ) → Option (List WriteEnd) → Option (List (Option ℤ)) → Option (List Bool) → Known
-known memory left reads contents writes told said_open =
-    record {
-      memory = memory;
-      left = left;
-      reads = reads;
-      contents = contents;
-      writes = writes;
-      told = told;
-      said_open = said_open;
-    }
-
 abbrev pub no_calls : Calls
-no_calls = record { memory = []; reads = []; writes = []; told = []; said_open = [] }
+no_calls = record { reads = []; writes = []; told = [] }
 
 -- these, and then those
 abbrev pub both : Calls → Calls → Calls
 both first later = record {
-  memory = first.memory ++ later.memory;
   reads = first.reads ++ later.reads;
   writes = first.writes ++ later.writes;
   told = first.told ++ later.told;
-  said_open = first.said_open ++ later.said_open;
 }
 
 pub made_none : (x : Known) → AreMade no_calls x x
 made_none x = record {
-  memory = grows_none x.memory;
   left = consumes_none x.left;
   reads = grows_none x.reads;
   contents = appends_none x.contents;
   writes = grows_none x.writes;
   told = grows_none x.told;
-  said_open = grows_none x.said_open;
 }
 
 pub made_trans : (first later : Calls) (x y z : Known) → AreMade first x y → AreMade later y z → AreMade (both first later) x z
 made_trans first later x y z a b = record {
-  memory = grows_trans x.memory y.memory z.memory first.memory later.memory a.memory b.memory;
   left =
       subst (λ (bs : List ℕ). Consumes x.left z.left bs) (sym (read_trans first.reads later.reads))
       (consumes_trans x.left y.left z.left (bytes_read first.reads) (bytes_read later.reads) a.left b.left);
@@ -80,37 +62,6 @@ made_trans first later x y z a b = record {
       (appends_trans x.contents y.contents z.contents (bytes_taken first.writes) (bytes_taken later.writes) a.contents b.contents);
   writes = grows_trans x.writes y.writes z.writes first.writes later.writes a.writes b.writes;
   told = grows_trans x.told y.told z.told first.told later.told a.told b.told;
-  said_open = grows_trans x.said_open y.said_open z.said_open first.said_open later.said_open a.said_open b.said_open;
-}
-
--- nothing was read
-pub made_unread : (found : List Bool) (writes : List WriteEnd) (told : List (Option ℤ)) (said : List Bool) (f g : Option (List Bool)) (l : Option (List ℕ)) (r : Option (List ReadEnd))
-    (c d : Option (List ℕ)) (w v : Option (List WriteEnd)) (k j : Option (List (Option ℤ))) (o p : Option (List Bool))
-    → Grows f g found → Appends c d (bytes_taken writes) → Grows w v writes → Grows k j told → Grows o p said
-    → AreMade (record { memory = found; reads = []; writes = writes; told = told; said_open = said }) (known f l r c w k o) (known g l r d v j p)
-made_unread found writes told said f g l r c d w v k j o p finds appends grows tells says = record {
-  memory = finds;
-  left = consumes_none l;
-  reads = grows_none r;
-  contents = appends;
-  writes = grows;
-  told = tells;
-  said_open = says;
-}
-
--- something was, or that failed
-pub made_read : (found : List Bool) (read : ReadEnd) (f g : Option (List Bool)) (l m : Option (List ℕ)) (r q : Option (List ReadEnd))
-    (c : Option (List ℕ)) (w : Option (List WriteEnd)) (k : Option (List (Option ℤ))) (o : Option (List Bool))
-    → Grows f g found → Consumes l m (bytes_read (read ∷ [])) → Grows r q (read ∷ [])
-    → AreMade (record { memory = found; reads = read ∷ []; writes = []; told = []; said_open = [] }) (known f l r c w k o) (known g m q c w k o)
-made_read found read f g l m r q c w k o finds consumes reads = record {
-  memory = finds;
-  left = consumes;
-  reads = reads;
-  contents = appends_none c;
-  writes = grows_none w;
-  told = grows_none k;
-  said_open = grows_none o;
 }
 
 -- ---- replies

@@ -1,14 +1,185 @@
--- The whole messages at the front of a stream, and the replies to them.
-use Rattle.std.specs.Prelude.{ℕ, ℤ, List, [], ◌∷◌, ◌++◌, ◌⊎◌, map, Option, Some, None}
-use Rattle.xa_http.specs.declared.message.Message.{Message}
-use Rattle.xa_http.specs.declared.session.Next.TheVariants as next
+-- A connection: what it takes and what it is answered, once and several times.
+use Rattle.std.specs.Prelude.{◌≡◌, ◌+◌, ◌<◌, ◌≤◌, ◌⊎◌, ℕ, ℤ, Bool, true, false, List, [], ◌∷◌, ◌++◌, length, map}
+use Rattle.std.specs.Prelude.{Option, Some, None, Result, Ok, Err}
 use Rattle.xa_http.specs.declared.fault.SessionFault.{SessionFault}
-use Rattle.xa_http.specs.Messages.{Cuts, IsNext}
-use Rattle.xa_http.specs.Stream.{Stream}
-use Rattle.xa_server.specs.declared.replies.Reply.{Reply}
+use Rattle.xa_http.specs.declared.message.Message.{Message}
+use Rattle.xa_http.specs.declared.session.Next.{Next}
+use Rattle.xa_http.specs.declared.session.Next.TheVariants as next
+use Rattle.xa_http.specs.Messages.{Cuts, IsFirst, IsNext}
+use Rattle.xa_http.specs.Stream.{Stream, fed}
+use Rattle.xa_records.specs.Keeper.{Custody}
+use Rattle.xa_records.specs.Kept.{Kept}
 use Rattle.xa_server.specs.Alone.{Event, message_of, moment_of}
+use Rattle.xa_server.specs.Crash.{IfSent, IsStepMade}
+use Rattle.xa_server.specs.declared.connection.Answered.{Answered}
+use Rattle.xa_server.specs.declared.connection.Answered.TheVariants as answered
+use Rattle.xa_server.specs.declared.event.Answer.{Answer}
+use Rattle.xa_server.specs.declared.front_error.FrontError.{FrontError}
+use Rattle.xa_server.specs.declared.front_error.FrontError.TheVariants.{Memory, Full}
+use Rattle.xa_server.specs.declared.replies.Reply.{Reply}
+use Rattle.xa_server.specs.declared.replies.Reply.TheVariants.{Sent}
 use Rattle.xa_server.specs.ErrorCode.{code_of_session_fault, error_reply}
+use Rattle.xa_server.specs.Isolation.{IsIsolated, IsIsolatedBesideRefusals}
+use Rattle.xa_server.specs.Owner.{owner}
 use Rattle.xa_server.specs.Replies.{bytes_of}
+use Rattle.xa_server.specs.Served.{CountsReply, IsRun, IsServed}
+use Rattle.xa_server.specs.Work.{IsWork, IsWorkOfRun}
+use Rattle.xa_server.specs.World.{ServerModel, ServerState, World, world}
+
+-- ---- one piece
+
+-- a stream of which nothing has come
+abbrev pub empty_stream : Stream
+empty_stream = record { held = []; ended = false }
+
+-- a connection takes a piece: whole, if it then holds at most 1,048,576 bytes; or nothing of it
+abbrev pub TakesPiece : List ℕ → Stream → Result (Unit {0}) FrontError → Stream → Type 0
+TakesPiece piece old (Ok _) new = (length old.held + length piece ≤ 1_048_576) × (new ≡ fed old piece)
+TakesPiece piece old (Err Full) new = (1_048_576 < length old.held + length piece) × (new ≡ old)
+TakesPiece piece old (Err Memory) new = (length old.held + length piece ≤ 1_048_576) × (new ≡ old)
+TakesPiece piece old (Err _) new = ⊥
+
+-- ---- one answer
+
+-- the reply to a message, by whether the session has ended with it
+abbrev pub answered_by : Bool → Reply → Answered
+answered_by true reply = answered.Last reply
+answered_by false reply = answered.Reply reply
+
+-- a server has served a message: its world went over, and the work was done
+abbrev pub Serves : ℤ → Message → Reply → ServerState → ServerState → Type 0
+Serves moment message reply old new =
+    IsServed old.world new.world moment message reply
+    × IsWork old.world.kept moment message reply old.decisions new.decisions
+
+-- the reply of an answer, if there is one
+abbrev pub reply_of : Answered → Option Reply
+reply_of (answered.Reply reply) = Some reply
+reply_of (answered.Last reply) = Some reply
+reply_of answered.Waits = None
+reply_of answered.Ended = None
+
+-- what a connection is answered, by what its session gives next; `after` is the rest of its stream
+abbrev pub IsGiven : Next → Stream → Answered → Type 0
+IsGiven (next.Message message) after given = (reply : Reply) × (given ≡ answered_by after.ended reply)
+IsGiven (next.Fault fault) after given = given ≡ answered.Last (Sent (error_reply (code_of_session_fault fault)))
+IsGiven next.More after given = given ≡ answered.Waits
+IsGiven next.Ended after given = given ≡ answered.Ended
+
+-- what the server does by what a session gives: it serves a message, with that reply, and else does nothing
+abbrev pub ServesNext : ℤ → ServerState → Option Next → Option Reply → ServerState → Type 0
+ServesNext moment old (Some (next.Message message)) (Some reply) new = Serves moment message reply old new
+ServesNext moment old _ reply new = new ≡ old
+
+-- the next of a connection was answered; `given` is what its session gave. Or there was no memory, and nothing was
+-- done. What the server did is said if `sound` holds
+abbrev pub IsAnswered : {E : Type 0} → Type 0 → ℤ → ServerState → Stream → Option Next → Result Answered E
+    → ServerState → Stream → Type 0
+IsAnswered sound moment old stream (Some given) (Ok answered) new after =
+    IsNext stream given after × IsGiven given after answered
+    × (sound → ServesNext moment old (Some given) (reply_of answered) new)
+IsAnswered sound moment old stream None (Err _) new after = (stream.ended ≡ false) × (new ≡ old) × (after ≡ stream)
+IsAnswered sound moment old stream _ _ new after = ⊥
+
+-- `IsAnswered`, whatever its session gave
+abbrev pub AnswersNext : {E : Type 0} → Type 0 → ℤ → ServerState → Stream → Result Answered E → ServerState → Stream
+    → Type 0
+AnswersNext sound moment old stream result new after =
+    (given : Option Next) × IsAnswered sound moment old stream given result new after
+
+-- the message that stands first was served
+abbrev pub ServesFirst : Type 0 → ℤ → ServerState → Stream → Reply → ServerState → Stream → Type 0
+ServesFirst sound moment old stream reply new after =
+    (message : Message) × IsFirst stream message after × (sound → Serves moment message reply old new)
+
+-- the session has ended by the fault that stands first
+abbrev pub EndsBy : SessionFault → Stream → Reply → Stream → Type 0
+EndsBy fault old reply new =
+    IsNext old (next.Fault fault) new × (reply ≡ Sent (error_reply (code_of_session_fault fault)))
+
+-- the answer as a front gives it: the reply, if there is one, and whether it is the last
+abbrev pub answer_of : Answered → Option Answer
+answer_of (answered.Reply reply) = Some (record { reply = reply; last = false })
+answer_of (answered.Last reply) = Some (record { reply = reply; last = true })
+answer_of answered.Waits = None
+answer_of answered.Ended = None
+
+-- the reply to a message that was served
+abbrev pub reply_if : {E : Type 0} → Result Reply E → Option Reply
+reply_if (Ok reply) = Some reply
+reply_if (Err _) = None
+
+-- the reply of a result, if there is one
+abbrev pub reply_in : {E : Type 0} → Result Answered E → Option Reply
+reply_in (Ok answered) = reply_of answered
+reply_in (Err _) = None
+
+-- ---- what the keeper is told by an answer
+
+-- the claim holds, unless there is a reply and it is a refusal
+abbrev pub IfReplySent : Option Reply → Type 0 → Type 0
+IfReplySent (Some reply) claim = IfSent reply claim
+IfReplySent None claim = claim
+
+-- how often the keeper has failed by a call: once more if a message was refused for want of storage, and else no more
+abbrev pub CountsReplyIf : ℕ → ℕ → Option Reply → Type 0
+CountsReplyIf old new (Some reply) = CountsReply old new reply
+CountsReplyIf old new None = new ≡ old
+
+-- a message is the first of a stream that may not be there
+abbrev pub IsFirstOf : Option Stream → Message → Type 0
+IsFirstOf None message = ⊥
+IsFirstOf (Some stream) message = (rest : Stream) × IsFirst stream message rest
+
+-- what a crash after an answer may leave: what it might have left before, or all with the step made that the first
+-- message of the stream makes
+abbrev pub LeavesNext : (Kept → Type 0) → (Kept → Type 0) → World → ℤ → Option Stream → Type 0
+LeavesNext before after old moment line =
+    (left : Kept) → after left
+    → before left ⊎ ((message : Message) × IsFirstOf line message × IsStepMade old left moment message (owner message))
+
+-- what is told of the keeper after the next of a stream that may not be there was answered, with that reply
+pub record IsHandedOn (old new : Custody) (before : World) (moment : ℤ) (line : Option Stream) (reply : Option Reply)
+    : Type 0 where
+  -- if the keeper is sound, it was; if the disk has given back what was written, it had before
+  pub sound : new.sound → old.sound
+  pub clean : new.clean → old.clean
+  -- the keeper stays sound, unless a message was refused, and a crash may leave this, if it was sound and the disk has
+  -- given back what was written
+  pub stays : new.clean → old.sound → IfReplySent reply new.sound
+  pub crash : new.clean → old.sound → LeavesNext old.may_leave new.may_leave before moment line
+  -- the keeper's calls that failed for want of storage are counted
+  pub counts : CountsReplyIf old.faults new.faults reply
+
+-- `IsHandedOn` of the keeper of a server
+abbrev pub HandsOn : {R : Type 0} → (R → Custody) → ServerModel R → ServerModel R → ℤ → Option Stream → Option Reply
+    → Type 0
+HandsOn custody old new moment line reply =
+    IsHandedOn (custody old.records) (custody new.records) (world custody old) moment line reply
+
+-- ---- one answer after another
+
+-- the messages of events
+abbrev pub messages_of : List Event → List Message
+messages_of events = map message_of events
+
+-- the moments of events
+abbrev pub moments_of : List Event → List ℤ
+moments_of events = map moment_of events
+
+-- messages were answered by one run of the server, with its work; and each domain's replies in it are those of its own
+-- machine, used by it alone
+pub record IsOneRun (old new : ServerState) (events : List Event) (replies : List Reply) : Type 0 where
+  pub is_run : IsRun old.world events replies new.world
+  pub work : IsWorkOfRun old.world old.decisions events replies new.world new.decisions
+  pub headline : IsIsolated old.world new.world events replies
+  pub beside_refusals : IsIsolatedBesideRefusals old.world new.world events replies
+
+-- the messages at the front of a stream were answered, each at its moment, by one run; `rest` is what follows them
+pub record AreAnswered (old new : ServerState) (stream rest : Stream) (events : List Event) (replies : List Reply)
+    : Type 0 where
+  pub messages : Cuts stream (messages_of events) rest
+  pub run : IsOneRun old new events replies
 
 -- what a session answers after the last whole message: the fault by which it ends, or that it wants more bytes, or
 -- that it has ended with that message
@@ -19,14 +190,6 @@ StopsBy None last new = IsNext last next.More new ⊎ IsNext last next.Ended new
 -- the whole messages that a stream holds, after which it stops as `StopsBy` says
 abbrev pub HasMessages : Stream → List Message → Option SessionFault → Stream → Type 0
 HasMessages old messages fault new = (last : Stream) × Cuts old messages last × StopsBy fault last new
-
--- the messages of events
-abbrev pub messages_of : List Event → List Message
-messages_of events = map message_of events
-
--- the moments of events
-abbrev pub moments_of : List Event → List ℤ
-moments_of events = map moment_of events
 
 -- the reply to the fault by which a stream ends, if it ends by one
 abbrev pub fault_replies : Option SessionFault → List (List ℕ)

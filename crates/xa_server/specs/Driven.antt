@@ -1,7 +1,6 @@
--- What a connection is answered until it ends, and how its reader, its writer, the clock and the front were called for
--- it.
-use Rattle.std.specs.Prelude.{◌≡◌, ◌≢◌, ◌≤◌, ◌⊎◌, ℕ, ℤ, Bool, true, false, List, [], ◌∷◌, ◌++◌, length, map, Option}
-use Rattle.std.specs.Prelude.{Some, None}
+-- What a connection is answered until it ends, and how its reader, its writer and the clock were called for it.
+use Rattle.std.specs.Prelude.{◌≡◌, ◌≢◌, ◌<◌, ◌+◌, ◌⊎◌, ℕ, ℤ, Bool, true, false, List, [], ◌∷◌, ◌++◌, length, map}
+use Rattle.std.specs.Prelude.{Option, Some, None}
 use Rattle.std.specs.Io.KnownBytes.{Appends, Consumes, IsAtEnd}
 use Rattle.std.specs.List.{All}
 use Rattle.std.specs.declared.io.ErrorKind.{ErrorKind}
@@ -9,94 +8,84 @@ use Rattle.std.specs.declared.io.ErrorKind.TheVariants.{Interrupted}
 use Rattle.xa_http.specs.declared.fault.SessionFault.{SessionFault}
 use Rattle.xa_http.specs.declared.message.Message.{Message}
 use Rattle.xa_http.specs.declared.session.Next.TheVariants as next
-use Rattle.xa_http.specs.Messages.{Cuts, IsFirst, IsNext}
+use Rattle.xa_http.specs.Messages.{IsFirst, IsNext}
 use Rattle.xa_http.specs.Stream.{Stream, fed}
+use Rattle.xa_records.specs.declared.refusal.Failure.TheVariants.{Store}
+use Rattle.xa_records.specs.Keeper.{Custody}
 use Rattle.xa_server.specs.declared.clock.Clock.{Ghosts as ClockGhosts}
 use Rattle.xa_server.specs.declared.drive_end.DriveEnd.{DriveEnd}
 use Rattle.xa_server.specs.declared.drive_end.DriveEnd.TheVariants.{Ended, ReadFault, WriteFault, NoClock, TooManyReads}
 use Rattle.xa_server.specs.declared.drive_end.DriveEnd.TheVariants.{Memory, Shut}
 use Rattle.xa_server.specs.declared.lines.Conn.{Conn}
-use Rattle.xa_server.specs.declared.multiplexer.Multiplexer.{Ghosts as MultiplexerGhosts}
-use Rattle.xa_server.specs.declared.reader.Reader.{Ghosts as ReaderGhosts}
-use Rattle.xa_server.specs.declared.writer.Writer.{Ghosts as WriterGhosts}
-use Rattle.xa_records.specs.declared.refusal.Failure.TheVariants.{Store}
 use Rattle.xa_server.specs.declared.replies.Reply.{Reply}
 use Rattle.xa_server.specs.declared.replies.Reply.TheVariants.{Refused}
-use Rattle.xa_server.specs.Alone.{Event}
-use Rattle.xa_server.specs.Connection.{StopsBy, all_replies, messages_of, moments_of}
+use Rattle.xa_server.specs.declared.writer.Writer.{Ghosts as WriterGhosts}
+use Rattle.xa_server.specs.Alone.{Event, message_of, moment_of}
+use Rattle.xa_server.specs.Connection.{AreAnswered, IsOneRun, Serves, moments_of}
+use Rattle.xa_server.specs.ErrorCode.{code_of_session_fault, error_reply}
 use Rattle.xa_server.specs.Front.{FrontState}
-use Rattle.xa_server.specs.Isolation.{IsIsolated, IsIsolatedBesideRefusals}
-use Rattle.xa_server.specs.Lines.{IsOpen, Lines, with_line}
-use Rattle.xa_server.specs.Served.{IsRun}
-use Rattle.xa_server.specs.Transfers.{Grows, IsBrokenOff, IsReadOn, IsWrittenWhole, ReadEnd, WriteEnd, bytes_read}
+use Rattle.xa_server.specs.Lines.{IsOpen, Lines, line_at, with_line}
+use Rattle.xa_server.specs.Replies.{bytes_of}
+use Rattle.xa_server.specs.Transfers.{Grows, IsReadOn, IsWritten, IsWrittenWhole, ReadEnd, WriteEnd, bytes_read}
 use Rattle.xa_server.specs.Transfers.{bytes_taken, gave, unread}
-use Rattle.xa_server.specs.Work.{IsWorkOfRun}
+use Rattle.xa_server.specs.World.{ServerModel, ServerState, server_state}
 
 -- ---- the calls
 
--- how the calls for a connection ended, one after another: whether those of the front found memory; the reads; the
--- writes and flushes; what the clock told; and whether the front said that its keeper is open
+-- how the calls for a connection ended, one after another: the reads; the writes and flushes; and what the clock told
 pub record Calls : Type 0 where
-  pub memory : List Bool
   pub reads : List ReadEnd
   pub writes : List WriteEnd
   pub told : List (Option ℤ)
-  pub said_open : List Bool
 
--- what is known so far of the calls for a connection, and of the bytes that the reader has left and the writer holds
+-- what is known so far of the calls for a connection, and of the bytes that the reader has left and the writer holds;
+-- and whether the keeper is open: whether it can go on
 pub record Known : Type 0 where
-  pub memory : Option (List Bool)
   pub left : Option (List ℕ)
   pub reads : Option (List ReadEnd)
   pub contents : Option (List ℕ)
   pub writes : Option (List WriteEnd)
   pub told : Option (List (Option ℤ))
-  pub said_open : Option (List Bool)
+  pub is_open : Bool
 
--- a `Known` by what a front, a reader, a writer and a clock say
-abbrev pub seen_by : {F I W C : Type 0} → MultiplexerGhosts F → ReaderGhosts I → WriterGhosts W → ClockGhosts C
-    → F → I → W → C → Known
-seen_by front_says reader_says writer_says clock_says front reader writer clock =
+-- a `Known` by what a reader says, which has left these bytes and was read from so, and a writer, a clock and a keeper
+abbrev pub seen_by : {R W C : Type 0} → (R → Custody) → WriterGhosts W → ClockGhosts C → Option (List ℕ)
+    → Option (List ReadEnd) → ServerModel R → W → C → Known
+seen_by custody writer_says clock_says left reads server writer clock =
     record {
-      memory = front_says.had_memory front;
-      left = reader_says.remaining reader;
-      reads = reader_says.reads reader;
+      left = left;
+      reads = reads;
       contents = writer_says.contents writer;
       writes = writer_says.writes writer;
       told = clock_says.told clock;
-      said_open = front_says.said_open front;
+      is_open = (custody server.records).is_open;
     }
 
 -- what is known has grown by the calls, and by no others
 pub record AreMade (calls : Calls) (known_old known_new : Known) : Type 0 where
-  pub memory : Grows known_old.memory known_new.memory calls.memory
   pub left : Consumes known_old.left known_new.left (bytes_read calls.reads)
   pub reads : Grows known_old.reads known_new.reads calls.reads
   pub contents : Appends known_old.contents known_new.contents (bytes_taken calls.writes)
   pub writes : Grows known_old.writes known_new.writes calls.writes
   pub told : Grows known_old.told known_new.told calls.told
-  pub said_open : Grows known_old.said_open known_new.said_open calls.said_open
 
--- ---- what each end of a connection says of them
+-- the situation of a connection: its server, its stream, and what is known of the calls for it
+pub record Situation : Type 0 where
+  pub server : ServerState
+  pub stream : Stream
+  pub known : Known
 
--- the reads, by how the connection ended: each that gave bytes had room for 65,536. The last gave none if the stream
--- has ended, and failed at a failed read, which no interrupted one is; there were 1,000,000 if those are too many
-abbrev pub HaveRead : DriveEnd → List ReadEnd → Stream → Option (List ℕ) → Type 0
-HaveRead Ended reads after left =
-    (All IsReadOn reads × (after.ended ≡ true))
-    ⊎ ((before : List ReadEnd) × All IsReadOn before × (reads ≡ before ++ gave 65_536 [] ∷ []) × IsAtEnd left)
-HaveRead ReadFault reads after left =
-    (before : List ReadEnd) × (kind : ErrorKind) × All IsReadOn before × (kind ≢ Interrupted)
-    × (reads ≡ before ++ unread kind ∷ [])
-HaveRead TooManyReads reads after left = All IsReadOn reads × (length reads ≡ 1_000_000)
-HaveRead _ reads after left = All IsReadOn reads
+-- the situation of a connection, by what is seen of all these
+abbrev pub situation : {R W C : Type 0} → (R → Custody) → WriterGhosts W → ClockGhosts C → Option (List ℕ)
+    → Option (List ReadEnd) → ServerModel R → Stream → W → C → Situation
+situation custody writer_says clock_says left reads server stream writer clock =
+    record {
+      server = server_state custody server;
+      stream = stream;
+      known = seen_by custody writer_says clock_says left reads server writer clock;
+    }
 
--- what the clock told, by how the connection ended: the moments of the messages, and no others; after them none if
--- there was no clock, and maybe one more if memory was wanted
-abbrev pub HasTold : DriveEnd → List ℤ → List (Option ℤ) → Type 0
-HasTold NoClock moments told = told ≡ map Some moments ++ None ∷ []
-HasTold Memory moments told = (told ≡ map Some moments) ⊎ ((moment : ℤ) × (told ≡ map Some moments ++ Some moment ∷ []))
-HasTold _ moments told = told ≡ map Some moments
+-- ---- messages that were answered
 
 -- the replies were written, each whole and once, in order (RFC 9112, section 9.3.2), and each was flushed before the
 -- next
@@ -105,102 +94,124 @@ AreSent [] writes = writes ≡ []
 AreSent (reply ∷ replies) writes =
     (first rest : List WriteEnd) × IsWrittenWhole reply first × AreSent replies rest × (writes ≡ first ++ rest)
 
--- `AreSent`, but for the last reply, of which a part was written before a write failed
-pub record IsCutShort (replies : List (List ℕ)) (writes : List WriteEnd) : Type 0 where
-  pub whole : List (List ℕ)
-  pub last : List ℕ
-  pub before : List WriteEnd
-  pub part : List WriteEnd
-  pub all : replies ≡ whole ++ last ∷ []
-  pub sent : AreSent whole before
-  pub cut : IsBrokenOff last part
-  pub in_order : writes ≡ before ++ part
+-- whether a connection goes on after a reply, by whether the keeper is open then
+abbrev pub may_go_on : Reply → Bool → Bool
+may_go_on (Refused Store) is_open = is_open
+may_go_on _ is_open = true
 
--- the replies were written, by how the connection ended: all of them, or all but the last if a write failed
-abbrev pub AreWritten : DriveEnd → List (List ℕ) → List WriteEnd → Type 0
-AreWritten WriteFault replies writes = IsCutShort replies writes
-AreWritten _ replies writes = AreSent replies writes
+-- the connection could go on after each of the replies: after each refusal for want of storage the keeper was open;
+-- `old` and `new` say whether it is before the first and after the last
+abbrev pub WentOn : List Reply → Bool → Bool → Type 0
+WentOn [] old new = new ≡ old
+WentOn (reply ∷ replies) old new = (mid : Bool) × (may_go_on reply mid ≡ true) × WentOn replies mid new
 
--- a call of the front found memory
-abbrev pub HadMemory : Bool → Type 0
-HadMemory had = had ≡ true
+-- a session holds no whole message, and wants more bytes
+abbrev pub IsWaiting : Stream → Type 0
+IsWaiting stream = IsNext stream next.More stream
 
--- each call of the front found memory, but for the last if memory was wanted
-abbrev pub HaveMemory : DriveEnd → List Bool → Type 0
-HaveMemory Memory calls = (before : List Bool) × All HadMemory before × (calls ≡ before ++ false ∷ [])
-HaveMemory _ calls = All HadMemory calls
-
--- what a front says if its keeper is open: that it is, once after each message that was refused for want of storage
-abbrev pub said_open_after : List Reply → List Bool
-said_open_after [] = []
-said_open_after (Refused Store ∷ replies) = true ∷ said_open_after replies
-said_open_after (_ ∷ replies) = said_open_after replies
-
--- what the front said of its keeper, by how the connection ended: after each message that was refused for want of
--- storage, and whose reply was written, that it is open. At `Shut` it said after the last that it isn't, and that ended
--- the connection
-abbrev pub HaveSaid : DriveEnd → Option SessionFault → List Reply → List Bool → Type 0
-HaveSaid Shut fault run said =
-    (before : List Reply) × (run ≡ before ++ Refused Store ∷ []) × (said ≡ said_open_after before ++ false ∷ [])
-HaveSaid WriteFault None run said =
-    (before : List Reply) × (last : Reply) × (run ≡ before ++ last ∷ []) × (said ≡ said_open_after before)
-HaveSaid _ fault run said = said ≡ said_open_after run
-
--- why no message after the last is answered: the stream holds none that is whole, or there was no moment for the next,
--- which is whole, or a write failed, or the keeper isn't open, or memory was wanted, maybe for the piece that was read
--- last. `fault` is that to which there is a reply, the last of all
-abbrev pub StopsAfter : DriveEnd → Option SessionFault → List ReadEnd → Stream → Stream → Type 0
-StopsAfter Ended fault reads last after = StopsBy fault last after
-StopsAfter ReadFault None reads last after = IsNext last next.More after
-StopsAfter TooManyReads None reads last after = IsNext last next.More after
-StopsAfter NoClock None reads last after =
-    (message : Message) × (rest : Stream) × IsFirst last message rest × (after ≡ last)
-StopsAfter WriteFault (Some fault) reads last after = IsNext last (next.Fault fault) after
-StopsAfter WriteFault None reads last after = after ≡ last
-StopsAfter Shut None reads last after = after ≡ last
-StopsAfter Memory None reads last after =
-    (after ≡ last)
-    ⊎ ((before : List ReadEnd) × (piece : List ℕ) × (reads ≡ before ++ gave 65_536 piece ∷ [])
-    × (last ≡ fed after piece))
-StopsAfter _ (Some fault) reads last after = ⊥
-
--- ---- a connection
-
--- a connection was driven to its end: one run of the server answered the messages at the front of what the connection
--- held and was read, each at its moment, and its replies were written; each domain's replies are those of its own
--- machine, used by it alone. No other connection has changed
-pub record IsDriven (end : DriveEnd) (conn : Conn) (old new : FrontState) (stream : Stream)
-    (known_old known_new : Known) : Type 0 where
+-- after so many reads, each with room for 65,536 bytes, messages were answered, each at the moment that the clock told
+-- for it and with one whole reply, and the connection goes on
+pub record HasAnswered (count : ℕ) (old new : Situation) : Type 0 where
   pub calls : Calls
   pub events : List Event
   pub run : List Reply
-  pub fault : Option SessionFault
-  pub last : Stream
-  pub after : Stream
-  pub made : AreMade calls known_old known_new
-  pub messages : Cuts (fed stream (bytes_read calls.reads)) (messages_of events) last
-  pub stops : StopsAfter end fault calls.reads last after
-  pub lines : new.lines ≡ with_line conn (Some after) old.lines
-  pub is_run : IsRun old.server.world events run new.server.world
-  pub work : IsWorkOfRun old.server.world old.server.decisions events run new.server.world new.server.decisions
-  pub headline : IsIsolated old.server.world new.server.world events run
-  pub beside_refusals : IsIsolatedBesideRefusals old.server.world new.server.world events run
-  pub read : HaveRead end calls.reads after known_new.left
-  pub told : HasTold end (moments_of events) calls.told
-  pub written : AreWritten end (all_replies run fault) calls.writes
-  pub memory : HaveMemory end calls.memory
-  pub said_open : HaveSaid end fault run calls.said_open
+  pub made : AreMade calls old.known new.known
+  pub answered : AreAnswered old.server new.server (fed old.stream (bytes_read calls.reads)) new.stream events run
+  pub read : All IsReadOn calls.reads
+  pub counted : length calls.reads ≡ count
+  pub told : calls.told ≡ map Some (moments_of events)
+  pub written : AreSent (map bytes_of run) calls.writes
+  pub keeper : WentOn run old.known.is_open new.known.is_open
 
--- `IsDriven`, with no more reads than `most`
-abbrev pub IsDrivenWithin : ℕ → DriveEnd → Conn → FrontState → FrontState → Stream → Known → Known → Type 0
-IsDrivenWithin most end conn old new stream known_old known_new =
-    (is : IsDriven end conn old new stream known_old known_new) × (length is.calls.reads ≤ most)
+-- ---- what came last
 
--- `IsDriven` with at most 1,000,000 reads, of an open connection; one that isn't open has ended, and nothing was done
-abbrev pub IsConnection : DriveEnd → Option Stream → Conn → FrontState → FrontState → Known → Known → Type 0
-IsConnection end (Some stream) conn old new known_old known_new =
-    IsDrivenWithin 1_000_000 end conn old new stream known_old known_new
-IsConnection end None conn old new known_old known_new = (end ≡ Ended) × (new ≡ old) × (known_new ≡ known_old)
+-- a read came last, and nothing else has changed
+pub record ReadsLast (read : ReadEnd) (old new : Situation) : Type 0 where
+  pub left : Consumes old.known.left new.known.left (bytes_read (read ∷ []))
+  pub reads : Grows old.known.reads new.known.reads (read ∷ [])
+  pub same : new ≡ record old { known = record old.known { left = new.known.left; reads = new.known.reads } }
+
+-- the clock told this last, and nothing else has changed
+pub record TellsLast (told : Option ℤ) (old new : Situation) : Type 0 where
+  pub grows : Grows old.known.told new.known.told (told ∷ [])
+  pub same : new ≡ record old { known = record old.known { told = new.known.told } }
+
+-- the fault by which the stream ends came last; its reply was written whole or in part, and nothing else has changed
+pub record FaultLast (whole : Bool) (old new : Situation) : Type 0 where
+  pub fault : SessionFault
+  pub is_next : IsNext old.stream (next.Fault fault) new.stream
+  pub written : IsWritten whole (error_reply (code_of_session_fault fault)) old.known.contents new.known.contents
+      old.known.writes new.known.writes
+  pub same : new ≡ record {
+    server = old.server;
+    stream = new.stream;
+    known = record old.known { contents = new.known.contents; writes = new.known.writes };
+  }
+
+-- a message came last: it was served at the moment that the clock told, and its reply was written whole or in part
+pub record MessageLast (whole : Bool) (old new : Situation) (event : Event) (reply : Reply) : Type 0 where
+  pub first : IsFirst old.stream (message_of event) new.stream
+  pub serves : Serves (moment_of event) (message_of event) reply old.server new.server
+  pub told : Grows old.known.told new.known.told (Some (moment_of event) ∷ [])
+  pub written : IsWritten whole (bytes_of reply) old.known.contents new.known.contents old.known.writes new.known.writes
+  pub left : new.known.left ≡ old.known.left
+  pub reads : new.known.reads ≡ old.known.reads
+
+-- ---- a connection
+
+-- how a connection ended, when it might have been read from so often yet. `events` and `replies` are of the message
+-- that came last, unless the connection could have gone on after it: at `Ended` the session has ended by its last
+-- message or by a fault, or the stream has; at `NoClock` a message is whole, and there was no moment for it; at
+-- `Memory` it was wanted for a message or a fault, or for the piece that was read last; and at `Shut` a message was
+-- refused for want of storage, and the keeper isn't open
+abbrev pub Ends : DriveEnd → ℕ → Situation → Situation → List Event → List Reply → Type 0
+Ends Ended spare old new [] [] =
+    ((new ≡ old) × (old.stream.ended ≡ true))
+    ⊎ (FaultLast true old new
+    ⊎ (ReadsLast (gave 65_536 []) old new × IsWaiting old.stream × IsAtEnd new.known.left × (0 < spare)))
+Ends ReadFault spare old new [] [] =
+    (kind : ErrorKind) × (kind ≢ Interrupted) × ReadsLast (unread kind) old new × IsWaiting old.stream × (0 < spare)
+Ends TooManyReads spare old new [] [] = (new ≡ old) × IsWaiting old.stream × (spare ≡ 0)
+Ends WriteFault spare old new [] [] = FaultLast false old new
+Ends WriteFault spare old new (event ∷ []) (reply ∷ []) = MessageLast false old new event reply
+Ends NoClock spare old new [] [] =
+    (message : Message) × (rest : Stream) × IsFirst old.stream message rest × TellsLast None old new
+Ends Memory spare old new [] [] =
+    (new ≡ old)
+    ⊎ (((moment : ℤ) × TellsLast (Some moment) old new)
+    ⊎ ((piece : List ℕ) × IsReadOn (gave 65_536 piece) × ReadsLast (gave 65_536 piece) old new × IsWaiting old.stream
+    × (0 < spare)))
+Ends Shut spare old new (event ∷ []) (reply ∷ []) =
+    MessageLast true old new event reply × (reply ≡ Refused Store) × (new.known.is_open ≡ false)
+Ends _ spare old new _ _ = ⊥
+
+-- a connection was driven to its end, with at most so many reads: messages at the front of what it held and was read
+-- were answered, and then it ended. All are one run of the server, in which each domain's replies are those of its own
+-- machine, used by it alone
+pub record IsDrivenWithin (most : ℕ) (end : DriveEnd) (old new : Situation) : Type 0 where
+  pub count : ℕ
+  pub spare : ℕ
+  pub left : Situation
+  pub last_events : List Event
+  pub last_replies : List Reply
+  pub all : count + spare ≡ most
+  pub goes : HasAnswered count old left
+  pub ends : Ends end spare left new last_events last_replies
+  pub run : IsOneRun old.server new.server (goes.events ++ last_events) (goes.run ++ last_replies)
+
+-- `IsDrivenWithin` 1,000,000 reads, of a connection of a front that is open with that stream, and no other
+-- connection has changed; one that isn't open has ended, and nothing was done
+abbrev pub IsConnectionOf : Option Stream → DriveEnd → Conn → FrontState → FrontState → Known → Known → Type 0
+IsConnectionOf (Some stream) end conn old new known_old known_new =
+    (after : Stream) × (new.lines ≡ with_line conn (Some after) old.lines)
+    × IsDrivenWithin 1_000_000 end (record { server = old.server; stream = stream; known = known_old })
+    (record { server = new.server; stream = after; known = known_new })
+IsConnectionOf None end conn old new known_old known_new = (end ≡ Ended) × (new ≡ old) × (known_new ≡ known_old)
+
+-- `IsConnectionOf` the connection of a front
+abbrev pub IsConnection : DriveEnd → Conn → FrontState → FrontState → Known → Known → Type 0
+IsConnection end conn old new known_old known_new =
+    IsConnectionOf (line_at conn old.lines) end conn old new known_old known_new
 
 -- a connection that is open stays open, and no other changes, whatever the keeper does
 unfoldable pub KeepsOpen : Conn → Lines → Lines → Type 0

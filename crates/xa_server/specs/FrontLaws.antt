@@ -1,5 +1,5 @@
--- Law of a front: the messages of a connection are those of its own bytes, however the pieces of all connections are
--- cut and mixed.
+-- Laws of a front: the messages of a connection are those of its own bytes, however the pieces of all connections are
+-- cut and mixed; and what is played is made by one call after another.
 use Rattle.std.specs.Prelude.{◌≢◌, List, [], ◌∷◌, ◌++◌, Option, Some, Ok, map, nat_eq, if◌then◌else◌}
 use Rattle.xa_http.specs.declared.message.Message.{Message}
 use Rattle.xa_http.specs.declared.session.Next.{Next}
@@ -13,8 +13,8 @@ use Rattle.xa_server.specs.declared.event.Outcome.{Outcome}
 use Rattle.xa_server.specs.declared.event.Outcome.TheVariants as outcome
 use Rattle.xa_server.specs.declared.lines.Conn.{Conn}
 use Rattle.xa_server.specs.declared.replies.Reply.{Reply}
-use Rattle.xa_server.specs.Front.{FrontState, Plays}
-use Rattle.xa_server.specs.Lines.{IsOpen}
+use Rattle.xa_server.specs.Front.{FrontState, IsPlayed, Plays}
+use Rattle.xa_server.specs.Lines.{IsOpen, Lines}
 
 -- what is done to a connection's session by an event of a connection: the step, if they are the same
 abbrev pub own_step : Conn → Conn → Step → List Step
@@ -59,11 +59,20 @@ LeaveOpen conn (event ∷ events) = LeavesOpen conn event × LeaveOpen conn even
 -- of other connections in between make no difference
 abbrev pub LinesAreStreams : Type 0
 LinesAreStreams =
-    (conn : Conn) (events : List Event) (outcomes : List Outcome) (nexts : List (Option Next)) (old new : FrontState)
+    (conn : Conn) (events : List Event) (outcomes : List Outcome) (nexts : List (Option Next)) (old new : Lines)
     (stream : Stream)
-    → Plays events outcomes nexts old new → IsOpen conn old.lines stream → LeaveOpen conn events
-    → (after rest : Stream) × IsOpen conn new.lines after
+    → Plays events outcomes nexts old new → IsOpen conn old stream → LeaveOpen conn events
+    → (after rest : Stream) × IsOpen conn new after
     × GoesThrough stream (steps_on conn events nexts outcomes) after
     × Cuts (fed stream (bytes_fed (steps_on conn events nexts outcomes)))
     (map (λ exchange. exchange.0) (exchanges_on conn events nexts outcomes)) rest
     × StopsAt rest after
+
+-- the law: if nothing was done, no event was played; and events that were played before others were played with them.
+-- So calls that were made one after another, each the play of one event, were played
+abbrev pub StepsArePlayed : Type 0 → Type 0
+StepsArePlayed sound =
+    ((old : FrontState) → IsPlayed sound old old [] [])
+    × ((old mid new : FrontState) (events others : List Event) (outcomes rest : List Outcome)
+    → IsPlayed sound old mid events outcomes → IsPlayed sound mid new others rest
+    → IsPlayed sound old new (events ++ others) (outcomes ++ rest))

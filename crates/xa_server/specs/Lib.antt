@@ -22,6 +22,5 @@ pub mod Front
 pub mod Fronting
 pub mod FrontLaws
 pub mod Transfers
-pub mod Multiplexer
 pub mod Driven
 pub mod handling

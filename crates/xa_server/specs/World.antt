@@ -19,3 +19,12 @@ pub record ServerModel (R : Type 0) : Type 0 where
 -- the world of a server, by what its keeper keeps
 abbrev pub world : {R : Type 0} → (R → Custody) → ServerModel R → World
 world custody server = record { operator = server.operator; kept = (custody server.records).kept }
+
+-- what is known of a server: its world, and its cached decisions with their counts
+pub record ServerState : Type 0 where
+  pub world : World
+  pub decisions : DecisionsModel
+
+-- the state of a server, by what its keeper keeps
+abbrev pub server_state : {R : Type 0} → (R → Custody) → ServerModel R → ServerState
+server_state custody server = record { world = world custody server; decisions = server.decisions }

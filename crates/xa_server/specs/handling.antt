@@ -1,5 +1,4 @@
 -- How the code answers messages and drives connections: words that only contracts of private functions cite.
-pub mod Answering
 pub mod Asking
 pub mod Driving
 pub mod Gates

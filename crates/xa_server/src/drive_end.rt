@@ -1,4 +1,8 @@
 //! The ends of a driven connection.
+ghost use Rattle.std.specs.Prelude.{◌≡◌};
+ghost use Rattle.xa_server.specs.declared.drive_end.DriveEnd.TheVariants.{Memory};
+
+use std::alloc::AllocError;
 
 /// How `drive` ended.
 #[derive(Clone, Copy, Debug, PartialEq, Eq)]
@@ -16,10 +20,17 @@ pub enum DriveEnd {
     NoClock,
     /// It was read from 1,000,000 times. All messages that were whole by then are answered.
     TooManyReads,
-    /// There was no memory. Whole messages may be left unanswered. A front that doesn't do what its clauses
-    /// say, and answers more messages than it holds, ends so, too.
+    /// There was no memory. Whole messages may be left unanswered.
     Memory,
     /// A message was refused for want of storage, and its keeper can't go on. Its reply was written;
     /// whole messages may be left unanswered.
     Shut,
+}
+
+impl From<AllocError> for DriveEnd {
+    ghost from_gives = { λ _ e. e ≡ Memory };
+
+    fn from(_error: AllocError) -> DriveEnd {
+        DriveEnd::Memory
+    }
 }

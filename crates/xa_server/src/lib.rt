@@ -9,10 +9,11 @@
 //! in `resources`. What is not answered with success is a `handling_error`; the bytes of replies come from
 //! `replies` and `error_code`.
 //!
-//! Files of connections: `front` cuts the messages from the bytes that `lines` holds. Its calls are values of
-//! `event`, its refusals are `front_error`. `driving` reads a connection from a `reader` until it ends as
-//! `drive_end` says; it stands on a `multiplexer`, which a front is. `turns` asks the `clock`, and sends each
-//! reply by `sending` to a `writer`. `interruption` has the law of a crash at any moment.
+//! Files of connections: a `connection` cuts its messages from its own bytes, and has a server answer them. A
+//! `front` is a server beside its connections, the `lines`. Its calls are values of `event`, its refusals are
+//! `front_error`. `driving` reads a connection from a `reader` until it ends as `drive_end` says, asks the
+//! `clock`, and sends each reply by `sending` to a `writer`. `interruption` has the law of a crash at any
+//! moment.
 //!
 //! In a file of functions each stands after those that it calls. In a file of a type its methods come first.
 #![tactic(auto)]
@@ -23,6 +24,7 @@ mod authorization;
 mod cached_view;
 mod changes;
 mod clock;
+mod connection;
 mod decisions;
 mod dispatch;
 mod document_key;
@@ -38,7 +40,6 @@ mod handling_error;
 mod interruption;
 mod limits;
 mod lines;
-mod multiplexer;
 mod oversized;
 mod reader;
 mod readings;
@@ -48,20 +49,19 @@ mod resources;
 mod revision;
 mod sending;
 mod server;
-mod turns;
 mod view;
 mod views;
 mod writer;
 
 pub use clock::Clock;
+pub use connection::{Answered, Connection};
 pub use drive_end::DriveEnd;
 pub use driving::drive;
 pub use error_code::{ErrorCode, fault_reply};
 pub use event::{Answer, Event, Outcome};
 pub use front::{Front, lines_are_streams};
 pub use front_error::FrontError;
-pub use lines::Conn;
-pub use multiplexer::Multiplexer;
+pub use lines::{Conn, Lines};
 pub use reader::Reader;
 pub use replies::Reply;
 pub use server::{Server, two_worlds_agree};

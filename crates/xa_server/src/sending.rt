@@ -1,6 +1,7 @@
 //! What is sent to the peer of a connection.
 ghost use Rattle.std.specs.Prelude.{◌≤◌, ◌<◌, length, IfSome, MatchOption};
-ghost use Rattle.xa_server.specs.handling.Sending.{IsFlushed, IsWritten, SendsNone, SendsSome};
+ghost use Rattle.xa_server.specs.handling.Sending.{IsFlushed, SendsNone, SendsSome};
+ghost use Rattle.xa_server.specs.Transfers.{IsWritten};
 
 use crate::writer::Writer;
 use std::io::ErrorKind;

@@ -5,11 +5,10 @@ use crate::answer::Answer;
 use crate::clock::StandingClock;
 use crate::connections::FrontTrial;
 use crate::field::{bytes_of, number_of, word_and_text};
-use crate::front_calls::{FrontCalls, drive};
+use crate::front_calls::FrontCalls;
 use crate::no_answer::NoAnswer;
 use crate::peer::{Receiver, Sender};
 use std::alloc::Global;
-use xa_server::Multiplexer;
 
 /// The peer of the connection that is driven next, and how many moments the clock tells.
 #[derive(Drop)]
@@ -41,7 +40,7 @@ impl Peer {
 
     /// Drives a connection. Adds how that has ended, what the peer has got, and how much of what it sent
     /// is left.
-    fn drive<F: FrontCalls + Multiplexer + Drop>(
+    fn drive<F: FrontCalls + Drop>(
         &mut self,
         answer: &mut Answer,
         trial: &mut FrontTrial<F>,
@@ -52,13 +51,9 @@ impl Peer {
             left: self.moments,
         };
         let conn = trial.conn(text)?;
-        let end = drive(
-            &mut trial.front,
-            conn,
-            &mut self.sender,
-            &mut self.receiver,
-            &mut clock,
-        );
+        let end = trial
+            .front
+            .drive(conn, &mut self.sender, &mut self.receiver, &mut clock);
         answer.push_shown("", &end);
         self.receiver.push_got(answer)?;
         self.sender.push_unread(answer);
@@ -67,7 +62,7 @@ impl Peer {
     }
 
     /// Runs the event of the word and the text after it.
-    fn run_event<F: FrontCalls + Multiplexer + Drop>(
+    fn run_event<F: FrontCalls + Drop>(
         &mut self,
         answer: &mut Answer,
         trial: &mut FrontTrial<F>,
@@ -90,7 +85,7 @@ impl Peer {
 }
 
 /// Runs the events, one after another.
-pub fn run_driven_events<F: FrontCalls + Multiplexer + Drop>(
+pub fn run_driven_events<F: FrontCalls + Drop>(
     answer: &mut Answer,
     trial: &mut FrontTrial<F>,
     events: &[&str],

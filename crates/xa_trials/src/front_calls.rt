@@ -7,8 +7,7 @@ use std::alloc::Global;
 use xa_http::Message;
 use xa_records::Records;
 use xa_server::{
-    Answer, Clock, Conn, DriveEnd, Event, Front, Multiplexer, Outcome, Reader, Reply, Server,
-    Writer,
+    Answer, Clock, Conn, DriveEnd, Event, Front, Outcome, Reader, Reply, Server, Writer, drive,
 };
 use xa_value::Moment;
 
@@ -47,6 +46,15 @@ pub trait FrontCalls {
 
     /// What comes of the events, which are played.
     fn outcomes(&mut self, events: &[Event<'_>]) -> Result<Vec<Outcome>, NoAnswer>;
+
+    /// Drives a connection. How that has ended.
+    fn drive<I: Reader, W: Writer, C: Clock>(
+        &mut self,
+        conn: Conn,
+        reader: &mut I,
+        writer: &mut W,
+        clock: &mut C,
+    ) -> DriveEnd;
 }
 
 impl<R: Records> FrontCalls for Front<R> {
@@ -68,6 +76,16 @@ impl<R: Records> FrontCalls for Front<R> {
 
     fn outcomes(&mut self, events: &[Event<'_>]) -> Result<Vec<Outcome>, NoAnswer> {
         Ok(self.play(events)?)
+    }
+
+    fn drive<I: Reader, W: Writer, C: Clock>(
+        &mut self,
+        conn: Conn,
+        reader: &mut I,
+        writer: &mut W,
+        clock: &mut C,
+    ) -> DriveEnd {
+        drive(self, conn, reader, writer, clock)
     }
 }
 
@@ -107,15 +125,4 @@ impl<R: Reopen + Drop> Renew for Front<R> {
         };
         Ok((number, Front::new(alloc, server)?))
     }
-}
-
-/// Drives a connection. How that has ended.
-pub fn drive<F: Multiplexer, I: Reader, W: Writer, C: Clock>(
-    front: &mut F,
-    conn: Conn,
-    reader: &mut I,
-    writer: &mut W,
-    clock: &mut C,
-) -> DriveEnd {
-    xa_server::drive(front, conn, reader, writer, clock)
 }

@@ -13,7 +13,6 @@ use crate::played::play_events;
 use crate::server::run_server_events;
 use crate::setup::{Setup, front_made, setup_and_events};
 use xa_records::{PlainRecords, Records};
-use xa_server::Multiplexer;
 use xa_value::Moment;
 
 /// How the events of a row come to a server.
@@ -57,7 +56,7 @@ impl KeeperRow<'_> {
 }
 
 /// Runs the events on all connections of the front, from that moment on.
-fn run_front_events<F: FrontCalls + Multiplexer + Drop>(
+fn run_front_events<F: FrontCalls + Drop>(
     answer: &mut Answer,
     front: F,
     manner: Manner,
@@ -73,7 +72,7 @@ fn run_front_events<F: FrontCalls + Multiplexer + Drop>(
 }
 
 /// Runs the events on the front, from that moment on.
-fn run_events<F: Renew + Multiplexer + Drop>(
+fn run_events<F: Renew + Drop>(
     answer: &mut Answer,
     front: F,
     manner: Manner,

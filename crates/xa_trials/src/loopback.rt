@@ -6,7 +6,7 @@
 use crate::answer::Answer;
 use crate::clock::{StandingClock, moment_of};
 use crate::field::{bytes_of, word_and_text};
-use crate::front_calls::{FrontCalls, drive};
+use crate::front_calls::FrontCalls;
 use crate::keepers::tables;
 use crate::no_answer::{NoAnswer, unless_answered};
 use crate::setup::{Setup, front_made, setup_and_events};
@@ -15,12 +15,12 @@ use std::io::{Read, Write};
 use std::net::{Ipv4Addr, Shutdown, TcpListener, TcpStream};
 use std::rt::HostRuntime;
 use xa_records::Records;
-use xa_server::{DriveEnd, Multiplexer};
+use xa_server::DriveEnd;
 use xa_value::Moment;
 
 /// A front, where it takes connections, and what the client of the next one writes.
 #[derive(Drop)]
-struct Sockets<F: FrontCalls + Multiplexer + Drop> {
+struct Sockets<F: FrontCalls + Drop> {
     /// The runtime, by which clients connect.
     rt: HostRuntime,
     /// The front.
@@ -33,7 +33,7 @@ struct Sockets<F: FrontCalls + Multiplexer + Drop> {
     written: Vec<u8>,
 }
 
-impl<F: FrontCalls + Multiplexer + Drop> Sockets<F> {
+impl<F: FrontCalls + Drop> Sockets<F> {
     /// A client that has connected, and has written all that it writes.
     fn client(&mut self) -> Result<TcpStream, NoAnswer> {
         let mut client = TcpStream::connect(&self.rt, self.listener.local_addr()?)?;
@@ -47,13 +47,9 @@ impl<F: FrontCalls + Multiplexer + Drop> Sockets<F> {
     fn serve_next(&mut self) -> Result<DriveEnd, NoAnswer> {
         let conn = self.front.begin()?;
         let (stream, _peer) = self.listener.accept()?;
-        let end = drive(
-            &mut self.front,
-            conn,
-            &mut &stream,
-            &mut &stream,
-            &mut self.clock,
-        );
+        let end = self
+            .front
+            .drive(conn, &mut &stream, &mut &stream, &mut self.clock);
         self.front.finish(conn)?;
         Ok(end)
     }
@@ -102,7 +98,7 @@ impl<F: FrontCalls + Multiplexer + Drop> Sockets<F> {
 }
 
 /// Runs the events over sockets of the front, whose clock stands at that moment.
-fn run_socket_events<F: FrontCalls + Multiplexer + Drop>(
+fn run_socket_events<F: FrontCalls + Drop>(
     answer: &mut Answer,
     rt: &HostRuntime,
     listener: TcpListener,

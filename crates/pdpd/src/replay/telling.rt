@@ -1,131 +1,146 @@
-//! What a connection is told: the replies among the outcomes of answers, as they are written.
-ghost use Rattle.std.specs.Prelude.{◌≡◌, IfErr, IfOk, IsTrue, MatchResult, OnOk, Some};
-ghost use Rattle.std.specs.Io.KnownBytes.{Appends};
-ghost use Rattle.std.specs.List.{All};
+//! What a connection is told: the replies to its messages, each written once it is answered.
+ghost use Rattle.std.specs.Prelude.{◌≡◌, ◌≤◌, ◌<◌, Ok, IfErr, IfOk, IsTrue, OnOk, false, true, length};
+ghost use Rattle.xa_http.specs.Stream.{fed};
 ghost use Rattle.xa_server.specs.declared.front_error.FrontError.TheVariants as front;
-ghost use Rattle.pdpd.specs.Entry.{reply_entries};
-ghost use Rattle.pdpd.specs.Exit.{breaks_off};
-ghost use Rattle.pdpd.specs.running.Telling.{ArePieceAndAnswers, HasAnswered, IsAnswer, after_answer};
-ghost use Rattle.pdpd.specs.running.Telling.{after_none, answers_behind, progress_after, progress_of};
-ghost use Rattle.pdpd.specs.running.Telling.{replies_told, reply_told};
+ghost use Rattle.xa_server.specs.World.{server_state};
 ghost use Rattle.pdpd.specs.declared.exit.Exit.TheVariants.{Memory};
-ghost use Rattle.pdpd.specs.declared.replay.telling.Progress.TheVariants.{Answered};
+ghost use Rattle.pdpd.specs.Exit.{breaks_off};
+ghost use Rattle.pdpd.specs.Replay.{ConnectionTakes, StreamTakes};
+ghost use Rattle.pdpd.specs.running.Replaying.{Writes};
+ghost use Rattle.pdpd.specs.running.Telling.{HasRoom, IsToldAndWritten, Stands};
 
 use crate::exit::Exit;
+use crate::replay::heading::Heading;
 use crate::replay::writing::write_reply;
+use std::alloc::Global;
 use std::io::Write;
-use xa_server::{FrontError, Outcome};
+use xa_records::Records;
+use xa_server::{Answered, Connection, FrontError, Server};
 
-/// What becomes of a connection that is asked for answers.
-#[derive(Clone, Copy)]
-pub enum Progress {
-    /// Its last call was answered, and its session goes on: another message may be whole.
-    Answered,
-    /// No further message is whole.
-    Waits,
-    /// Its session has ended.
-    Ended,
-}
+/// How many bytes of an entry are handed over at once. All messages that are whole then are answered
+/// before the next piece, so that a connection always has room for it.
+const PIECE_BYTES: usize = 65_536;
 
-impl Progress {
-    /// What becomes of a connection after an answer, which is the last of its session or isn't.
-    fn after_answer(last: bool) -> Progress
-        ensures { result ≡ after_answer last }
-    {
-        if last {
-            Progress::Ended
-        } else {
-            Progress::Answered
-        }
-    }
-
-    /// What becomes of it after a call that found no answer.
-    fn after_none(self) -> Progress
-        ensures { result ≡ after_none self }
-    {
-        match self {
-            Progress::Answered | Progress::Waits => Progress::Waits,
-            Progress::Ended => Progress::Ended,
-        }
-    }
-}
-
-/// How the program ends if a call on a connection was refused: for want of memory.
-fn exit_of_refusal(error: FrontError) -> Exit
-    requires { error ≡ front.Memory }
+/// How the program ends if a connection that has room for a piece doesn't take it: there was no memory.
+fn exit_of_refusal(_error: FrontError) -> Exit
+    requires { _error ≡ front.Memory }
     ensures { result ≡ Memory }
 {
-    match error {
-        FrontError::Memory => Exit::Memory,
-        _ => unreachable!(),
-    }
+    Exit::Memory
 }
 
-/// The outcomes after that of a piece, if there was memory for the piece.
-pub fn answers_behind(outcomes: &[Outcome]) -> Result<&[Outcome], Exit>
-    requires { ArePieceAndAnswers outcomes.now }
-    ensures behind { MatchResult result
-        (λ answers. answers_behind outcomes.now ≡ Some answers.now) (λ exit. exit ≡ Memory) }
-    ensures answers { IfOk result (λ answers. All IsAnswer answers.now) }
-{
-    let Some((piece, answers)) = outcomes.split_first() else {
-        unreachable!()
-    };
-    let Outcome::Held(held) = piece else {
-        unreachable!()
-    };
-    match held {
-        Ok(()) => Ok(answers),
-        Err(error) => Err(exit_of_refusal(*error)),
-    }
-}
-
-/// Writes the reply that an outcome tells, if it does, and says what becomes of its connection.
-fn write_outcome<W: Write>(
+/// Answers the next of a connection, and writes the reply, if there is one. Whether its session goes on, so
+/// that another message may be whole.
+fn answer_next<R: Records, W: Write>(
+    server: &mut Server<R>,
+    connection: &mut Connection,
     writer: &mut W,
-    connection: usize,
-    before: Progress,
-    outcome: &Outcome,
-) -> Result<Progress, Exit>
-    requires { IsAnswer outcome.now }
-    ensures written { OnOk result
-        (Appends (W.contents writer.old) (W.contents writer.new)
-        (reply_entries connection (reply_told outcome.now))) }
-    ensures progress { IfOk result (λ after. after ≡ progress_after before outcome.now) }
-    ensures answered { OnOk result (HasAnswered outcome.now) }
+    heading: &Heading,
+) -> Result<bool, Exit>
+    requires { connection.old.ended ≡ false }
+    ensures told { OnOk result ((R.custody server.new.records).sound
+        → IsToldAndWritten heading.now (server_state R.custody server.old) (server_state R.custody server.new)
+        connection.old connection.new (W.contents writer.old) (W.contents writer.new)) }
+    ensures stands { IfOk result (λ goes_on. Stands goes_on connection.new) }
+    ensures fewer { result ≡ Ok true → length connection.new.held < length connection.old.held }
+    ensures sound { (R.custody server.new.records).sound → (R.custody server.old.records).sound }
     ensures err { IfErr result (λ exit. IsTrue (breaks_off exit)) }
 {
-    let Outcome::Answered(answered) = outcome else {
-        unreachable!()
-    };
-    match answered {
-        Ok(Some(answer)) => {
-            write_reply(writer, connection, answer.reply.bytes())?;
-            Ok(Progress::after_answer(answer.last))
+    match connection.answer(server, heading.moment)? {
+        Answered::Reply(reply) => {
+            write_reply(writer, heading.connection, reply.bytes())?;
+            Ok(true)
         }
-        Ok(None) => Ok(before.after_none()),
-        Err(error) => Err(exit_of_refusal(*error)),
+        Answered::Last(reply) => {
+            write_reply(writer, heading.connection, reply.bytes())?;
+            Ok(false)
+        }
+        Answered::Waits | Answered::Ended => Ok(false),
     }
 }
 
-/// Writes the replies that outcomes tell, in order, and says what becomes of their connection.
-#[tactic(auto, using(crate::proofs::TellingLemmas::wrote_more, crate::proofs::TellingLemmas::progress_more))]
-pub fn write_outcomes<W: Write>(
+/// Hands a piece over, and writes the replies to all messages that are whole then.
+fn take_piece<R: Records, W: Write>(
+    server: &mut Server<R>,
+    connection: &mut Connection,
     writer: &mut W,
-    connection: usize,
-    outcomes: &[Outcome],
-) -> Result<Progress, Exit>
-    requires { All IsAnswer outcomes.now }
-    ensures written { OnOk result
-        (Appends (W.contents writer.old) (W.contents writer.new)
-        (reply_entries connection (replies_told outcomes.now))) }
-    ensures progress { IfOk result (λ after. after ≡ progress_of Answered outcomes.now) }
-    ensures answered { OnOk result (All HasAnswered outcomes.now) }
+    heading: &Heading,
+    piece: &[u8],
+) -> Result<(), Exit>
+    requires goes_on { connection.old.ended ≡ false }
+    requires room { HasRoom connection.old }
+    requires few { length piece.now ≤ 65_536 }
+    ensures told { OnOk result ((R.custody server.new.records).sound
+        → IsToldAndWritten heading.now (server_state R.custody server.old) (server_state R.custody server.new)
+        (fed connection.old piece.now) connection.new (W.contents writer.old) (W.contents writer.new)) }
+    ensures stands { OnOk result (Stands false connection.new) }
+    ensures sound { (R.custody server.new.records).sound → (R.custody server.old.records).sound }
     ensures err { IfErr result (λ exit. IsTrue (breaks_off exit)) }
 {
-    let mut progress = Progress::Answered;
-    for outcome in outcomes {
-        progress = write_outcome(writer, connection, progress, outcome)?;
+    if let Err(error) = connection.take(piece) {
+        return Err(exit_of_refusal(error));
     }
-    Ok(progress)
+    while answer_next(server, connection, writer, heading)? {}
+    Ok(())
+}
+
+/// Hands bytes over, a piece at a time, and writes the replies to all messages that are whole after
+/// each piece. What follows the end of the session is dropped.
+fn take<R: Records, W: Write>(
+    server: &mut Server<R>,
+    connection: &mut Connection,
+    writer: &mut W,
+    heading: &Heading,
+    bytes: &[u8],
+) -> Result<(), Exit>
+    requires goes_on { connection.old.ended ≡ false }
+    requires room { HasRoom connection.old }
+    ensures taken { OnOk result ((R.custody server.new.records).sound
+        → Writes (W.contents writer.old) (W.contents writer.new)
+        (StreamTakes heading.now bytes.now connection.old connection.new
+        (server_state R.custody server.old).world (server_state R.custody server.new).world)) }
+    ensures room { OnOk result (HasRoom connection.new) }
+    ensures sound { (R.custody server.new.records).sound → (R.custody server.old.records).sound }
+    ensures err { IfErr result (λ exit. IsTrue (breaks_off exit)) }
+{
+    let mut rest = bytes;
+    while rest.len() > PIECE_BYTES {
+        let (piece, after) = rest.split_at(PIECE_BYTES);
+        take_piece(server, connection, writer, heading, piece)?;
+        if connection.has_ended() {
+            return Ok(());
+        }
+        rest = after;
+    }
+    take_piece(server, connection, writer, heading, rest)
+}
+
+/// Hands the bytes of an entry to a connection, and writes the replies to them. An entry without bytes closes
+/// it, and the next begins in its place; else one whose session has ended passes them over.
+#[tactic(auto, using(crate::proofs::TakingLemmas::closed, crate::proofs::TakingLemmas::passed_over, crate::proofs::TakingLemmas::gone_on))]
+pub fn answer_bytes<R: Records, W: Write>(
+    alloc: Global,
+    server: &mut Server<R>,
+    connection: &mut Connection,
+    writer: &mut W,
+    heading: &Heading,
+    bytes: &[u8],
+) -> Result<(), Exit>
+    requires { HasRoom connection.old }
+    ensures taken { OnOk result ((R.custody server.new.records).sound
+        → Writes (W.contents writer.old) (W.contents writer.new)
+        (ConnectionTakes heading.now bytes.now connection.old connection.new
+        (server_state R.custody server.old) (server_state R.custody server.new))) }
+    ensures room { OnOk result (HasRoom connection.new) }
+    ensures sound { (R.custody server.new.records).sound → (R.custody server.old.records).sound }
+    ensures err { IfErr result (λ exit. IsTrue (breaks_off exit)) }
+{
+    if bytes.is_empty() {
+        *connection = Connection::new(alloc);
+        return Ok(());
+    }
+    if connection.has_ended() {
+        return Ok(());
+    }
+    take(server, connection, writer, heading, bytes)
 }

@@ -1,7 +1,7 @@
 //! The settings that the environment gives by its variables, each a number.
 ghost use Rattle.std.specs.Prelude.{◌≡◌, IfErr, option_map};
 ghost use Rattle.pdpd.specs.Fault.{IsOfSetting};
-ghost use Rattle.pdpd.specs.Setting.{default_of, value_of};
+ghost use Rattle.pdpd.specs.Setting.{default_of, most_of, value_of};
 
 use crate::fault::Fault;
 use std::env::{self, VarError};
@@ -27,6 +27,10 @@ const DEFAULT_VIEWS: usize = 268_435_456;
 /// served at a time, so a silent one would stop everybody.
 const DEFAULT_IDLE: usize = 30;
 
+/// Whether a new file has sums if PDPD_SUMS isn't set: it has. By them a changed bit of a file that nobody
+/// has open is refused; without them a policy may be served that nobody wrote.
+const DEFAULT_SUMS: usize = 1;
+
 /// A setting that the environment gives.
 #[derive(Clone, Copy)]
 pub enum Setting {
@@ -40,6 +44,8 @@ pub enum Setting {
     Views,
     /// For how many seconds a connection may give nothing, or take nothing; 0 for ever.
     Idle,
+    /// 1 if a new file of a store has sums, else 0.
+    Sums,
 }
 
 impl Setting {
@@ -51,6 +57,7 @@ impl Setting {
             Setting::Reading => "PDPD_READING",
             Setting::Views => "PDPD_VIEWS",
             Setting::Idle => "PDPD_IDLE",
+            Setting::Sums => "PDPD_SUMS",
         }
     }
 
@@ -64,6 +71,7 @@ impl Setting {
             }
             Setting::Views => "PDPD_VIEWS is to be a number of bytes of memory, or 0 for none",
             Setting::Idle => "PDPD_IDLE is to be a number of seconds, or 0 for no limit",
+            Setting::Sums => "PDPD_SUMS is to be 1, or 0 for a new file without sums",
         }
     }
 
@@ -77,17 +85,30 @@ impl Setting {
             Setting::Reading => DEFAULT_READING,
             Setting::Views => DEFAULT_VIEWS,
             Setting::Idle => DEFAULT_IDLE,
+            Setting::Sums => DEFAULT_SUMS,
+        }
+    }
+
+    /// The greatest number to which its variable may be set.
+    fn most(self) -> usize
+        ensures { result ≡ most_of self }
+    {
+        match self {
+            Setting::Sums => 1,
+            Setting::Work | Setting::Reply | Setting::Reading | Setting::Views | Setting::Idle => {
+                usize::MAX
+            }
         }
     }
 
     /// What the setting is, by the text to which its variable is set, if it is. None exactly if that is no
-    /// number.
+    /// number that it may have.
     fn value_of(self, set: Option<&str>) -> Option<usize>
         ensures { result ≡ value_of self (option_map (λ text. text.now) set.entry) }
     {
         match set {
             None => Some(self.default_value()),
-            Some(text) => number_up_to(usize::MAX, text.as_bytes()),
+            Some(text) => number_up_to(self.most(), text.as_bytes()),
         }
     }
 

@@ -13,8 +13,8 @@ use xa_records::{Digest, Records};
 use xa_server::{Front, Server};
 use xa_store::SqlRecords;
 
-/// What an operator has set: the limits of a message, each 0 for none; the room for cached views; and how
-/// long a connection is waited for.
+/// What an operator has set: the limits of a message, each 0 for none; the room for cached views; how long a
+/// connection is waited for; and whether a new file has sums.
 #[derive(Clone, Copy)]
 pub struct Settings {
     /// The units of work of a decision.
@@ -27,6 +27,8 @@ pub struct Settings {
     pub views: usize,
     /// For how many seconds a connection may give nothing, or take nothing; 0 for ever.
     pub idle: usize,
+    /// Whether a new file of a store has sums.
+    pub sums: bool,
 }
 
 impl Settings {
@@ -40,6 +42,7 @@ impl Settings {
             reading: Setting::Reading.value(rt)?,
             views: Setting::Views.value(rt)?,
             idle: Setting::Idle.value(rt)?,
+            sums: Setting::Sums.value(rt)? != 0,
         })
     }
 }
@@ -83,6 +86,7 @@ pub fn front_of_tables<S: Alter + Drop>(
     settings: Settings,
 ) -> Result<Front<SqlRecords<S>>, Fault>
     ensures operator { IfOk result (λ front. front.server.operator ≡ operator) }
+    ensures records { IfOk result (λ front. front.server.records ≡ records) }
     ensures decisions { IfOk result (λ front. front.server.decisions ≡ nothing_cached) }
     ensures closed { IfOk result (λ front. front.lines ≡ none_open) }
     ensures err { IfErr result (λ fault. fault ≡ Memory) }

@@ -4,12 +4,13 @@ ghost use Rattle.sha2.specs.Sha256.{sha256};
 ghost use Rattle.xa_notation.specs.Tokens.{is_token};
 ghost use Rattle.pdpd.specs.declared.fault.Fault.TheVariants.{TokenBad};
 ghost use Rattle.pdpd.specs.Fault.{IsOfToken};
-ghost use Rattle.pdpd.specs.Token.{IsOperator, IsOperatorOf, first_line};
+ghost use Rattle.pdpd.specs.Beginning.{known_text};
+ghost use Rattle.pdpd.specs.Token.{IsOperatorIn, first_line};
 
 use crate::fault::{Fault, OneLine};
 use crate::mode::lets_others_read;
 use std::alloc::Global;
-use std::fs::{File, OpenFile};
+use std::fs::OpenFile;
 use std::io::{self, ErrorKind, Read};
 use std::os::unix::fs::PermissionsExt;
 use xa_notation::is_token;
@@ -66,8 +67,7 @@ fn fault_of_reading(error: io::Error) -> Fault
 
 /// The digest of the operator's token, which is the first line of what a reader gives.
 fn operator_of<R: Read + Drop>(alloc: Global, reader: R) -> Result<Digest, Fault>
-    ensures known { IfOk result (λ operator. IfSome (R.remaining reader) (IsOperatorOf operator)) }
-    ensures operator { IfOk result IsOperator }
+    ensures operator { IfOk result (IsOperatorIn (R.remaining reader)) }
     ensures err { IfErr result IsOfToken }
 {
     match beginning_of(alloc, reader) {
@@ -81,13 +81,17 @@ fn is_open_to_others(file: &impl OpenFile) -> bool {
     matches!(file.metadata(), Ok(found) if lets_others_read(found.permissions().mode()))
 }
 
-/// The digest of the operator's token, which is the first line of the file. A line on standard
-/// error tells of a file that others can read.
-pub fn operator_of_file(rt: &HostRuntime, path: &str) -> Result<Digest, Fault>
-    ensures operator { IfOk result IsOperator }
+/// The digest of the operator's token, which is the first line of the token file. `opened` is that file, or
+/// why it can't be opened. A line on standard error tells of a file that others can read.
+pub fn operator_of_file<F: OpenFile + Read + Drop>(
+    rt: &HostRuntime,
+    path: &str,
+    opened: io::Result<F>,
+) -> Result<Digest, Fault>
+    ensures operator { IfOk result (IsOperatorIn (known_text F.remaining opened)) }
     ensures err { IfErr result IsOfToken }
 {
-    let file = match File::open(rt, path) {
+    let file = match opened {
         Ok(file) => file,
         Err(error) => return Err(fault_of_reading(error)),
     };

@@ -3,8 +3,7 @@ use Rattle.std.specs.Prelude.{◌≡◌, ℕ, Bool, true, false, List, [], ◌�
 use Rattle.std.specs.Io.KnownBytes.{Appends, Keeps}
 use Rattle.std.specs.List.{All}
 use Rattle.std.specs.declared.io.ErrorKind.{ErrorKind}
-use Rattle.xa_server.specs.Transfers.{Grows, HasFailed, IsBrokenOff, IsWrittenWhole, IsWrittenOn, WriteEnd, bytes_taken}
-use Rattle.xa_server.specs.Transfers.{flushed, unflushed}
+use Rattle.xa_server.specs.Transfers.{Grows, HasFailed, IsWrittenOn, WriteEnd, bytes_taken, flushed, unflushed}
 
 -- a write after which there is another took so many bytes from the front of the bytes
 pub record SendsSome (bytes : List ℕ) (count : ℕ) (contents_old contents_new : Option (List ℕ))
@@ -33,19 +32,6 @@ pub record SendsPart (bytes : List ℕ) (count tried : ℕ) (contents_old conten
   pub part : bytes_taken tries ≡ take count bytes
   pub grows : Grows writes_old writes_new tries
   pub appends : Appends contents_old contents_new (take count bytes)
-
--- the bytes were taken whole and flushed, or a part from their front was taken
-abbrev pub IsTaken : Bool → List ℕ → List WriteEnd → Type 0
-IsTaken true bytes writes = IsWrittenWhole bytes writes
-IsTaken false bytes writes = IsBrokenOff bytes writes
-
--- the bytes went to the writer as `IsTaken` says
-pub record IsWritten (whole : Bool) (bytes : List ℕ) (contents_old contents_new : Option (List ℕ))
-    (writes_old writes_new : Option (List WriteEnd)) : Type 0 where
-  pub writes : List WriteEnd
-  pub taken : IsTaken whole bytes writes
-  pub grows : Grows writes_old writes_new writes
-  pub appends : Appends contents_old contents_new (bytes_taken writes)
 
 -- the writer holds none of its bytes back any more, or failed to let them go
 abbrev pub IsFlushed : Bool → Option (List ℕ) → Option (List ℕ) → Option (List WriteEnd) → Option (List WriteEnd)

@@ -4,15 +4,15 @@ use Rattle.std.specs.Io.Buffered.{writer_contents}
 use Rattle.xa_server.specs.Front.{front_state}
 use Rattle.pdpd.specs.declared.exit.Exit.{Exit}
 use Rattle.pdpd.specs.running.Reading.{remaining_of}
-use Rattle.pdpd.specs.Replay.{IsTranscriptRead, Replays}
-use Rattle.pdpd.specs.running.Replaying.{TakesAsHeld}
+use Rattle.pdpd.specs.Replay.{IsEntryReplied, IsTranscriptRead, Replays}
+use Rattle.pdpd.specs.running.Replaying.{Writes}
 use Rattle.pdpd.specs.Transcript.{TakesEntry}
 use Rattle.pdpd.proofs.HeadingLemmas.{entry_within}
 use Rattle.pdpd.proofs.ReplayLemmas.{answered_all, answered_badly, answered_more, given_all, given_badly, given_more}
 use Rattle.pdpd.proofs.replay.answer_entries.Goals as goal
 
 pub returns-in-Err-clause-replayed : goal.returns-in-Err-clause-replayed
-returns-in-Err-clause-replayed g c = λ sound known.
+returns-in-Err-clause-replayed g c = λ sound.
     let old = front_state g.R.Records.custody c.args.replayer.now.front in
     let new = front_state g.R.Records.custody c.loop-number.replayer.front in
     let left = remaining_of g.I.Read.remaining c.args.transcript.now in
@@ -21,8 +21,8 @@ returns-in-Err-clause-replayed g c = λ sound known.
     let before = writer_contents g.W.Write.contents c.args.replayer.now.writer in
     let now = writer_contents g.W.Write.contents c.loop-number.replayer.writer in
     subst (λ (e : Exit). IsTranscriptRead (Replays old new before now) left rest e) (sym c.exit.ensures.exit)
-    (answered_badly c.args.replayer.now.connections.items c.loop-number.replayer.connections.items old new left mid rest before now c.loop-number.number
-    (TakesEntry mid rest c.next_entry.new.bytes.items) c.in-Err.fault (c.loop-number.invariant.answered sound) c.in-Err.ensures known)
+    (answered_badly old new left mid rest before now c.loop-number.number
+    (TakesEntry mid rest c.next_entry.new.bytes.items) c.in-Err.fault (c.loop-number.invariant.answered sound) c.in-Err.ensures)
 
 pub returns-in-Err-clause-read : goal.returns-in-Err-clause-read
 returns-in-Err-clause-read g c =
@@ -33,7 +33,7 @@ returns-in-Err-clause-read g c =
     (given_badly left mid rest c.loop-number.number (TakesEntry mid rest c.next_entry.new.bytes.items) c.in-Err.fault c.loop-number.invariant.read c.in-Err.ensures)
 
 pub returns-in_default-clause-replayed : goal.returns-in_default-clause-replayed
-returns-in_default-clause-replayed g c = λ sound known.
+returns-in_default-clause-replayed g c = λ sound.
     let old = front_state g.R.Records.custody c.args.replayer.now.front in
     let new = front_state g.R.Records.custody c.loop-number.replayer.front in
     let left = remaining_of g.I.Read.remaining c.args.transcript.now in
@@ -42,8 +42,8 @@ returns-in_default-clause-replayed g c = λ sound known.
     let before = writer_contents g.W.Write.contents c.args.replayer.now.writer in
     let now = writer_contents g.W.Write.contents c.loop-number.replayer.writer in
     let none : TakesEntry mid rest c.next_entry.new.bytes.items None = rw c.in_default.is at c.in-Ok.ensures in
-    answered_all c.args.replayer.now.connections.items c.loop-number.replayer.connections.items old new left mid rest before now c.loop-number.number
-    c.next_entry.new.bytes.items (c.loop-number.invariant.answered sound) none known
+    answered_all old new left mid rest before now c.loop-number.number
+    c.next_entry.new.bytes.items (c.loop-number.invariant.answered sound) none
 
 pub returns-in_default-clause-read : goal.returns-in_default-clause-read
 returns-in_default-clause-read g c =
@@ -65,18 +65,15 @@ loop-number-preserved g c =
     let written = writer_contents g.W.Write.contents c.loop-number.replayer.writer in
     let now = writer_contents g.W.Write.contents c.answer_entry.new.self.writer in
     let bytes = c.next_entry.new.bytes.items in
-    let held = c.args.replayer.now.connections.items in
-    let were = c.loop-number.replayer.connections.items in
-    let are = c.answer_entry.new.self.connections.items in
     let takes : TakesEntry between rest bytes (Some c.in-Some.heading) = rw c.in-Some.is at c.in-Ok.ensures in
     record {
       sound = λ sound. c.loop-number.invariant.sound (c.in_ok-answer_entry.ensures.sound sound);
       ready = c.in_ok-answer_entry.ensures.ready;
       read = given_more left between rest c.loop-number.number c.in-Some.heading bytes c.loop-number.invariant.read takes;
       answered = λ sound.
-          answered_more held were are old mid new left between rest before written now c.loop-number.number c.in-Some.heading bytes
+          answered_more old mid new left between rest before written now c.loop-number.number c.in-Some.heading bytes
           (c.loop-number.invariant.answered (c.in_ok-answer_entry.ensures.sound sound)) takes
-          (subst (λ (bs : List ℕ). TakesAsHeld c.in-Some.heading bs were are mid new written now) c.deref.ensures.value (c.in_ok-answer_entry.ensures.replied sound));
+          (subst (λ (bs : List ℕ). Writes written now (IsEntryReplied c.in-Some.heading bs mid new)) c.deref.ensures.value (c.in_ok-answer_entry.ensures.replied sound));
     }
 
 pub answer_entry-requires-clause-within : goal.answer_entry-requires-clause-within

@@ -9,11 +9,10 @@ use Rattle.pdpd.proofs.replay.answer_entries.Given as goal
 abbrev pub invariant-loop-number : goal.invariant-loop-number
 invariant-loop-number g l = record {
   sound : (g.R.Records.custody l.replayer.front.server.records).sound → (g.R.Records.custody l.fn.replayer.front.server.records).sound;
-  ready : AreReady l.replayer.connections.items l.replayer.front.lines;
+  ready : AreReady l.replayer.front.lines;
   read : ReadTo (remaining_of g.I.Read.remaining l.fn.transcript) (remaining_of g.I.Read.remaining l.transcript) l.number;
   answered : (g.R.Records.custody l.replayer.front.server.records).sound →
-      AnsweredTo l.fn.replayer.connections.items l.replayer.connections.items
-      (front_state g.R.Records.custody l.fn.replayer.front) (front_state g.R.Records.custody l.replayer.front)
+      AnsweredTo (front_state g.R.Records.custody l.fn.replayer.front) (front_state g.R.Records.custody l.replayer.front)
       (remaining_of g.I.Read.remaining l.fn.transcript) (remaining_of g.I.Read.remaining l.transcript)
       (writer_contents g.W.Write.contents l.fn.replayer.writer) (writer_contents g.W.Write.contents l.replayer.writer) l.number;
 }

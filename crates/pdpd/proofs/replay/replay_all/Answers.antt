@@ -1,38 +1,30 @@
-use Rattle.std.proofs.Common.{◌≡◌, ◌∙◌, List, Option, ℕ, ap, subst, sym}
+use Rattle.std.proofs.Common.{◌≡◌, ◌∙◌, List, ℕ, ap, subst, sym}
 use Rattle.std.specs.Io.Buffered.{writer_contents, writer_inner}
 use Rattle.std.specs.Io.KnownBytes.{Keeps, append_known}
 use Rattle.xa_server.specs.Front.{front_state}
 use Rattle.pdpd.specs.declared.exit.Exit.{Exit}
 use Rattle.pdpd.specs.running.Reading.{remaining_of}
 use Rattle.pdpd.specs.Replay.{IsTranscriptRead, Replays}
-use Rattle.pdpd.specs.running.Replaying.{AreOf, end_of}
+use Rattle.pdpd.specs.running.Replaying.{end_of}
 use Rattle.pdpd.proofs.ReplayLemmas.{replayed_all}
-use Rattle.pdpd.proofs.replay.replay_all.Goals.{in-Ok, in-Err-answer_entries}
+use Rattle.pdpd.proofs.replay.replay_all.Goals.{in-Ok, in-Err}
 use Rattle.pdpd.proofs.replay.replay_all.Goals as goal
 
 pub returns-in-Ok-flush-clause-replayed : goal.returns-in-Ok-flush-clause-replayed
 returns-in-Ok-flush-clause-replayed g c = λ sound.
     let old = front_state g.R.Records.custody c.args.replayer.now.front in
-    let mid = front_state g.R.Records.custody c.open_all.new.self.front in
     let new = front_state g.R.Records.custody c.answer_entries.new.replayer.front in
     let left = remaining_of g.I.Read.remaining c.args.transcript.now in
     let rest = remaining_of g.I.Read.remaining c.answer_entries.new.transcript in
     let before = writer_contents g.W.Write.contents c.args.replayer.now.writer in
-    let opened = writer_contents g.W.Write.contents c.open_all.new.self.writer in
     let written = writer_contents g.W.Write.contents c.answer_entries.new.replayer.writer in
     let now = g.W.Write.contents (writer_inner c.flush.new.self) in
     let exit = c.match-answer_entries.exit in
     let same : end_of c.answer_entries.result ≡ exit
     = elim c.match-answer_entries.branch [
       | in-Ok w ↦ ap end_of w.in-Ok.is ∙ sym w.exit-is
-      | in-Err-answer_entries w ↦ ap end_of w.in-Err-answer_entries.is ∙ sym w.exit-is
+      | in-Err w ↦ ap end_of w.in-Err.is ∙ sym w.exit-is
     ] in
-    let wrote : opened ≡ before = ap (writer_contents g.W.Write.contents) c.in_default.ensures.writer in
-    let answered : AreOf c.open_all.new.self.connections.items mid.lines → IsTranscriptRead (Replays mid new before written) left rest exit
-    = λ known.
-    subst (λ (e : Exit). IsTranscriptRead (Replays mid new before written) left rest e) same
-    (subst (λ (b : Option (List ℕ)). IsTranscriptRead (Replays mid new b written) left rest (end_of c.answer_entries.result)) wrote
-    (c.answer_entries.ensures.replayed sound known)) in
-    replayed_all c.open_all.new.self.connections.items old mid new left rest before written now exit c.in_default.ensures.opened
-    (c.in_default.ensures.server (c.answer_entries.ensures.sound sound)) c.in_default.ensures.ready answered
+    replayed_all old new left rest before written now exit c.requires
+    (subst (λ (e : Exit). IsTranscriptRead (Replays old new before written) left rest e) same (c.answer_entries.ensures.replayed sound))
     (subst (λ (bytes : List ℕ). Keeps written (append_known now bytes)) c.in-Ok-flush.ensures.ok c.in-Ok-flush.ensures.bytes)

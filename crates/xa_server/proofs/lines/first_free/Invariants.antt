@@ -5,4 +5,4 @@ use Rattle.xa_server.proofs.lines.first_free.Given as goal
 
 -- none before is free
 abbrev pub invariant-loop-number : goal.invariant-loop-number
-invariant-loop-number l = first_free l.lines ≡ first_free_from l.number (drop l.number l.lines)
+invariant-loop-number l = first_free l.connections ≡ first_free_from l.number (drop l.number l.connections)

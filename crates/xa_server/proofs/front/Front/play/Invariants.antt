@@ -1,15 +1,13 @@
-use Rattle.std.proofs.Common.{◌≡◌, ◌≤◌, length, take, vec_capacity, vec_len, List, Option}
-use Rattle.xa_http.specs.declared.session.Next.{Next}
-use Rattle.xa_server.specs.Front.{Plays, front_state}
-use Rattle.xa_server.specs.Fronting.{CountsOutcomes, IfAllSent, PlaysLines}
+use Rattle.std.proofs.Common.{◌≡◌, ◌≤◌, length, take, vec_capacity, vec_len}
+use Rattle.xa_server.specs.Front.{IsPlayed, front_state}
+use Rattle.xa_server.specs.Fronting.{CountsOutcomes, IfAllSent}
 use Rattle.xa_server.proofs.front.Front.play.Given as goal
 
 -- what was played so far, and room for the outcomes that are left
 abbrev pub invariant-loop-event : goal.invariant-loop-event
 invariant-loop-event g l = record {
-  played : (g.R.Records.custody l.self.server.records).sound →
-      (nexts : List (Option Next)) × Plays (take l.event-index l.events) l.outcomes.items nexts (front_state g.R.Records.custody l.fn.self) (front_state g.R.Records.custody l.self);
-  lines : PlaysLines (take l.event-index l.events) l.outcomes.items l.fn.self.lines l.self.lines;
+  played : IsPlayed (g.R.Records.custody l.self.server.records).sound (front_state g.R.Records.custody l.fn.self) (front_state g.R.Records.custody l.self)
+      (take l.event-index l.events) l.outcomes.items;
   sound : (g.R.Records.custody l.self.server.records).sound → (g.R.Records.custody l.fn.self.server.records).sound;
   clean : (g.R.Records.custody l.self.server.records).clean → (g.R.Records.custody l.fn.self.server.records).clean;
   stays : (g.R.Records.custody l.self.server.records).clean → (g.R.Records.custody l.fn.self.server.records).sound →

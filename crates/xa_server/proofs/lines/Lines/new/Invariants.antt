@@ -2,4 +2,4 @@ use Rattle.std.proofs.Common.{◌≡◌, None, replicate}
 use Rattle.xa_server.proofs.lines.Lines.new.Given as goal
 
 abbrev pub invariant-loop : goal.invariant-loop
-invariant-loop l = l.sessions.items ≡ replicate l.counter None
+invariant-loop l = l.connections.items ≡ replicate l.counter None
