@@ -23,8 +23,8 @@ sys.path.insert(0, str(TOP / "tests"))
 
 from checks import Checks  # noqa: E402
 from deployed import (  # noqa: E402
-    attacks_front, attacks_local, attacks_pdpd, backups, changes, clients, failures, machine, replies, slowness,
-    units)
+    attacks_front, attacks_local, attacks_pdpd, attacks_proxy, backups, changes, clients, failures, machine, replies,
+    slowness, units)
 from deployed.clients import Operator  # noqa: E402
 
 PARTS = (
@@ -32,16 +32,16 @@ PARTS = (
     replies.examples, replies.desk, replies.odd, replies.paths, replies.listing,
     slowness.slow, slowness.slow_readers, slowness.rates,
     failures.restarts, failures.kills, failures.stuck, failures.watched, failures.unkilled,
-    failures.unstarted, failures.holding,
-    backups.backups, backups.checkpoints, backups.anew,
+    failures.behind_several, failures.unstarted, failures.holding,
+    backups.backups, backups.checkpoints, backups.emptied, backups.anew,
     changes.moves, changes.crossed, changes.killed, changes.keeping,
-    *attacks_front.ATTACKS, *attacks_local.ATTACKS, *attacks_pdpd.ATTACKS,
+    *attacks_front.ATTACKS, *attacks_local.ATTACKS, *attacks_pdpd.ATTACKS, *attacks_proxy.ATTACKS,
     units.certificate, units.want_of_memory, units.upgrade, changes.growth, changes.miscounted, units.status,
     units.secrets)
 # words that name several of them
 GROUPS = {"attacks_front": attacks_front.ATTACKS, "attacks_local": attacks_local.ATTACKS,
-          "attacks_pdpd": attacks_pdpd.ATTACKS,
-          "attacks": (*attacks_front.ATTACKS, *attacks_local.ATTACKS, *attacks_pdpd.ATTACKS)}
+          "attacks_pdpd": attacks_pdpd.ATTACKS, "attacks_proxy": attacks_proxy.ATTACKS,
+          "attacks": (*attacks_front.ATTACKS, *attacks_local.ATTACKS, *attacks_pdpd.ATTACKS, *attacks_proxy.ATTACKS)}
 
 
 # of so many names is told what became of them, and so many lines of each log are kept

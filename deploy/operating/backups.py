@@ -8,6 +8,7 @@ refused as damaged, or, worse, open and lack what was answered.
 import contextlib
 import os
 import pathlib
+import re
 import shutil
 import signal
 import subprocess
@@ -18,6 +19,10 @@ from . import listener, supervisor
 from .owned import Folder
 from .settings import Wrong, alone, harmless, put_off_signals
 from .trial import copy_files, domains_in_backup
+
+
+# the file of a backup that has its number of domains, and that of the backup before
+COUNTS = "domains"
 
 
 def state_of(pid):
@@ -86,7 +91,10 @@ def backup(settings, shard):
         try:
             with folders.new_folder(f".{name}") as unfinished:
                 took = fill_backup(settings, shard, pid, unfinished)
-            domains = domains_in_backup(settings, shard, path / f".{name}")
+                domains = domains_in_backup(settings, shard, path / f".{name}")
+                before, _ = counts_of_newest(settings, shard)
+                unfinished.write(COUNTS, f"{len(domains)}\n{before} in the backup before\n")
+                unfinished.sync()
             os.rename(f".{name}", name, src_dir_fd=folders.fd, dst_dir_fd=folders.fd)
             folders.sync()
         finally:
@@ -99,6 +107,24 @@ def backup(settings, shard):
 def backups_of(settings, shard):
     """The folders of a shard's backups, the oldest first."""
     return sorted((pathlib.Path(settings.backups) / str(shard)).glob("[0-9]*"))
+
+
+def counts_of_newest(settings, shard):
+    """How many domains a shard's newest backup has, and how many the one before it had; 0 where that isn't known."""
+    for folder in backups_of(settings, shard)[-1:]:
+        with contextlib.suppress(FileNotFoundError):
+            lines = re.fullmatch(r"(\d+)\n(\d+) in the backup before\n", (folder / COUNTS).read_text())
+            return (int(lines[1]), int(lines[2])) if lines else (0, 0)
+    return 0, 0
+
+
+def emptied(settings, shard):
+    """What is told where a shard's newest backup has no domain, and the one before it had some."""
+    now, before = counts_of_newest(settings, shard)
+    if now or not before:
+        return None
+    return (f"shard {shard} has no domain any more, and {before} in the backup before. If that is meant, the next "
+            "backup says nothing of it")
 
 
 def summary(path, domains, took):
@@ -115,6 +141,8 @@ def keep_making(read, seconds):
                 with alone():
                     path, domains, took = backup(settings, shard)
                 print(f"backup of shard {shard}: {summary(path, domains, took)}", flush=True)
+                if found := emptied(settings, shard):
+                    print(f"WRONG: {found}", file=sys.stderr, flush=True)
             except (Wrong, OSError, subprocess.SubprocessError) as fault:
                 print(harmless(f"NO BACKUP of shard {shard}: {fault}"), file=sys.stderr, flush=True)
         time.sleep(seconds)

@@ -91,9 +91,7 @@ def upgrade(settings, words):
 def show_status(settings, words):
     lines, wrong = status.report(settings)
     print("\n".join(lines))
-    for what in wrong:
-        print(harmless(f"WRONG: {what}"))
-    return 1 if wrong else 0
+    return tell_wrong(wrong)
 
 
 def where(settings, words):
@@ -103,11 +101,22 @@ def where(settings, words):
     print(talk.place(settings, talk.map_in_file(settings), domain))
 
 
+def tell_wrong(found):
+    """Tells what is wrong, and gives the exit status of that."""
+    for what in found:
+        print(harmless(f"WRONG: {what}"), flush=True)
+    return 1 if found else 0
+
+
 def backup(settings, words):
+    ends = 0
     for shard in shards_in(settings, words):
         with alone():
             path, domains, took = backups.backup(settings, shard)
         say(f"backup of shard {shard}: {backups.summary(path, domains, took)}")
+        if found := backups.emptied(settings, shard):
+            ends = tell_wrong([found])
+    return ends
 
 
 def list_backups(settings, words):

@@ -12,6 +12,8 @@ CONTROLS = r"[\x00-\x08\x0b\x0c\x0e-\x1f\x7f]"
 # The longest message (16,384 bytes more) and the longest reply that a client gets each fit into a buffer. So pdpd gets
 # no message before its last byte is here, and is rid of its reply whether the client takes it or not.
 MOST_BODY, MOST_REPLY, BUFFER = 524_288, 1_000_000, 1_048_576
+# how many bytes of a client the machine takes before HAProxy does
+AT_ONCE = 65_536
 # lists of all domains that are put together at a time
 LISTS = 4
 # connections of the tools, of the watchdog and of lists, beside those of clients
@@ -35,6 +37,7 @@ def global_part(settings):
     user = settings.haproxy_user
     rights = f"    user {user}\n    group {user}\n" if user else ""
     most = settings.clients + (settings.under_way if has_two_steps(settings) else 0) + SPARE
+    buffers = settings.clients + SPARE + (3 if has_two_steps(settings) else 2) * settings.under_way
     return f"""\
 global
     nbthread {settings.threads}
@@ -44,9 +47,12 @@ global
     # clients have fewer, so the tools always have room
     maxconn {most}
     tune.bufsize {BUFFER}
-    # the most memory: a buffer for each connection, and two for each message
-    tune.buffers.limit {most + 2 * settings.under_way}
+    # the most memory: a buffer for each connection of clients and of the tools, and for each message two, or three if
+    # it goes through HAProxy twice
+    tune.buffers.limit {buffers}
     tune.maxrewrite 1024
+    # as much of one connection is worked through before the others' turn: a buffer full of frames takes seconds
+    tune.rcvbuf.client {AT_ONCE}
     tune.http.maxhdr 128
     tune.h2.max-concurrent-streams 10
     hard-stop-after 15s

@@ -3,7 +3,7 @@ import shutil
 import time
 
 from . import listener, talk, trial
-from .backups import backups_of
+from .backups import backups_of, emptied
 from .settings import Wrong
 
 # when a backup is too old, in seconds; how full a disk may be
@@ -44,6 +44,8 @@ def of_shard(settings, shard, known):
     old = age(settings, shard)
     if old is None or old > OLD:
         wrong.append(f"shard {shard} has no backup of the last two hours")
+    if found := emptied(settings, shard):
+        wrong.append(found)
     folder = settings.folder(shard)
     last = "none" if old is None else f"{old / 60:.0f} min ago"
     sizes = [f"{size(folder / name):.1f}" for name in trial.FILES]

@@ -22,9 +22,19 @@ def run(*words):
     return result.stdout.strip()
 
 
+def close_sockets_folder(settings):
+    """Has root alone put anything into the folder of HAProxy's sockets. HAProxy begins as root, and gives those that it
+    makes there to its user, who could have put a link in their place."""
+    place = pathlib.Path(settings.haproxy_run)
+    if place.is_dir():
+        os.chown(place, 0, 0)
+        place.chmod(0o755)
+
+
 class Systemd:
     """Units pdpd@N, pdpd-backup@N.timer, pdpd-watchdog and haproxy."""
-    PLACES = pathlib.Path("/etc/systemd/system/pdpd-backup@.service.d/backups.conf")
+    UNITS = pathlib.Path("/etc/systemd/system")
+    PLACES, PROXY = UNITS / "pdpd-backup@.service.d/backups.conf", UNITS / "haproxy.service.d/pdpd.conf"
 
     def __init__(self, settings):
         self.settings = settings
@@ -46,12 +56,23 @@ class Systemd:
         """Has the unit of backups, which may change nothing else, write where BACKUPS says."""
         place = pathlib.Path(self.settings.backups)
         place.mkdir(mode=0o711, exist_ok=True)
-        self.PLACES.parent.mkdir(mode=0o755, exist_ok=True)
-        write_whole(self.PLACES, f'[Service]\nReadWritePaths="-{str(place).replace("%", "%%")}"\n')
+        self.add_to_unit(self.PLACES, f'ReadWritePaths="-{place}"')
+
+    def close_sockets_folder(self):
+        """Does so now, and before each start of HAProxy: Debian's package gives the folder to HAProxy's user."""
+        close_sockets_folder(self.settings)
+        command = f'/usr/bin/install -d -o root -g root -m 755 "{self.settings.haproxy_run}"'
+        self.add_to_unit(self.PROXY, f"ExecStartPre={command}")
+
+    def add_to_unit(self, path, line):
+        """Writes a file with a line that systemd adds to a service's unit."""
+        path.parent.mkdir(mode=0o755, exist_ok=True)
+        write_whole(path, f"[Service]\n{line.replace('%', '%%')}\n")
 
     def set_up(self, shards):
         """Has these shards, and what belongs to them, run now and after each start of the machine."""
         self.allow_backups()
+        self.close_sockets_folder()
         timers = [f"pdpd-backup@{shard}.timer" for shard in shards]
         run("systemctl", "daemon-reload")
         run("systemctl", "enable", "--now", *(f"pdpd@{shard}" for shard in shards), *timers, "pdpd-watchdog")
@@ -63,6 +84,7 @@ class Systemd:
     def renew(self):
         """Has services run what is installed now, but for the shards and HAProxy."""
         self.allow_backups()
+        self.close_sockets_folder()
         run("systemctl", "daemon-reload")
         run("systemctl", "restart", "pdpd-watchdog")
 
@@ -72,6 +94,7 @@ class Runit:
     BESIDE = ("pdpd-watchdog", "pdpd-backups")
 
     def __init__(self, settings):
+        self.settings = settings
         self.services = pathlib.Path(settings.services)
         self.folders = pathlib.Path(settings.service_folders)
 
@@ -143,6 +166,7 @@ class Runit:
         self.add("haproxy", "haproxy")
 
     def renew(self):
+        close_sockets_folder(self.settings)
         for name in self.BESIDE:
             self.sv("restart", name)
 

@@ -24,6 +24,8 @@ LEASE = 10
 TURN = 0.02
 # after how long a process of HAProxy has gone once another has begun (`hard-stop-after`)
 HARD_STOP = 15
+# how many bytes of a reply are read: HAProxy's user may write without an end
+MOST = 2 ** 26
 # what is raised if there is no reply, or a part of one alone
 NO_REPLY = OSError, http.client.HTTPException
 
@@ -38,10 +40,12 @@ def admin_reply(settings, command):
         admin.settimeout(10)
         admin.connect(f"{settings.haproxy_run}/admin.sock")
         admin.sendall(command.encode() + b"\n")
-        reply = b""
+        reply = bytearray()
         while data := admin.recv(65_536):
             reply += data
-    return reply.decode()
+            if len(reply) > MOST:
+                raise Wrong(f"HAProxy answers more than {MOST} bytes to {command}: look who has its user")
+    return reply.decode(errors="replace")
 
 
 class Inner(http.client.HTTPConnection):
@@ -66,7 +70,7 @@ def shard_reply(settings, shard, method, path, token, *, in_turn=False, timeout=
     try:
         connection.request(method, path, body, fields)
         reply = connection.getresponse()
-        return reply.status, reply.read()
+        return reply.status, reply.read(MOST)
     finally:
         connection.close()
 
@@ -198,8 +202,8 @@ def asked_port(settings, shard):
 def lead(settings, shard):
     """Has the HAProxy that runs ask a shard, which was just started, and at the port of the settings."""
     said = admin_reply(settings, f"set server shard{shard}/pdpd addr 127.0.0.1 port {settings.port(shard)}").strip()
-    # (either `port changed from ..` or `no need to change the port`)
-    if " port" not in said:
+    # (HAProxy 3.0 says `nothing changed`)
+    if not re.search("port changed|no need to change the port|nothing changed", said):
         raise Wrong(f"HAProxy: {said}")
     admin_reply(settings, f"set server shard{shard}/pdpd state ready")
 

@@ -1,11 +1,12 @@
 """Kills a pdpd that is stuck, so that its supervisor starts it again.
 
 Each second each shard is asked for a decision, on a connection of the watchdog's own: so nothing that clients do
-at HAProxy counts. The question waits for the message that is being answered, and for no other. Stuck is a program
-that takes connections and gives no reply for five seconds, which is more than a decision request may take under the
-limit of work that is set by default. Its process is killed; what it has answered is kept. A shard that takes no
-connections is down, or still opening its file: its supervisor's affair. So is one that has begun to take them
-meanwhile. One whose port another program has is taken, and nothing is killed.
+at HAProxy counts. The question waits for the messages that HAProxy has sent before, and for no other: there are
+MAXCONN of them at the most. Stuck is a program that takes connections and gives no reply for five seconds for each of
+these. That is more than a decision request may take under the limit of work that is set by default. Its process is
+killed; what it has answered is kept. A shard that takes no connections is down, or still opening its file: its
+supervisor's affair. So is one that has begun to take them meanwhile. One whose port another program has is taken, and
+nothing is killed.
 
 With KEEP=1 HAProxy has the one connection that a program serves. Then it is asked through HAProxy, and stuck is what
 gives HAProxy itself no reply on an established connection (504), which takes from 12 to 24 seconds.
@@ -21,6 +22,7 @@ import time
 from . import listener, supervisor, talk
 from . import settings as setting
 
+# how long a message may take, and how long is waited between two looks, in seconds
 LIMIT, PAUSE = 5.0, 1.0
 # for so many seconds after a kill no other shard is killed by one look alone
 ROUND = 10.0
@@ -49,10 +51,16 @@ KILLS = Kills()
 OWN = {}
 
 
+def patience(settings):
+    """How long a shard may give no reply, in seconds: it serves one connection after another, and MAXCONN of HAProxy's
+    may stand before the question."""
+    return LIMIT * settings.maxconn
+
+
 def asked(settings, shard):
     """Whether a shard is `up`, is `silent` though it takes a connection, or is `down`: on a connection of our own."""
     method, path, body = QUESTION
-    connection = http.client.HTTPConnection("127.0.0.1", settings.port(shard), timeout=LIMIT)
+    connection = http.client.HTTPConnection("127.0.0.1", settings.port(shard), timeout=patience(settings))
     try:
         connection.request(method, path, body, {"Connection": "close"})
         connection.getresponse()

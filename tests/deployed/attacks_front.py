@@ -16,7 +16,7 @@ from .attacking import (
     WATCHDOG, Crowd, InPlace, Outsider, counted, kills, outside, outsiders, pids, proxy_clock, proxy_mebibytes)
 from .clients import Deciders, decision, many, message, once, read, status
 from .http2 import Http2, of_message
-from .machine import LIBRARY, PLAIN, shards, wait_until
+from .machine import LIBRARY, PLAIN, backs_up, shards, wait_until
 
 LIST = b"GET", b"/operator/domains"
 # two rounds of the watchdog, and a second
@@ -28,7 +28,7 @@ def unharmed(checks, what, before):
     """No shard is killed, or said to be stuck; the tools reach each."""
     checks.expect(f"{what}: the programs, and kills", (pids(), kills()), before)
     began = time.time()
-    checks.expect(f"{what}: the tools reach all", len(shards("backup").splitlines()), 4)
+    checks.expect(f"{what}: the tools reach all", len(backs_up().splitlines()), 4)
     checks.say(f"{what}: the tools took {time.time() - began:.1f} s")
 
 

@@ -12,7 +12,7 @@ from checks import Between
 
 from .clients import Deciders, decision, many, once
 from .machine import (
-    LIBRARY, SETTINGS, admin, as_user, instead_of, pid, port, sh, shards, user_words, wait_until)
+    LIBRARY, SETTINGS, admin, as_user, backs_up, instead_of, pid, port, sh, shards, user_words, wait_until)
 
 NOBODY = "nobody"
 # It waits until it may take connections at a port, says so, and then whatever it is sent; it answers as a shard would
@@ -120,7 +120,7 @@ def impostors(machine, checks):
     low = port(0)
     machine.set(FIRST_PORT=7100)
     shards("restart")
-    shards("backup")
+    backs_up()
     said = shards("status", status=1)
     checks.expect(f"ports of everybody: {said}", "WRONG: every user of this machine can take" in said, True)
     late = 'case "$*" in "up /etc/service/pdpd-1") sleep 1;; esac\nexec $REAL "$@"'
@@ -233,7 +233,7 @@ def hanging(machine, checks):
     wait_until(machine.operator.is_answered, "the shard isn't there again")
     checks.expect("behind it", [decision(once(ask)) for ask, _ in asks], [wanted for _, wanted in asks])
     checks.expect("no backup counts", shards("backups"), before)
-    shards("backup", 1)
+    backs_up(1)
 
 
 # ---- the trial of a backup
@@ -254,7 +254,7 @@ def trials(machine, checks):
     sh("install -m 666 /dev/null /tmp/told")
     sh(f"echo PROGRAM={program} >> {SETTINGS}")
     try:
-        shards("backup", 0)
+        backs_up(0)
     finally:
         sh(f"sed -i '/^PROGRAM=/d' {SETTINGS}")
     user, rights, words, token = pathlib.Path("/tmp/told").read_text().split("\n")[:4]
@@ -266,7 +266,7 @@ def trials(machine, checks):
     checks.expect("its token is none that opens anything else", is_other, True)
     with Local(NOBODY, KNOCKER, place) as knocker:
         for _ in range(3):
-            shards("backup", 0)
+            backs_up(0)
         checks.say(f"a trial beside a user that came {knocker.said().count('connected')} times")
     with Local("root", THIEF, place) as thief:
         wait_until(lambda: "taken" in thief.said(), "the port isn't taken")
@@ -297,6 +297,7 @@ def confined(machine, checks):
     backup = f"{sys.executable} {LIBRARY}/pdpd-shards backup 2"
     script += f"mount -t tmpfs tmpfs /tmp; exec setpriv --no-new-privs --bounding-set=-all,{rights} {backup}"
     # (what is kept has a number that may be reached: new names count)
+    backs_up(2)
     kept = pathlib.Path("/var/lib/pdpd-backups/2")
     before = set(kept.iterdir())
     sh(f"unshare --mount bash -ec {shlex.quote(script)}")
@@ -322,9 +323,13 @@ def elsewhere(machine, checks):
     said = sh("cat '/etc/systemd/system/pdpd-backup@.service.d/backups.conf'")
     checks.expect("where it may write then", said, f'[Service]\nReadWritePaths="-{folder}"\n')
     checks.expect("the folder", owner_and_mode(f"'{folder}'"), "root root 711 directory")
-    said = sh("cd /etc/systemd/system && systemd-analyze verify ./pdpd-backup@0.service 2>&1 || true")
-    checks.expect("the unit", said, "")
-    sh("rm -r '/etc/systemd/system/pdpd-backup@.service.d'")
+    taken = "ExecStartPre=/usr/bin/install -d -o root -g root -m 755"
+    said = sh("cat /etc/systemd/system/haproxy.service.d/pdpd.conf")
+    checks.expect("what is done before HAProxy starts", said, f'[Service]\n{taken} "/run/haproxy"\n')
+    said = sh("cd /etc/systemd/system && cp /lib/systemd/system/haproxy.service . && "
+              "systemd-analyze verify ./pdpd-backup@0.service ./haproxy.service 2>&1 || true")
+    checks.expect("the units", said, "")
+    sh("cd /etc/systemd/system && rm -r 'pdpd-backup@.service.d' haproxy.service*")
 
 
 ATTACKS = (thieves, impostors, locks, hanging, trials, confined)

@@ -15,7 +15,7 @@ from unittest import mock
 from checks import Between
 
 from .clients import Load, Makers, decision, many, message, once, policy, status
-from .machine import LIBRARY, admin, ended_shards, sh, shards, wait_until
+from .machine import LIBRARY, admin, backs_up, ended_shards, sh, shards, wait_until
 
 BACKUPS = 50
 # so many of the texts that were uploaded last are kept, and the others are deleted
@@ -126,7 +126,7 @@ def wait_for_log(uploads, log):
 def put_back(machine, checks, shard):
     """A domain is removed, and is there again once the backup is put back."""
     ask = message("POST", "/domains/acme/pdp", "acme-token-1", '{"Request":{}}')
-    name = re.search(rf"/{shard}/([^,]+), ", shards("backup", shard))[1]
+    name = re.search(rf"/{shard}/([^,]+), ", backs_up(shard))[1]
     checks.expect("the domain is removed", status(once(machine.operator.message("DELETE", "/acme"))), 200)
     checks.expect("and away", status(once(ask)), 401)
     shards("put-back", shard, name)
@@ -189,13 +189,39 @@ def domains_in(shard, folder):
     return sorted(trial.domains_in_backup(read(), shard, folder))
 
 
+def emptied(machine, checks):
+    """A backup of a shard that has lost all its domains says so, and ends with 1, and so does the status until the next
+    one. It counts all the same."""
+    machine.operator.clear()
+    backs_up()
+    machine.operator.makes("acme")
+    shard = int(shards("where", "acme"))
+    told = f"WRONG: shard {shard} has no domain any more, and 1 in the backup before"
+    checks.expect("with a domain", told in shards("backup", shard) + shards("status"), False)
+    checks.expect("the domain is removed", status(once(machine.operator.message("DELETE", "/acme"))), 200)
+    before = shards("backups").count("\n")
+    said = shards("backup", shard, status=1)
+    checks.expect(f"without one: {said}", told in said, True)
+    checks.expect("it counts", shards("backups").count("\n"), before + 1)
+    said = shards("status", status=1)
+    checks.expect(f"the status: {said}", told in said, True)
+    checks.expect("the next one", told in shards("backup", shard) + shards("status"), False)
+    machine.operator.makes("acme")
+    shards("backup", shard)
+    checks.expect("the domain is removed again", status(once(machine.operator.message("DELETE", "/acme"))), 200)
+    log = pathlib.Path("/var/log/pdpd/pdpd-backups/current")
+    count = log.read_text().count(told)
+    sh("sv restart pdpd-backups")
+    wait_until(lambda: log.read_text().count(told) > count, "the service that makes backups doesn't say so")
+
+
 def anew(machine, checks):
     """All files and the map are lost: with the backups, a machine that begins anew has each domain again."""
     machine.operator.clear()
     asks = many(machine, 8)
     shard = int(shards("where", "d0"))
     shards("move", "d0", shard, (shard + 1) % 4)
-    shards("backup")
+    backs_up()
     names = dict(line.split() for line in shards("backups").splitlines())
     sh("sv force-stop /etc/service/pdpd-[0-3] > /dev/null || true; rm -r /var/lib/pdpd/[0-3] /etc/haproxy/domains.map")
     sh("sv up /etc/service/pdpd-[0-3]")

@@ -1,6 +1,7 @@
 """What goes wrong: restarts, kills, programs that are stuck."""
 import contextlib
 import io
+import json
 import os
 import signal
 import socket
@@ -13,7 +14,8 @@ from unittest import mock
 from checks import Between
 
 from . import clients
-from .clients import Client, Deciders, Makers, decision, many, once
+from .attacking import kills as killed_by_watchdog
+from .clients import Client, Deciders, Load, Makers, decision, many, message, once, status
 from .machine import LIBRARY, pid, port, refuse_starts, sh, shards, wait_until
 
 KILLS = 20
@@ -100,6 +102,56 @@ def says_nothing():
             behind.send(b"GET / HTTP/1.1\r\nConnection: close\r\n\r\n")
             behind.all()
             return time.time() - began
+
+
+# the limit of work that is installed, and the most that its page allows; how long the dearest message is to take here
+WORK, MOST_WORK, DEAR = 150_000_000, 2_400_000_000, 2.5
+CONTAINS = "urn:oasis:names:tc:xacml:3.0:function:string-contains"
+
+
+def makes_dear(operator, name):
+    """Makes a domain, and gives an ask of it that only the limit of work ends: 64 decisions, each of which looks for
+    3,000 texts in 3,000 others."""
+    values = {"AttributeDesignator": {"Category": "Resource", "DataType": "string", "MustBePresent": False}}
+    one, other = ({"AttributeDesignator": {**values["AttributeDesignator"], "AttributeId": word}} for word in "ab")
+    function = {"FunctionId": "urn:oasis:names:tc:xacml:3.0:function:any-of-any",
+                "Expression": [{"Function": {"FunctionId": CONTAINS}}, one, other]}
+    text = json.loads(clients.policy("Permit"))
+    text["Policy"]["Rule"][0]["Condition"] = {"Apply": function}
+    operator.makes(name, text=json.dumps(text))
+    attributes = [{"AttributeId": word, "Value": [f"{word}{number:04}" for number in range(3000)]} for word in "ab"]
+    asked = {"Resource": {"Id": "r", "Attribute": attributes},
+             "MultiRequests": {"RequestReference": [{"ReferenceId": "r"}] * 64}}
+    return message("POST", f"/domains/{name}/pdp", f"{name}-token-1", json.dumps({"Request": asked}))
+
+
+def time_of(ask, shard):
+    """How many seconds a shard takes to give that up, for its limit of work."""
+    began = time.time()
+    found = status(once(ask, port(shard)))
+    if found != 503:
+        raise RuntimeError(f"the dearest message is answered with {found}")
+    return time.time() - began
+
+
+def behind_several(machine, checks):
+    """With MAXCONN=4 three messages wait in the program behind the one that is answered. While each is as dear as the
+    limit of work allows, the watchdog's question waits behind them all, and nothing is killed."""
+    operator = machine.operator
+    operator.clear()
+    ask = makes_dear(operator, "dear")
+    shard = int(shards("where", "dear"))
+    # (the program may be one of another speed, on a machine that others use)
+    work = min(MOST_WORK, int(WORK * DEAR / max(time_of(ask, shard), time_of(ask, shard))))
+    machine.set(MAXCONN=4, WORK=work)
+    shards("restart", shard)
+    checks.say(f"the dearest message takes {time_of(ask, shard):.1f} s, by WORK={work}")
+    before = pid(shard), killed_by_watchdog()
+    with Load(lambda _number: once(ask), 8):
+        time.sleep(25)
+    checks.expect("the program, and kills", (pid(shard), killed_by_watchdog()), before)
+    machine.set(MAXCONN=1, WORK=WORK)
+    shards("restart", shard)
 
 
 class Mute:

@@ -27,6 +27,7 @@ WANTED = {
     "curl": "curl", "wrk": "wrk", "openssl": "openssl", "unshare": "util-linux", "setpriv": "util-linux",
     "ip": "iproute2",
     "systemd-analyze": "systemd", "useradd": "passwd", "strace": "strace", "cc": "gcc",
+    "sqlite3": "sqlite3",
 }
 INSIDE = "DEPLOY_TEST_FOLDER"
 PLAIN = 8080
@@ -194,6 +195,17 @@ def shards(*words, status=0):
         given = " ".join(map(str, words))
         raise RuntimeError(f"pdpd-shards {given} ends with {ran.returncode}:\n{ran.stdout}")
     return ran.stdout
+
+
+def backs_up(*words):
+    """Makes backups, and gives what is said. Where the test has removed all domains of a shard, which is told once,
+    they are made again."""
+    ran = subprocess.run(["pdpd-shards", "backup", *map(str, words)], stdin=subprocess.DEVNULL, capture_output=True,
+                         text=True, check=False, timeout=PATIENCE)
+    is_told = ran.returncode == 1 and "has no domain any more" in ran.stdout
+    if ran.returncode and not is_told:
+        raise RuntimeError(f"a backup ends with {ran.returncode}:\n{ran.stdout}{ran.stderr}")
+    return shards("backup", *words) if is_told else ran.stdout
 
 
 def ended_shards(folder, ending, *words):

@@ -10,9 +10,9 @@ import time
 
 from checks import Between
 
-from .clients import Deciders, Makers, making, many, once
+from .clients import Deciders, Makers, making, many, message, once
 from .clients import status as status_of
-from .machine import LIBRARY, PAGE, SETTINGS, TOP, pid, sh, shards, wait_until
+from .machine import LIBRARY, PAGE, SETTINGS, TOP, as_user, backs_up, pid, sh, shards, wait_until
 
 SWITCHES = ("KEEP=1", "RETRY=1", "THREADS=4", "MAXCONN=4", "RATE=100", "PLAIN_BIND=127.0.0.1:8081",
             "TLS_BIND=", "TLS_BIND=[::]:443 v4v6", "HAPROXY_USER=", "LOG=/dev/log local0", "RETRY=1;THREADS=4;RATE=5",
@@ -247,7 +247,7 @@ def service(name):
 
 def another_schema(machine, checks):
     """A file whose tables are of another schema."""
-    name = re.search(r"/0/([^,]+), ", shards("backup", 0))[1]
+    name = re.search(r"/0/([^,]+), ", backs_up(0))[1]
     folder = machine.folder / "schema"
     shutil.copytree(f"/var/lib/pdpd-backups/0/{name}", folder)
     sys.path.insert(0, str(LIBRARY))
@@ -264,7 +264,7 @@ def another_schema(machine, checks):
 
 def status(machine, checks):
     """What `pdpd-shards status` says while all is well, and while a shard is away."""
-    shards("backup")
+    backs_up()
     said = shards("status")
     count = len(re.findall(r"(?m)^\d+ +up ", said))
     checks.expect("each shard is up", count, int(re.search(r"(?m)^SHARDS=(\d+)", SETTINGS.read_text())[1]))
@@ -284,13 +284,50 @@ def status(machine, checks):
     shards("restart", 1)
 
 
+# what is kept, and what other users have to come through to get there
+KEPT = ("/var/lib/pdpd", "/var/lib/pdpd-backups", "/var/log/pdpd", "/run/pdpd", "/etc/pdpd/token",
+        "/etc/haproxy/pdpd.pem", "/etc/haproxy/pdpd.key")
+
+
 def secrets(machine, checks):
-    """No token stands in a log, and nobody but pdpd and root reads what is kept."""
+    """No token stands in a log, in a store, in a backup, or in what a process was started with; and no other user reads
+    what is kept, or a log."""
+    operator = machine.operator
+    operator.clear()
+    asks = many(machine, 8)
+    wrong = "no-such-token-1"
+    sent = [*(ask for ask, _ in asks), message("GET", "/operator/domains", wrong), message("HEAD", "/", wrong),
+            message("GET", "/domains/d1/pip/none?x", wrong), operator.message("GET", "/no-such-route"),
+            message("POST", "/domains/d1/pap/policies", "d1-token-1", "{")]
+    checks.expect("all are answered", [status_of(once(data)) is None for data in sent], [False] * len(sent))
+    backs_up()
+    name = re.findall(r"(?m)^1 (\S+)", shards("backups"))[-1]
+    shards("put-back", 1, name)
     token = pathlib.Path("/etc/pdpd/token").read_text().strip()
-    for word in (token, "acme-token-1", "d1-token-1"):
-        checks.expect(f"a token in a log: {word[:6]}", sh(f"grep -rl -- {word} /var/log/pdpd || true"), "")
-    others = sh("find /var/lib/pdpd-backups /run/pdpd -mindepth 1 -perm /o=rwx; find /etc/pdpd/token -perm /o=rwx")
-    checks.expect("what others can read", others, "")
+    logs = sh("cat /var/log/pdpd/haproxy/current")
+    checks.expect("HAProxy's log has those messages", "/domains/d1/pip/none" in logs, True)
+    for word in (token, wrong, *(f"d{number}-token-1" for number in range(8))):
+        found = sh(f"grep -rlaF -- {word} /var/log/pdpd /var/lib/pdpd /var/lib/pdpd-backups || true")
+        checks.expect(f"where the token {word[:6]}.. stands", found, "")
+        started = [path for path in pathlib.Path("/proc").glob("[0-9]*/*")
+                   if path.name in ("cmdline", "environ") and word.encode() in bytes_of(path)]
+        checks.expect(f"processes that were started with {word[:6]}..", started, [])
+    for user in ("nobody", "haproxy"):
+        said = as_user(user, f"find {' '.join(KEPT)} -type f -readable 2> /dev/null || true")
+        checks.expect(f"what {user} can read", said, "")
+    said = as_user("pdpd", f"find {' '.join(KEPT)} -type f -readable 2> /dev/null || true").split()
+    its = re.compile(r"/var/lib/pdpd/\d/|/run/pdpd/\d/token")
+    checks.expect("what pdpd can read beside its own", [path for path in said if not its.match(path)], [])
     found = sh("stat -c '%U %a' /var/lib/pdpd-backups /run/pdpd")
     checks.expect("what others can pass through alone", found, "root 711\n" * 2)
     checks.expect("folders of shards", sh("find /var/lib/pdpd/? -maxdepth 0 -not -perm 700"), "")
+    count = len(sh("find /var/lib/pdpd-backups -name pdpd.db; find /var/log/pdpd -name current").split())
+    checks.within("files that nobody else could read", count, Between(11))
+
+
+def bytes_of(path):
+    """What a file of a process has; nothing where the process is gone."""
+    try:
+        return path.read_bytes()
+    except OSError:
+        return b""
