@@ -7,7 +7,7 @@ SHELL := bash
 NAME ?= $(word 2,$(MAKECMDGOALS))
 crate = $(or $(NAME),$(error make $@ NAME: the name of a crate is missing, one of $(notdir $(wildcard crates/*))))
 
-.PHONY: help run serve test prove pdpd try check api memory edits fmt rows pages agreement author-test policy-file bench dist install deploy-test
+.PHONY: help run serve test prove pdpd try check api memory edits fmt rows pages agreement author-test policy-file bench dist deb install deploy-test
 
 help:
 	@awk -F ':.*## ' '/^[a-z-]+:.*## / { printf "  make %-12s %s\n", $$1 ($$1 ~ /^(try|check|edits)$$/ ? " NAME" : ""), $$2 }' Makefile
@@ -75,8 +75,11 @@ bench: pdpd ## proves and builds pdpd, and runs all benchmarks but bench/gate.py
 dist: ## packs the proved program, or PROGRAM=PATH, the kit for several of them behind HAProxy, the author's desk, and their pages: build/pdpd-VERSION.tar.gz
 	@deploy/dist.py $(if $(PROGRAM),--program $(PROGRAM))
 
-install: ## the same, and installs it under PREFIX (/usr/local)
+deb: ## packs the same into a package of Debian: build/pdpd_VERSION_amd64.deb
+	@deploy/deb.py $(if $(PROGRAM),--program $(PROGRAM))
+
+install: ## as `make dist`, and installs it under PREFIX (/usr/local)
 	@deploy/dist.py $(if $(PROGRAM),--program $(PROGRAM)) --install $(or $(PREFIX),/usr/local)
 
-deploy-test: ## tries that kit with HAProxy, runit and the proved program, or PROGRAM=PATH (docs/guide/OPERATING.md); takes the rights of root
+deploy-test: ## tries that kit with HAProxy, runit, systemd, podman and the proved program, or PROGRAM=PATH (docs/guide/OPERATING.md); takes the rights of root
 	@tests/deploy.py $(PROGRAM)

@@ -24,7 +24,7 @@ import programs  # noqa: E402
 PAGES = ("README.md", *sorted(str(path.relative_to(TOP)) for path in (TOP / "docs").rglob("*")
                               if path.suffix in (".md", ".svg", ".yaml")),
          *(f"examples/ward/{name}.json" for name in ("policy", "rows", "request-alice")))
-LEFT_OUT = ("dist.py", "draw.py")
+LEFT_OUT = ("deb.py", "debian", "dist.py", "draw.py")
 
 
 def program_of(named):
@@ -56,28 +56,37 @@ def files(program, line):
     for page in PAGES:
         yield page, (TOP / page).read_bytes(), False
     for path in sorted((TOP / "deploy").rglob("*")):
-        if path.is_file() and path.name not in LEFT_OUT and "__pycache__" not in path.parts:
+        if path.is_file() and not {*LEFT_OUT, "__pycache__"} & {*path.relative_to(TOP).parts}:
             yield str(path.relative_to(TOP)), path.read_bytes(), bool(path.stat().st_mode & 0o100)
+
+
+def with_sums(program, line):
+    """Each file of the archive, and behind them their checksums."""
+    held = list(files(program, line))
+    sums = "".join(f"{hashlib.sha256(data).hexdigest()}  {file}\n" for file, data, _ in held)
+    return [*held, ("SHA256SUMS", sums.encode(), False)]
 
 
 def pack(program, line, folder):
     """Writes the archive into the folder, and gives its path and the name of the folder in it."""
     name = "-".join(first_line_of(program, "--version").split())
-    held = list(files(program, line))
-    sums = "".join(f"{hashlib.sha256(data).hexdigest()}  {file}\n" for file, data, _ in held)
     path = folder / f"{name}.tar.gz"
     folder.mkdir(exist_ok=True)
     # without the time at which it is packed: the same files give the same bytes
     with open(path, "wb") as made, gzip.GzipFile("", "wb", fileobj=made, mtime=0) as packed, \
             tarfile.open(fileobj=packed, mode="w") as archive:
-        for file, data, is_run in [*held, ("SHA256SUMS", sums.encode(), False)]:
+        for file, data, is_run in with_sums(program, line):
             entry = tarfile.TarInfo(f"{name}/{file}")
             entry.size, entry.mode = len(data), 0o755 if is_run else 0o644
             archive.addfile(entry, io.BytesIO(data))
+    return path, name
+
+
+def tell(path):
+    """Writes the checksum of what was made beside it, and tells it."""
     digest = programs.sum_of(path)
     path.with_name(f"{path.name}.sha256").write_text(f"{digest}  {path.name}\n")
     print(f"{path}: {path.stat().st_size:,} bytes, SHA-256 {digest}", flush=True)
-    return path, name
 
 
 def install(path, name, prefix):
@@ -89,16 +98,22 @@ def install(path, name, prefix):
         return subprocess.run(words, check=False).returncode
 
 
-def main():
-    as_it_is = argparse.RawDescriptionHelpFormatter
-    words = argparse.ArgumentParser(description=__doc__, formatter_class=as_it_is)
+def words_of(about):
+    """The words that a script takes which packs the program."""
+    words = argparse.ArgumentParser(description=about, formatter_class=argparse.RawDescriptionHelpFormatter)
     words.add_argument("--program", metavar="PATH", type=pathlib.Path,
                        help="another program; the file PROGRAM says that it isn't known to be proved")
     words.add_argument("--to", metavar="FOLDER", type=pathlib.Path, default=TOP / "build",
-                       help="where the archive goes: build/")
+                       help="where it goes: build/")
+    return words
+
+
+def main():
+    words = words_of(__doc__)
     words.add_argument("--install", metavar="PREFIX", help="installs it under this folder, too")
     given = words.parse_args()
     path, name = pack(*program_of(given.program), given.to)
+    tell(path)
     return install(path, name, given.install) if given.install else 0
 
 

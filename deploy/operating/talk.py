@@ -256,10 +256,12 @@ def hold_messages(settings, *shards):
 
 def check(path):
     """That HAProxy takes the configuration."""
-    words = ["haproxy", "-c", "-q", "-f", str(path)]
+    # (with -q it wouldn't say why)
+    words = ["haproxy", "-c", "-f", str(path)]
     result = subprocess.run(words, capture_output=True, text=True, check=False)
     if result.returncode != 0:
-        raise Wrong(f"HAProxy doesn't take {path}:\n{result.stderr.strip()}")
+        reasons = [line for line in result.stderr.splitlines() if line.startswith("[ALERT]")]
+        raise Wrong("\n".join([f"HAProxy doesn't take {path}:", *(reasons or [result.stderr.strip()])]))
 
 
 def other_count(settings):

@@ -11,6 +11,7 @@ import socket
 import subprocess
 import sys
 import time
+from typing import NamedTuple
 
 import programs
 
@@ -58,10 +59,12 @@ def is_proved():
         return False
 
 
-def missing(program):
-    """What this machine lacks for the test, in words; the program is that of a path, or else the proved one."""
+def missing(program, wanted=(WANTED,)):
+    """What this machine lacks for the test, in words: of commands with their packages, and the program, which is that
+    of a path, or else the proved one."""
     path = f"{os.environ['PATH']}:/usr/sbin:/sbin"
-    lacks = {package for command, package in WANTED.items() if shutil.which(command, path=path) is None}
+    lacks = {package for commands in wanted for command, package in commands.items()
+             if shutil.which(command, path=path) is None}
     if lacks:
         yield f"apt-get install {' '.join(sorted(lacks))}"
     if os.geteuid() != 0:
@@ -78,24 +81,36 @@ def log_of(folder):
     return pathlib.Path(f"{folder}.log")
 
 
+def name_of_test():
+    """A name that no other test has that runs now."""
+    return f"deploy-test-{os.getpid()}"
+
+
+def end_when_told():
+    """Who is told to end from now on ends all that it runs, and leaves nothing (`run` kills what it waits for)."""
+    for number in (signal.SIGTERM, signal.SIGHUP):
+        if signal.getsignal(number) is not signal.SIG_IGN:
+            signal.signal(number, lambda number, _: sys.exit(128 + number))
+
+
 def enter(words):
     """Runs the test once more in namespaces of its own, and answers with its status."""
-    folder = TOP / "build" / f"deploy-test-{os.getpid()}"
+    folder = TOP / "build" / name_of_test()
     if any(pathlib.Path(own) in folder.parents for own in OWN):
         print(f"tests/deploy.py: missing: a clone that is in none of {', '.join(OWN)}")
         return 2
     folder.mkdir(mode=0o755, parents=True)
-    # who is told to end ends all that runs in there, and leaves nothing (`run` kills what it waits for)
-    for number in (signal.SIGTERM, signal.SIGHUP):
-        if signal.getsignal(number) is not signal.SIG_IGN:
-            signal.signal(number, lambda number, _: sys.exit(128 + number))
+    end_when_told()
     kinds = ["--mount", "--net", "--pid", "--uts", "--ipc"]
     unshare = ["unshare", *kinds, "--fork", "--kill-child", "--mount-proc"]
     try:
         surroundings = {**os.environ, INSIDE: str(folder), "PATH": f"{os.environ['PATH']}:/usr/sbin:/sbin"}
         return subprocess.run([*unshare, sys.executable, *words], env=surroundings, check=False).returncode
     finally:
-        shutil.rmtree(folder, ignore_errors=True)
+        end = time.time() + 10
+        # (what was killed in there may write until it has gone)
+        while folder.exists() and time.time() < end:
+            shutil.rmtree(folder, ignore_errors=True)
         if log_of(folder).exists() and not log_of(folder).stat().st_size:
             log_of(folder).unlink()
 
@@ -120,11 +135,31 @@ def as_user(user, command, **how):
     return sh(shlex.join(["exec", *user_words(user), "bash", "-ec", command]), **how)
 
 
+def pack(folder, program, script="dist.py", **surroundings):
+    """Packs the program, or the one that is proved: the archive, as `make dist` does, or what another script of deploy/
+    makes."""
+    words = [TOP / "deploy" / script, "--to", folder, *(["--program", program] if program else [])]
+    subprocess.run(words, check=True, stdout=subprocess.DEVNULL, env={**os.environ, **surroundings})
+
+
+class Alone(NamedTuple):
+    """What a part begins with that has a machine of its own: a folder, and the program."""
+    folder: pathlib.Path
+    program: str | None
+
+    def packed(self):
+        """The archive."""
+        if not list(self.folder.glob("pdpd-*.tar.gz")):
+            pack(self.folder, self.program)
+        (archive,) = self.folder.glob("pdpd-*.tar.gz")
+        return archive
+
+
 class Machine:
     """The machine: what deploy/ installs on it, its shards and its proxy."""
 
     def __init__(self, folder):
-        self.folder = pathlib.Path(folder)
+        self.folder, self.operator = pathlib.Path(folder), None
         # as root has it, and not as tests/serving.py
         os.umask(0o022)
         sh("mount --make-rprivate / && mount -o remount,ro,bind /sys && ip link set lo up")
@@ -146,9 +181,8 @@ class Machine:
         sh(f"mount -t overlay overlay -o lowerdir={decoys}:{path},upperdir={upper},workdir={work} {path}")
 
     def pack(self, program):
-        """Makes the archive, as `make dist` does."""
-        words = [TOP / "deploy" / "dist.py", "--to", self.folder, *(["--program", program] if program else [])]
-        subprocess.run(words, check=True, stdout=subprocess.DEVNULL)
+        """Makes the archive."""
+        pack(self.folder, program)
 
     def walk(self):
         """Gives the page's commands, word for word but for those that fetch packages; runit is started first."""

@@ -10,7 +10,7 @@ import time
 
 from checks import Between
 
-from .clients import Deciders, Makers, making, many, message, once
+from .clients import Deciders, Makers, Operator, making, many, message, once
 from .clients import status as status_of
 from .machine import LIBRARY, PAGE, SETTINGS, TOP, as_user, backs_up, pid, sh, shards, wait_until
 
@@ -39,6 +39,7 @@ def walk(machine, checks):
     files = pathlib.Path("/var/lib/pdpd").glob("[0-3]/*")
     checks.expect("who may read the files", {mode(path) for path in files}, {"600"})
     machine.set(PLAIN_BIND="127.0.0.1:8080")
+    machine.operator = Operator(pathlib.Path("/etc/pdpd/token").read_text().strip())
 
 
 def decision(machine, checks):
@@ -85,8 +86,11 @@ def configurations(machine, checks):
         found, said = made_with(machine.folder, line)
         checks.expect(f"{line}: {said}", (found, "shards.conf" in said), (1, True))
     checks.expect("no word", "pdpd-shards: several pdpd" in shards(status=2), True)
-    checks.expect("the sidecar", sh(f"haproxy -c -q -f {LIBRARY}/container/haproxy-sidecar.cfg"), "")
-    scripts = f"{LIBRARY}/pdpd-run {LIBRARY}/runit/* {LIBRARY}/container/pdpd-loop"
+    found, said = made_with(machine.folder, "CERTIFICATE=/no/such.pem")
+    checks.expect(f"a certificate that isn't there: {said}", (found, "'/no/such.pem'" in said), (1, True))
+    containers = TOP / "deploy" / "container"
+    checks.expect("the sidecar", sh(f"haproxy -c -q -f {containers}/haproxy-sidecar.cfg"), "")
+    scripts = f"{LIBRARY}/pdpd-run {LIBRARY}/runit/* {containers}/pdpd-loop {TOP}/deploy/debian/p*"
     sh(f"for script in {scripts}; do sh -n $script; done")
 
 
@@ -99,7 +103,10 @@ def installed(machine, checks):
     there = machine.folder / "elsewhere"
     (archive,) = machine.folder.glob("pdpd-*.tar.gz")
     folder = next(path for path in machine.folder.glob("pdpd-*") if path.is_dir())
+    # (as an earlier version left it)
+    (there / "opt" / "pdpd" / "lib" / "pdpd" / "container").mkdir(parents=True)
     sh(f"DESTDIR={there} {folder}/deploy/install /opt/pdpd")
+    checks.expect("what is built in the archive alone", [*there.rglob("container")], [])
     for file in ("etc/systemd/system/pdpd@.service", "opt/pdpd/lib/pdpd/runit/pdpd"):
         text = (there / file).read_text()
         found = "/opt/pdpd/lib/pdpd/pdpd-run" in text, "/usr/local" in text
@@ -171,8 +178,9 @@ def allowed_by(unit):
     return allowed
 
 
-# the one exit status of docs/guide/RUNNING.md that no other start mends, a mistake in the settings
-MISTAKE = 2
+# What no other start mends: the exit status of docs/guide/RUNNING.md for a mistake in the settings, and systemd's own
+# (systemd.exec(5)) where it can't hand over the token.
+MISTAKE, CREDENTIALS = 2, 243
 # with so many bytes of addresses the shell and what comes before pdpd begin, and pdpd itself finds no memory
 SCANT = 14 * 2 ** 20
 
@@ -185,7 +193,8 @@ def want_of_memory(machine, checks):
     prevented = set(settings.pop("RestartPreventExitStatus", "").split())
     wanted = {"Restart": "always", "RestartSec": "50ms", "StartLimitIntervalSec": "0"}
     checks.expect("how the unit starts it again", settings, wanted)
-    checks.expect("the ends behind which it doesn't, of statuses and signals", prevented, {str(MISTAKE)})
+    checks.expect("the ends behind which it doesn't, of statuses and signals", prevented,
+                  {str(MISTAKE), str(CREDENTIALS)})
     log, reason = pathlib.Path("/var/log/pdpd/pdpd-3/current"), "pdpd serve: out of memory"
     supervisor = int(sh("pgrep -f -x 'runsv pdpd-3'"))
     before = log.read_text().count(reason)
