@@ -20,11 +20,14 @@ sys.path[:0] = [str(TOP / "tests"), str(TOP / "tools" / "policy")]
 
 import pack as policy_desk  # noqa: E402
 import programs  # noqa: E402
+from wheel import wheel, wheel_name  # noqa: E402
 
 PAGES = ("README.md", *sorted(str(path.relative_to(TOP)) for path in (TOP / "docs").rglob("*")
                               if path.suffix in (".md", ".svg", ".yaml")),
-         *(f"examples/ward/{name}.json" for name in ("policy", "rows", "request-alice")))
-LEFT_OUT = ("deb.py", "debian", "dist.py", "draw.py")
+         *(f"examples/ward/{name}.json" for name in ("policy", "rows", "request-alice")),
+         *sorted(str(path.relative_to(TOP)) for path in (TOP / "clients").rglob("*")
+                 if path.is_file() and "__pycache__" not in path.parts and ".mypy_cache" not in path.parts))
+LEFT_OUT = ("deb.py", "debian", "dist.py", "draw.py", "wheel.py")
 
 
 def program_of(named):
@@ -54,7 +57,9 @@ def files(program, line):
     yield "PROGRAM", line_of_program.encode(), False
     yield "policy.pyz", policy_desk.packed(), True
     for page in PAGES:
-        yield page, (TOP / page).read_bytes(), False
+        yield page, (TOP / page).read_bytes(), bool((TOP / page).stat().st_mode & 0o100)
+    version = first_line_of(program, "--version").split()[1]
+    yield f"clients/python/{wheel_name(version)}", wheel(version), False
     for path in sorted((TOP / "deploy").rglob("*")):
         if path.is_file() and not {*LEFT_OUT, "__pycache__"} & {*path.relative_to(TOP).parts}:
             yield str(path.relative_to(TOP)), path.read_bytes(), bool(path.stat().st_mode & 0o100)

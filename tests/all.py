@@ -164,7 +164,7 @@ class Steps:
     """The tests that have ended."""
 
     def __init__(self):
-        self.passed = self.failed = 0
+        self.passed, self.failed, self.untried = 0, 0, []
         self.began = time.time()
 
     def take(self, name, call, *given):
@@ -176,6 +176,7 @@ class Steps:
             passed, failed, text = 0, 1, f"{type(fault).__name__}: {fault}"
         with printing:
             self.passed, self.failed = self.passed + passed, self.failed + failed
+            self.untried += re.findall(r"(?m)^NOT TRIED: .*$", text)
             outcome = f"{passed} passed, {failed} failed" if passed or failed else text
             print(f"{name}: {outcome}, in {time.time() - began:.0f} s", flush=True)
             if failed:
@@ -206,6 +207,7 @@ def all_steps(pdpd, xa_trials):
     yield [("tests/program.py", outside, pdpd, "program")]
     yield [("tests/memory.py", memory, pdpd, xa_trials)]
     yield [("tests/guide.py", guide, pdpd, xa_trials)]
+    yield [("tests/client.py", outside, pdpd, "client")]
     others = [(f"tests/{name}.py", outside, pdpd, name) for name in ("api", "serve", "tables")]
     yield [("stored transcript", transcript, pdpd), *others]
     for path in sorted((TOP / "tools" / "policy" / "tests").glob("test_*.py")):
@@ -227,7 +229,7 @@ def main():
                  for lane in all_steps(pdpd, xa_trials)]
     for lane in lanes:
         lane.result()  # raises what has ended a lane, if anything has
-    print(f"The tests took {time.time() - steps.began:.0f} s.")
+    print("\n".join([f"The tests took {time.time() - steps.began:.0f} s.", *steps.untried]))
     if pdpd.is_proved and xa_trials.is_proved:
         print("The programs are proved, and built of these very sources.")
     else:

@@ -13,7 +13,7 @@ import sys
 TOP = pathlib.Path(__file__).resolve().parent.parent
 GREATEST = {
     "crates/*/src/**/*.rt": 110, "crates/*/specs/**/*.antt": 120, "tests/**/*.py": 120, "bench/*.py": 120,
-    "crates/*/*.py": 120, "deploy/**/*.py": 120, "tools/**/*.py": 120, "tests/rows/*.rows": 110,
+    "crates/*/*.py": 120, "deploy/**/*.py": 120, "tools/**/*.py": 120, "clients/**/*.py": 120, "tests/rows/*.rows": 110,
 }
 UNBROKEN = re.compile(r"""\s*(?:[\w. =]*b?"(?:[^"\\]|\\.)*"[\s);,}?]*|.*https?://.*|\#!?\[tactic\(.*\)\])""")
 

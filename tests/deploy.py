@@ -6,8 +6,9 @@ usage: tests/deploy.py [PROGRAM] [PART..]   the program, or that which is proved
 
 It runs in namespaces of its own (mounts, processes, network), in which all paths and users are those of a
 real machine, and leaves nothing behind. It takes the rights of root and Debian's packages haproxy, runit,
-curl, wrk, openssl, strace and gcc; where something is missing it says so and ends with status 2. It gives the commands
-of docs/guide/OPERATING.md word for word. What is expected is worked out from the pages and RFC 9110 and 9112,
+curl, wrk, openssl, strace and gcc; where something is missing it says so and ends with status 2. The part `clients`
+fails where one of nginx, libnginx-mod-http-js, mypy, python3-flask and default-jdk-headless is missing. It gives the
+commands of docs/guide/OPERATING.md word for word. What is expected is worked out from the pages and RFC 9110 and 9112,
 and never by the program.
 
 Some parts have a machine of their own: `systemd` and `deb` a Debian that systemd has booted, and `containers` what
@@ -32,7 +33,7 @@ sys.path.insert(0, str(TOP / "tests"))
 from checks import Checks  # noqa: E402
 from deployed import (  # noqa: E402
     attacks_front, attacks_local, attacks_pdpd, attacks_proxy, backups, booting, changes, clients, containers, deb,
-    failures, machine, replies, slowness, systemd, units)
+    enforcement, failures, machine, replies, slowness, systemd, units)
 
 PARTS = (
     units.walk, units.decision, units.configurations, units.installed, units.calls,
@@ -41,7 +42,7 @@ PARTS = (
     failures.restarts, failures.kills, failures.stuck, failures.watched, failures.unkilled,
     failures.behind_several, failures.unstarted, failures.holding,
     backups.backups, backups.checkpoints, backups.emptied, backups.anew,
-    changes.moves, changes.crossed, changes.killed, changes.keeping,
+    changes.moves, changes.crossed, changes.killed, changes.keeping, enforcement.clients,
     *attacks_front.ATTACKS, *attacks_local.ATTACKS, *attacks_pdpd.ATTACKS, *attacks_proxy.ATTACKS,
     units.certificate, units.want_of_memory, units.upgrade, changes.growth, changes.miscounted, units.status,
     units.secrets)

@@ -1,5 +1,5 @@
 #!/usr/bin/env python3
-"""Packs the policy author's desk as one file that Python runs (zipapp): its modules, the model's, and its page.
+"""Packs the policy author's desk as one file that Python runs (zipapp): its modules, those it uses, its page.
 
 usage: tools/policy/pack.py [FILE]    build/policy.pyz where FILE is left out
 
@@ -36,6 +36,7 @@ def members() -> dict[str, bytes]:
     found = {"__main__.py": MAIN, "README.md": (TOOL / "README.md").read_bytes()}
     for folder, name in ((TOOL / "desk", "desk"), (TOP / "tests" / "model", "model")):
         found |= {f"{name}/{path.name}": path.read_bytes() for path in sorted(folder.glob("*.py"))}
+    found["client/pdp_client.py"] = (TOP / "clients" / "python" / "pdp_client.py").read_bytes()
     digest = hashlib.sha256(repr(sorted(found.items())).encode()).hexdigest()
     return {**found, "SUM": digest[:16].encode()}
 

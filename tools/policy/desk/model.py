@@ -1,5 +1,5 @@
-"""The model in Python (tests/model), as far as the desk uses it: its modules, under their own names. In the file that
-`tools/policy/pack.py` makes they stand beside the desk's own."""
+"""The model in Python (tests/model), as far as the desk uses it, and the client for applications (clients/python):
+their modules, under their own names. In the file that `tools/policy/pack.py` makes they stand beside the desk's own."""
 import pathlib
 import sys
 
@@ -8,6 +8,7 @@ HOME = pathlib.Path(__file__).resolve().parents[1]
 IS_PACKED = HOME.is_file()
 TOP = HOME.parents[1]
 sys.path.insert(1, str(HOME / "model" if IS_PACKED else TOP / "tests" / "model"))
+sys.path.insert(2, str(HOME / "client" if IS_PACKED else TOP / "clients" / "python"))
 # a text of very many digits is out of range, and nothing that Python refuses to read
 getattr(sys, "set_int_max_str_digits", lambda _: None)(0)
 
@@ -21,6 +22,7 @@ import identifiers  # noqa: E402, F401
 import inputs  # noqa: E402, F401
 import json_texts  # noqa: E402, F401
 import linking  # noqa: E402, F401
+import pdp_client  # noqa: E402, F401
 import policies  # noqa: E402, F401
 import requests  # noqa: E402, F401
 import responses  # noqa: E402, F401

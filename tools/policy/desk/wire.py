@@ -1,25 +1,19 @@
-"""Messages to a server (docs/guide/API.md), and the token that they show. Each message has a connection of its
-own, since a server serves one after another."""
+"""Messages to a server (docs/guide/API.md), by the client for applications (clients/python), and the token that they
+show. Each message has a connection of its own, since a server serves one after another."""
 from __future__ import annotations
 
-import http.client
 import json
 import os
-import ssl
 import time
-import urllib.parse
-from dataclasses import dataclass
 
-from .model import json_texts
+from .model import json_texts, pdp_client
 from .setting import Usage
 
 TOKEN_VARIABLE = "DALVEZOUR_TOKEN"
 SECONDS = 30
-# bytes of a reply: no server of this kind answers more
-MOST_BYTES = 32 << 20
 # waits before a message is sent again that was answered with 503
 WAITS = (0.1, 0.5, 1.0, 2.0)
-HERE = ("127.0.0.1", "::1", "localhost")
+Reply = pdp_client.Reply
 
 
 class ServerFault(Exception):
@@ -35,22 +29,6 @@ class Refused(ServerFault):
         self.code = code
 
 
-@dataclass
-class Reply:
-    """The status and the body of a reply."""
-    status: int
-    body: bytes
-
-    @property
-    def code(self) -> str:
-        """The code of an error; nothing where the body has none."""
-        try:
-            held = json_held(self.body)
-        except ValueError:
-            return ""
-        return held["Error"] if isinstance(held, dict) and isinstance(held.get("Error"), str) else ""
-
-
 def json_held(held: bytes) -> object:
     """The JSON that a server answered; ValueError where it is none, or is nested too deep, or has a longer number,
     than any of its kind."""
@@ -58,11 +36,6 @@ def json_held(held: bytes) -> object:
         return json.loads(held, parse_int=json_texts.number)
     except RecursionError:
         raise ValueError("nested too deep") from None
-
-
-def is_token(text: str) -> bool:
-    """Whether the text has the shape of a token."""
-    return 8 <= len(text) <= 64 and all("!" <= letter <= "~" for letter in text)
 
 
 def first_line(path: str) -> str:
@@ -81,77 +54,45 @@ def token_of(path: str | None) -> str:
                     f"line it is, or {TOKEN_VARIABLE} in the environment")
     held = os.environ[TOKEN_VARIABLE] if path is None else first_line(path)
     token = held.rstrip("\r\n")
-    if not is_token(token):
+    if not pdp_client.is_token(token):
         raise Usage(f"{path or TOKEN_VARIABLE} holds no token (8 to 64 visible ASCII characters)")
     return token
 
 
-def address_of(server: str) -> urllib.parse.SplitResult:
-    """The parts of a server's address, as http://127.0.0.1:8080 or https://pdp.example/authorization."""
-    try:
-        found = urllib.parse.urlsplit(server)
-        is_plain = not (found.query or found.fragment or found.username) and found.port != 0
-        is_written = all("!" <= letter <= "~" for letter in server)
-        is_whole = found.scheme in ("http", "https") and bool(found.hostname) and is_plain and is_written
-    except ValueError:
-        is_whole = False
-    if not is_whole:
-        raise Usage(f"{server} is no address of a server, as http://127.0.0.1:8080")
-    return found
-
-
 def is_readable_underway(server: str) -> bool:
     """Whether the token is sent to another machine so that whoever is between can read it."""
-    address = address_of(server)
-    return address.scheme == "http" and address.hostname not in HERE
+    try:
+        return pdp_client.is_readable_underway(server)
+    except pdp_client.Unsendable:
+        raise Usage(f"{server} is no address of a server, as http://127.0.0.1:8080") from None
 
 
-ADVICE = {
-    "Unauthorized": "the token isn't one of the domain's, or there is no such domain",
-    "Forbidden": "the token may only ask for decisions: one of the role admin is wanted",
-    "Quota": "the domain has no room for more: delete what isn't used (`policy deploy --prune`)",
-    "SameVersionOtherText": "other text is kept there under this kind, id and version",
-    "StillActive": "it is active",
-    "Absent": "it isn't there",
-    "NoRoute": "the address leads to no server of this kind",
-    "Unavailable": "the server is short of memory, or its storage failed",
-}
+ADVICE = {**pdp_client.ADVICE,
+          "Quota": "the domain has no room for more: delete what isn't used (`policy deploy --prune`)",
+          "SameVersionOtherText": "other text is kept there under this kind, id and version",
+          "StillActive": "it is active",
+          "Absent": "it isn't there",
+          "Unavailable": "the server is short of memory, or its storage failed"}
 
 
 class Client:
     """A client of one domain."""
 
     def __init__(self, server: str, domain: str, token: str, seconds: float = SECONDS):
-        self.address, self.domain, self.token, self.seconds = address_of(server), domain, token, seconds
-        self.server = server
-
-    def connection(self) -> http.client.HTTPConnection:
-        """A new connection."""
-        host, port = self.address.hostname, self.address.port
-        if self.address.scheme == "http":
-            return http.client.HTTPConnection(host, port, timeout=self.seconds)
-        return http.client.HTTPSConnection(host, port, timeout=self.seconds,
-                                           context=ssl.create_default_context())
+        self.server, self.domain = server, domain
+        try:
+            # (whether a token may be read underway was asked before)
+            self.held = pdp_client.Domain(server, domain, token, seconds=seconds, allow_http=True)
+        except pdp_client.Unsendable as fault:
+            raise Usage(str(fault)) from None
 
     def exchange(self, method: str, path: str, body: bytes | None) -> Reply:
         """The reply to a message."""
-        fields = {"Authorization": f"Bearer {self.token}", "Connection": "close"}
-        if body is not None:
-            fields["Content-Type"] = "application/json"
-        connection = self.connection()
         try:
-            connection.request(method, self.address.path.rstrip("/") + f"/domains/{self.domain}/{path}",
-                               body, fields)
-            answer = connection.getresponse()
-            held = answer.read(MOST_BYTES + 1)
-            if len(held) > MOST_BYTES:
-                raise ServerFault(f"{method} {path}: the server answers more than {MOST_BYTES} bytes, as no server of "
-                                  f"this kind does")
-            return Reply(answer.status, held)
-        except (OSError, http.client.HTTPException) as fault:
-            raise ServerFault(f"{self.server} doesn't answer: {told(fault)}") from None
-        finally:
-            connection.close()
+            return self.held.exchange(method, f"/domains/{self.domain}/{path}", body,
+                                      is_change=method != "GET" and path != "pdp")
+        except pdp_client.PdpError as fault:
+            raise ServerFault(str(fault)) from None
 
     def asked(self, method: str, path: str, body: bytes | None = None) -> Reply:
         """The reply to a message, which is sent again where the server is short of something. All that is
@@ -179,10 +120,3 @@ class Client:
         if not isinstance(held, dict):
             raise ServerFault(f"GET {path}: the server answers what no server of this kind answers")
         return held
-
-
-def told(fault: Exception) -> str:
-    """What went wrong with a connection."""
-    if isinstance(fault, TimeoutError):
-        return "no answer came in time"
-    return getattr(fault, "strerror", None) or str(fault) or type(fault).__name__

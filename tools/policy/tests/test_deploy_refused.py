@@ -60,7 +60,7 @@ class Refused(DeployTest):
         with socket.create_server(("127.0.0.1", 0)) as listening:
             status, said = self.at(f"http://127.0.0.1:{listening.getsockname()[1]}", "--timeout", "0.2")
             self.assertEqual(status, 4)
-            self.assertIn("no answer came in time", said)
+            self.assertIn("no whole reply came in 0.2 s", " ".join(said.split()))
 
     def answer(self, listening: socket.socket, held: bytes) -> None:
         """Answers one connection with these bytes."""
@@ -85,9 +85,9 @@ class Refused(DeployTest):
         deep, long = b"[" * 60_000, b'{"Policy":[], "a":"%s"}' % (b"x" * 70_000)
         number = b'{"Policy":%s}' % (b"9" * 60_000)
         half = b'{"Policy":[{"Active":true,"Id":"\\ud800","Kind":"policy","Version":"1"}]}'
-        with mock.patch.object(wire, "MOST_BYTES", 65_536):
+        with mock.patch.object(wire.pdp_client, "MOST_REPLY", 65_536):
             for held, words in ((deep, "no server of this kind"), (number, "no server of this kind"),
-                                (half, "no server of this kind"), (long, "more than 65536 bytes")):
+                                (half, "no server of this kind"), (long, "at most 65536 are read")):
                 with socket.create_server(("127.0.0.1", 0)) as listening:
                     thread = threading.Thread(target=self.answer, args=(listening, head % len(held) + held))
                     thread.start()

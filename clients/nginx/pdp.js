@@ -1,0 +1,176 @@
+// An enforcement point for nginx: njs asks Dalvezour before a request goes on to the server that is protected.
+// Deny-biased: a request goes on only if the decision is Permit and all its obligations were carried out.
+// `pdp-nginx write` makes map.js of the mapping file, and the configuration that calls `guard`.
+import fs from 'fs';
+import map from 'map.js';
+
+const URN = 'urn:oasis:names:tc:xacml:1.0:';
+const STRING = 'http://www.w3.org/2001/XMLSchema#string';
+// A refusal, with the status that says so.
+function refusal(status, why) {
+    const held = new Error(why);
+    held.status = status;
+    return held;
+}
+
+// What may stand in a path once it is decoded.
+const PLAIN = new RegExp('^[' + map.Plain + ']+$');
+
+// The path as every server reads it; 400 if two could read it differently: empty parts, dots, parameters, a backslash,
+// a character of ASCII that is encoded (but for a space), what isn't UTF-8, or another character than those above.
+function path_of(r) {
+    const raw = r.variables.request_uri.split('?')[0];
+    if (!/^\/(?:[A-Za-z0-9\-._~!$&'()*+,=:@]|%20|%[89A-Fa-f][0-9A-Fa-f]|\/)*$/.test(raw)) {
+        throw refusal(400, 'a character in the path that isn\'t plain');
+    }
+    if (/\/\//.test(raw) || /\/\.{1,2}(?:\/|$)/.test(raw)) {
+        throw refusal(400, 'an empty part or dots in the path');
+    }
+    let path;
+    try {
+        path = decodeURIComponent(raw);
+    } catch (e) {
+        throw refusal(400, 'a path that isn\'t UTF-8');
+    }
+    if (!PLAIN.test(path)) {
+        throw refusal(400, 'a character in the path that isn\'t plain');
+    }
+    return path;
+}
+
+// The values of a field, each time that it stands in the head.
+function fields(r, name) {
+    return r.rawHeadersIn.filter(each => each[0].toLowerCase() === name.toLowerCase()).map(each => each[1]);
+}
+
+// Who asks: by the field of a proxy that the mapping file names, else by the certificate that was verified.
+function subject_of(r) {
+    const from = map.Subject;
+    const verified = r.variables.ssl_client_verify === 'SUCCESS' ? r.variables.ssl_client_s_dn : '';
+    if (from.Header && (from.FromAddress.includes(r.remoteAddress)
+            || verified && from.FromCertificate.includes(verified))) {
+        const held = fields(r, from.Header);
+        if (held.length !== 1 || !/^[\x21-\x7e](?:[\x20-\x7e]*[\x21-\x7e])?$/.test(held[0])) {
+            throw refusal(held.length ? 400 : 403, 'not one subject from the proxy');
+        }
+        return held[0];
+    }
+    if (from.Certificate && verified) {
+        return verified;
+    }
+    throw refusal(403, 'nobody who is known');
+}
+
+function category(id, value, more) {
+    const all = [[URN + id, value]].concat(Object.keys(more).map(name => [name, more[name]]));
+    return {Attribute: all.map(each => ({AttributeId: each[0], DataType: STRING, Value: each[1]}))};
+}
+
+// Whether a query names another method, as `_method=` in some encoding of its name.
+function names_method(query) {
+    const decoded = query.replace(/%([0-9A-Fa-f]{2})/g, (_, digits) => String.fromCharCode(parseInt(digits, 16)));
+    return /(?:^|[&;?])[\s+]*[_. +]method/i.test(decoded);
+}
+
+// The request for the decision.
+function question(r, subject) {
+    const odd = map.Refused.filter(name => fields(r, name).length > 0);
+    if (odd.length || names_method(r.variables.args || '') || r.httpVersion < '1.0') {
+        throw refusal(400, 'another method, path or protocol in a field or the query');
+    }
+    const action = Object.keys(map.Action).includes(r.method) ? map.Action[r.method] : null;
+    if (!action) {
+        throw refusal(403, 'a method that the mapping file doesn\'t name');
+    }
+    return JSON.stringify({Request: {
+        AccessSubject: category('subject:subject-id', subject, {}),
+        Resource: category('resource:resource-id', path_of(r), map.Resource),
+        Action: category('action:action-id', action, {})
+    }});
+}
+
+// The obligations of a Permit; a refusal for all else.
+function permitted(reply) {
+    if (reply.status !== 200) {
+        throw refusal(503, 'the server answers with ' + reply.status);
+    }
+    const length = reply.headersOut['Content-Length'];
+    if (length !== undefined && Number(length) !== reply.responseBuffer.length) {
+        throw refusal(503, 'a response that isn\'t whole');
+    }
+    let results;
+    try {
+        results = JSON.parse(reply.responseText).Response;
+    } catch (e) {
+        throw refusal(503, 'a response that isn\'t whole');
+    }
+    if (!Array.isArray(results) || results.length !== 1 || typeof results[0] !== 'object' || !results[0]) {
+        throw refusal(503, 'not one result');
+    }
+    if (results[0].Decision !== 'Permit') {
+        throw refusal(403, 'the decision is ' + String(results[0].Decision).slice(0, 20));
+    }
+    const held = results[0].Obligations === undefined ? [] : results[0].Obligations;
+    if (!Array.isArray(held)) {
+        throw refusal(503, 'obligations that are none');
+    }
+    return held;
+}
+
+// The values that an obligation gives an attribute, or all that it gives.
+function values(obligation, attribute) {
+    return (obligation.AttributeAssignment || []).filter(each => !attribute || each.AttributeId === attribute)
+        .map(each => String(each.Value));
+}
+
+// What an obligation gives.
+function given(obligation) {
+    return (obligation.AttributeAssignment || []).map(each => ({AttributeId: String(each.AttributeId),
+        Value: String(each.Value)}));
+}
+
+// Carries an obligation out: a line in a file, or a field of the reply, which a variable brings there.
+function carry_out(r, obligation, subject) {
+    const how = map.Obligations[obligation.Id];
+    if (how.Log) {
+        fs.appendFileSync(how.Log, JSON.stringify({Obligation: obligation.Id, Subject: subject, Method: r.method,
+            Path: r.variables.request_uri.split('?')[0], At: new Date().toISOString(),
+            Given: given(obligation)}) + '\n');
+        return;
+    }
+    const value = values(obligation, how.Value).join(', ');
+    if (!/^[\x20-\x7e]{1,1000}$/.test(value)) {
+        throw refusal(503, 'an obligation without a value for its field');
+    }
+    r.variables[how.Variable] = value;
+}
+
+// Lets a request through, once its obligations are carried out.
+function let_through(r, subject, obligations) {
+    if (!obligations.every(each => each && Object.keys(map.Obligations).includes(each.Id))) {
+        throw refusal(403, 'an obligation that isn\'t understood');
+    }
+    obligations.forEach(each => carry_out(r, each, subject));
+    r.variables.pdp_subject = subject;
+    r.internalRedirect('@pdp-protected');
+}
+
+function refuse(r, fault) {
+    r.warn('pdp: refused: ' + fault.message);
+    r.return(fault.status || 503);
+}
+
+// By `then`, since njs 0.7.9 ends its worker at an `await` among the arguments of a call.
+function guard(r) {
+    try {
+        const subject = subject_of(r);
+        const body = question(r, subject);
+        r.subrequest('/pdp-decision', {method: 'POST', body: body, args: ''})
+            .then(reply => let_through(r, subject, permitted(reply)))
+            .catch(fault => refuse(r, fault));
+    } catch (fault) {
+        refuse(r, fault);
+    }
+}
+
+export default {guard};
