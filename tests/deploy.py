@@ -33,7 +33,7 @@ sys.path.insert(0, str(TOP / "tests"))
 from checks import Checks  # noqa: E402
 from deployed import (  # noqa: E402
     attacks_front, attacks_local, attacks_pdpd, attacks_proxy, backups, booting, changes, clients, containers, deb,
-    enforcement, failures, machine, replies, slowness, systemd, units)
+    enforcement, failures, machine, observed, replies, slowness, states, systemd, units)
 
 PARTS = (
     units.walk, units.decision, units.configurations, units.installed, units.calls,
@@ -43,13 +43,15 @@ PARTS = (
     failures.behind_several, failures.unstarted, failures.holding,
     backups.backups, backups.checkpoints, backups.emptied, backups.anew,
     changes.moves, changes.crossed, changes.killed, changes.keeping, enforcement.clients,
+    *states.STATES, *observed.OBSERVED,
     *attacks_front.ATTACKS, *attacks_local.ATTACKS, *attacks_pdpd.ATTACKS, *attacks_proxy.ATTACKS,
     units.certificate, units.want_of_memory, units.upgrade, changes.growth, changes.miscounted, units.status,
     units.secrets)
 # those that have a machine of their own each, with the commands that they want and Debian's packages of these
 ALONE = {systemd.systemd: booting.WANTED, deb.deb: booting.WANTED, containers.containers: containers.WANTED}
 # words that name several of them
-GROUPS = {"attacks_front": attacks_front.ATTACKS, "attacks_local": attacks_local.ATTACKS,
+GROUPS = {"states": states.STATES, "attacks_front": attacks_front.ATTACKS,
+          "attacks_local": attacks_local.ATTACKS,
           "attacks_pdpd": attacks_pdpd.ATTACKS, "attacks_proxy": attacks_proxy.ATTACKS,
           "attacks": (*attacks_front.ATTACKS, *attacks_local.ATTACKS, *attacks_pdpd.ATTACKS, *attacks_proxy.ATTACKS)}
 

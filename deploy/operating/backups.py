@@ -15,10 +15,21 @@ import subprocess
 import sys
 import time
 
-from . import listener, supervisor
-from .owned import Folder
-from .settings import Wrong, alone, harmless, put_off_signals
+from . import applied, listener, supervisor
+from .owned import Folder, run
+from .settings import Wrong, alone, harmless, put_off_signals, words_of
 from .trial import copy_files, domains_in_backup
+
+# the name of a backup
+NAME = re.compile(r"[0-9]{8}T[0-9]{6}(\.[0-9]{3})?Z")
+# after how long settings are looked for again that can't be read
+SOON = 60
+# by how much a name may be beyond now, in seconds
+AHEAD = 60
+# how long the program may take that copies a backup away, in seconds
+HOOK = 3600.0
+# the file in a backup's folder that says that it was
+COPIED = "copied"
 
 
 # the file of a backup that has its number of domains, and that of the backup before
@@ -59,11 +70,12 @@ def name_of_moment():
 
 
 def fill_backup(settings, shard, pid, made):
-    """Writes what a backup has into a folder, and gives how long the shard stood still."""
+    """Writes what a backup has into a folder, and gives how long the shard stood still. What was removed from its
+    folder is taken from its program, which has it open."""
     with Folder(settings.folder(shard)) as place:
         began = time.perf_counter()
         with put_off_signals(), pause_process(pid):
-            copy_files(place, made)
+            copy_files(place, made, is_open_in=pid)
         took = time.perf_counter() - began
     # where its domains are found, for a machine that begins anew
     made.write("shard", f"{shard} of {settings.shards}\n")
@@ -99,14 +111,44 @@ def backup(settings, shard):
             folders.sync()
         finally:
             folders.clear(f".{name}")
-    for old in backups_of(settings, shard)[:-settings.keep_backups]:
+    for old in surplus(backups_of(settings, shard), path / name, settings.keep_backups):
         shutil.rmtree(old)
     return path / name, domains, took
 
 
+def copy_away(settings, shard, path):
+    """Has the operator's program copy a backup away, if there is one; an error where it fails."""
+    if not settings.backup_hook:
+        return
+    what = f"no copy of {path} is elsewhere: {settings.backup_hook}"
+    status, said = run(what, [settings.backup_hook, shard, path], HOOK)
+    if status != 0:
+        raise Wrong(f"{what} ends with {status}: {said}")
+    with Folder(path) as made:
+        made.clear(COPIED)
+        made.write(COPIED, "")
+
+
+def surplus(folders, made, most):
+    """The oldest backups beyond so many. What was just made stays, and so do those of moments to come: it may be the
+    clock that is behind, and they don't count."""
+    counted = [path for path in folders if not is_beyond(path)]
+    return [path for path in counted[:max(0, len(counted) - most)] if path != made]
+
+
+def is_beyond(path):
+    """Whether a backup's name is a moment that is still to come: a clock was ahead, or is behind."""
+    limit = time.strftime("%Y%m%dT%H%M%S", time.gmtime(time.time() + AHEAD))
+    return path.name[:len(limit)] > limit
+
+
 def backups_of(settings, shard):
     """The folders of a shard's backups, the oldest first."""
-    return sorted((pathlib.Path(settings.backups) / str(shard)).glob("[0-9]*"))
+    place = pathlib.Path(settings.backups) / str(shard)
+    try:
+        return sorted(place / name for name in os.listdir(place) if NAME.fullmatch(name))
+    except FileNotFoundError:
+        return []
 
 
 def counts_of_newest(settings, shard):
@@ -132,17 +174,22 @@ def summary(path, domains, took):
     return f"{path}, {len(domains)} domains, still for {took * 1000:.0f} ms"
 
 
-def keep_making(read, seconds):
+def keep_making(seconds):
     """A backup of each shard, again and again."""
     while True:
-        settings = read()
-        for shard in range(settings.shards):
+        settings, fault = applied.read_or_before()
+        if fault:
+            print(harmless(f"{fault}: what was set before goes on"), file=sys.stderr, flush=True)
+        for shard in range(settings.shards if settings else 0):
+            path = None
             try:
                 with alone():
                     path, domains, took = backup(settings, shard)
                 print(f"backup of shard {shard}: {summary(path, domains, took)}", flush=True)
                 if found := emptied(settings, shard):
                     print(f"WRONG: {found}", file=sys.stderr, flush=True)
+                copy_away(settings, shard, path)
             except (Wrong, OSError, subprocess.SubprocessError) as fault:
-                print(harmless(f"NO BACKUP of shard {shard}: {fault}"), file=sys.stderr, flush=True)
-        time.sleep(seconds)
+                what = "NO BACKUP" if path is None else "NO COPY of the backup"
+                print(harmless(f"{what} of shard {shard}: {words_of(fault)}"), file=sys.stderr, flush=True)
+        time.sleep(seconds if settings else SOON)

@@ -53,6 +53,8 @@ def open_store(path):
             base.execute("PRAGMA foreign_keys = ON")
             base.execute("PRAGMA synchronous = FULL")
             base.execute("PRAGMA wal_autocheckpoint = 0")
+            # Debian's SQLite would write zeros over all that goes, for which a full disk has no room
+            base.execute("PRAGMA secure_delete = FAST")
             schema = base.execute("SELECT schema_no FROM meta").fetchone()
             reader.execute("SELECT schema_no FROM meta").fetchone()
         if schema != (SCHEMA,):

@@ -5,26 +5,32 @@
   pdpd-shards reload                   has HAProxy read its files: its configuration, the certificate
   pdpd-shards restart [SHARD]          restarts the shards one after another, or one
   pdpd-shards upgrade                  has all of it run what a new archive has brought
-  pdpd-shards status                   how they are; ends with 1 where something is wrong
+  pdpd-shards status [--json]          how they are; ends with 1 where something is wrong, 2 where it can't tell;
+                                       --prometheus in its place gives the text that Prometheus reads
   pdpd-shards where DOMAIN             which shard a domain is in
   pdpd-shards backup [SHARD]           copies shards' files as they are at one instant, and opens each copy
-  pdpd-shards backups                  lists the backups
-  pdpd-shards put-back SHARD BACKUP    puts a backup in place of a shard's files
+  pdpd-shards backups                  lists the backups, and what a put-back has replaced
+  pdpd-shards put-back SHARD BACKUP    puts a backup in place of a shard's files; asks first, or --yes stands behind it
   pdpd-shards move DOMAIN FROM TO      moves a domain from one shard to another
+  pdpd-shards remap                    makes the map anew, of where each domain is
   pdpd-shards grow SHARDS              makes more shards
+  pdpd-shards make-room SHARD          gives up what is kept of a shard's disk for the day on which it is full
+  pdpd-shards reserve [SHARD]          keeps it again
   pdpd-shards watchdog                 kills shards that are stuck, for ever
   pdpd-shards keep-backups SECONDS     makes backups again and again, for ever
 
 Settings are in /etc/pdpd/shards.conf, or where PDPD_SETTINGS says. OPERATING.md is the page on all of it.
-Exit status: 0 done, 1 something is wrong, 2 usage.
+Exit status: 0 done, 1 something is wrong, 2 usage, or status can't tell.
 """
+import contextlib
 import signal
 import sqlite3
 import subprocess
 import sys
 
-from . import backups, listener, moving, proxy, restoring, status, supervisor, talk, watchdog
-from .settings import DOMAIN, ENDS, Wrong, alone, errors_of, harmless, number_in_word, read
+from . import (
+    applied, backups, listener, metrics, moving, proxy, restoring, room, status, supervisor, talk, watchdog)
+from .settings import DOMAIN, ENDS, Wrong, alone, errors_of, harmless, number_in_word, read, words_of
 
 
 def say(what):
@@ -42,6 +48,16 @@ def shards_in(settings, words):
     return [settings.shard_in(word) for word in words] or range(settings.shards)
 
 
+def keep_room(settings):
+    """Keeps room on each shard's disk, and tells where there is none to keep."""
+    for shard in range(settings.shards):
+        try:
+            with alone():
+                room.reserve(settings, shard)
+        except (Wrong, OSError) as fault:
+            print(harmless(f"pdpd-shards: WARNING: {words_of(fault)}"), file=sys.stderr, flush=True)
+
+
 def config(settings, words):
     if words == ["--write"]:
         talk.write_configuration(settings)
@@ -53,12 +69,19 @@ def config(settings, words):
 
 def services(settings, words):
     talk.refuse_other_count(settings)
+    settings.operator()
     warn(settings)
     by = supervisor.of(settings)
+    for shard in range(settings.shards):
+        if not by.pid(shard):
+            applied.apply(settings, shard)
+    applied.apply_where_none(settings, range(settings.shards))
     by.set_up(range(settings.shards))
     by.start_proxy()
+    applied.apply(settings, applied.PROXY)
     for shard in range(settings.shards):
         talk.wait_until_up(settings, shard)
+    keep_room(settings)
     say(f"{settings.shards} shards answer, under {settings.supervisor}")
 
 
@@ -77,8 +100,24 @@ def restart(settings, words):
         say(f"shard {shard} is restarted")
 
 
+def try_program(settings):
+    """Makes a backup of each shard that runs. The program that is installed now opens it, as it would the shard's
+    files; if it can't, nothing is stopped."""
+    for shard in range(settings.shards):
+        if not supervisor.of(settings).pid(shard):
+            continue  # (what keeps it down may be what the upgrade mends)
+        try:
+            make_backup(settings, shard)
+        except (Wrong, OSError) as fault:
+            raise Wrong(f"nothing was stopped: no backup of shard {shard} could be made and opened by "
+                        f"{settings.program}: {words_of(fault)}") from None
+
+
 def upgrade(settings, words):
     by = supervisor.of(settings)
+    talk.refuse_other_count(settings)
+    settings.operator()
+    try_program(settings)
     talk.write_configuration(settings)
     warn(settings)
     with alone():
@@ -86,12 +125,14 @@ def upgrade(settings, words):
         talk.reload(settings, by)
     say("HAProxy, the watchdog and the backups run what is installed")
     restart(settings, [])
+    keep_room(settings)
 
 
 def show_status(settings, words):
-    lines, wrong = status.report(settings)
-    print("\n".join(lines))
-    return tell_wrong(wrong)
+    found = status.report(settings)
+    text = {"--json": found.json, "--prometheus": lambda: metrics.text_of(found)}.get("".join(words), found.text)
+    print(harmless(text()))
+    return found.exit_status()
 
 
 def where(settings, words):
@@ -108,28 +149,56 @@ def tell_wrong(found):
     return 1 if found else 0
 
 
+def make_backup(settings, shard):
+    """Makes a backup of a shard, and gives its folder."""
+    with alone():
+        path, domains, took = backups.backup(settings, shard)
+    say(f"backup of shard {shard}: {backups.summary(path, domains, took)}")
+    return path
+
+
 def backup(settings, words):
     ends = 0
     for shard in shards_in(settings, words):
-        with alone():
-            path, domains, took = backups.backup(settings, shard)
-        say(f"backup of shard {shard}: {backups.summary(path, domains, took)}")
+        path = make_backup(settings, shard)
         if found := backups.emptied(settings, shard):
             ends = tell_wrong([found])
+        backups.copy_away(settings, shard, path)
     return ends
 
 
 def list_backups(settings, words):
     for shard in range(settings.shards):
+        with contextlib.suppress(PermissionError):
+            for name in restoring.kept_aside(settings, shard):
+                print(shard, name)
+        # the newest one is the last line of a shard
         for path in backups.backups_of(settings, shard):
             print(shard, path.name)
 
 
+def is_wanted(lines, words):
+    """Whether the operator wants what is told."""
+    print(harmless("\n".join(lines)), flush=True)
+    if words == ["--yes"]:
+        return True
+    if not sys.stdin.isatty():
+        raise Wrong("nothing was changed: there is no terminal to ask at; --yes behind it says that it is wanted")
+    return input("Is that wanted? yes or no: ").strip().lower() in ("y", "yes")
+
+
 def put_back(settings, words):
-    shard, name = words
+    shard, name, *more = words
     with alone():
-        domains, aside = restoring.put_back(settings, settings.shard_in(shard), name)
-    say(f"shard {shard} is that of {name}: {len(domains)} domains; the files before are in {aside}")
+        planned = restoring.plan(settings, settings.shard_in(shard), name)
+    if not is_wanted(planned.lines(), more):
+        say("nothing was changed")
+        return 1
+    with alone():
+        aside = restoring.put_back(settings, planned)
+    say(f"shard {shard} is that of {name}: {len(planned.domains)} domains. `pdpd-shards put-back {shard} {aside.name}` "
+        f"undoes it; the files before are in {aside}")
+    return 0
 
 
 def move(settings, words):
@@ -145,14 +214,41 @@ def grow(settings, words):
         raise Wrong("a number of shards is wanted")
     with alone():
         count = moving.grow(settings, shards)
+    keep_room(read())
     say(f"there are {shards} shards; {count} domains stay where they were")
+
+
+def remap(settings, words):
+    with alone():
+        count, changed, twice = moving.remap(settings)
+    for name, place in sorted(changed.items()):
+        say(f"{name}: no line is needed any more" if place is None else f"{name} is led to {place}")
+    for name in twice:
+        say(f"{name} is in several shards: look which is right")
+    say(f"the map leads each of {count} domains to a shard that has it")
+
+
+def make_room(settings, words):
+    (word,) = words
+    shard = settings.shard_in(word)
+    with alone():
+        left = room.give_up(settings, shard)
+    say(f"the disk of shard {shard} has {left / room.MIB:.1f} MiB left. Now move domains away, or remove policies; "
+        f"once there is room again give pdpd-shards reserve {shard}")
+
+
+def reserve(settings, words):
+    for shard in shards_in(settings, words):
+        with alone():
+            room.reserve(settings, shard)
+        say(f"shard {shard} has {settings.reserve} MiB for the day on which its disk is full")
 
 
 def keep_backups(settings, words):
     seconds = number_in_word(*words)
     if seconds is None:
         raise Wrong("a number of seconds is wanted")
-    backups.keep_making(read, seconds)
+    backups.keep_making(seconds)
 
 
 # each word with the numbers of words that may stand behind it
@@ -162,13 +258,16 @@ WORDS = {
     "reload": (reload, (0,)),
     "restart": (restart, (0, 1)),
     "upgrade": (upgrade, (0,)),
-    "status": (show_status, (0,)),
+    "status": (show_status, (0, 1)),
     "where": (where, (1,)),
     "backup": (backup, (0, 1)),
     "backups": (list_backups, (0,)),
-    "put-back": (put_back, (2,)),
+    "put-back": (put_back, (2, 3)),
     "move": (move, (3,)),
+    "remap": (remap, (0,)),
     "grow": (grow, (1,)),
+    "make-room": (make_room, (1,)),
+    "reserve": (reserve, (0, 1)),
     "watchdog": (lambda settings, words: watchdog.watch_all(), (0,)),
     "keep-backups": (keep_backups, (1,)),
 }
@@ -181,15 +280,31 @@ def end_in_order():
             signal.signal(number, lambda number, _: sys.exit(128 + number))
 
 
+# the words that may stand last behind some words
+SWITCHES = {"config": (1, ("--write",)), "status": (1, ("--json", "--prometheus")), "put-back": (3, ("--yes",))}
+# services, which go on with what was set before where the settings can't be read
+SERVICES = ("watchdog", "keep-backups")
+
+
+def is_usage(words):
+    """Whether words are as they are to be."""
+    _, counts = WORDS.get(words[0] if words else "", (None, ()))
+    place, switches = SWITCHES.get(words[0] if words else "", (None, ()))
+    return len(words) - 1 in counts and (len(words) - 1 != place or words[-1] in switches)
+
+
 def main(words):
-    call, counts = WORDS.get(words[0] if words else "", (None, ()))
-    if len(words) - 1 not in counts or (words[0] == "config" and words[1:] not in ([], ["--write"])):
+    end_in_order()
+    if words in (["--help"], ["-h"], ["help"]):
+        print(__doc__, end="")
+        return 0
+    if not is_usage(words):
         print(__doc__, file=sys.stderr)
         return 2
-    end_in_order()
     try:
-        return call(read(), words[1:]) or 0
-    except (Wrong, OSError, sqlite3.Error, subprocess.SubprocessError) as fault:
+        settings = None if words[0] in SERVICES else read()
+        return WORDS[words[0]][0](settings, words[1:]) or 0
+    except (Wrong, OSError, sqlite3.Error, subprocess.SubprocessError, EOFError) as fault:
         for error in errors_of(fault):
-            print(harmless(f"pdpd-shards: {error}"), file=sys.stderr)
+            print(harmless(f"pdpd-shards: {words_of(error)}"), file=sys.stderr)
         return 1

@@ -9,9 +9,9 @@ import copy
 import sys
 import time
 
-from . import carrying, listener, supervisor, talk
+from . import applied, carrying, listener, supervisor, talk
 from .owned import as_user, owner_of, run, surroundings
-from .settings import DOMAIN, NUMBERS, Wrong, errors_of, put_off_signals, set_in_file
+from .settings import DOMAIN, NUMBERS, Wrong, errors_of, put_off_signals, set_in_file, set_in_text, write_whole
 
 # How long is waited for shards after an error, in seconds: as long as HAProxy tries one that is down. A
 # question that is under way then may take five, and messages wait for a tool for ten.
@@ -22,14 +22,16 @@ class NotBegun(Wrong):
 
 
 @contextlib.contextmanager
-def stop_shard(by, shard):
-    """Stops a shard's program, and starts it at the end."""
+def stop_shard(settings, shard):
+    """Stops a shard's program, and starts it at the end, with these settings from then on."""
+    by = supervisor.of(settings)
     try:
         try:
             by.stop(shard)
         except (Wrong, OSError) as fault:
             raise NotBegun(str(fault)) from None
         yield
+        applied.apply(settings, shard)
     finally:
         by.start(shard)
 
@@ -38,10 +40,9 @@ def stop_shard(by, shard):
 def stop_shards(settings, shards):
     """Stops the shards' programs. At the end each start is tried, whatever becomes of the others, and an error of
     one keeps those before it (`errors_of`)."""
-    by = supervisor.of(settings)
     with put_off_signals(), contextlib.ExitStack() as stops:
         for shard in shards:
-            stops.enter_context(stop_shard(by, shard))
+            stops.enter_context(stop_shard(settings, shard))
         yield
 
 
@@ -58,9 +59,10 @@ def wait_until_up(settings, shards, seconds=30.0):
 def restart_shards(settings, *shards):
     """Restarts the shards' programs, which are stopped meanwhile, and waits until they answer.
 
-    After an error it doesn't wait for long: one of them may stay away, and the messages of the others are
-    held back meanwhile.
+    None is stopped while the operator's token is one with which it wouldn't start. After an error it doesn't wait
+    for long: one of them may stay away, and the messages of the others are held back meanwhile.
     """
+    settings.operator()
     try:
         with stop_shards(settings, shards):
             yield
@@ -85,8 +87,8 @@ def carry_domain(settings, domain, one, other):
     words = [sys.executable, "-IB", carrying.__file__, domain, *stores]
     status, said = run(f"the program that carries {domain}", as_user(user, words), env=surroundings())
     if status == carrying.NEITHER:
-        raise NotBegun(f"neither shard {one} nor {other} has {domain}. If it is moving and no shard has it, take its "
-                       f"line out of {settings.map}, and give pdpd-shards reload")
+        raise NotBegun(f"neither shard {one} nor {other} has {domain}. Where no shard has it, pdpd-shards remap takes "
+                       "away what the map has of it")
     if status == carrying.BOTH:
         raise NotBegun(f"both shards have a domain {domain}, and not the same of it: look which is right")
     if status == carrying.NOT_BEGUN:
@@ -96,14 +98,42 @@ def carry_domain(settings, domain, one, other):
     talk.set_in_map(settings, {domain: other})
 
 
+def refuse_absent(settings, domain, one, other):
+    """An error where neither shard has the domain. One that doesn't answer may have it: a move that was cut has
+    perhaps stopped both."""
+    try:
+        if any(domain in talk.domains_of(settings, shard) for shard in (one, other)):
+            return
+    except listener.Impostor:
+        raise
+    except Wrong:
+        return
+    others = {*range(settings.shards)} - {one, other}
+    found = [shard for shard in others if has_domain(settings, shard, domain)]
+    if found:
+        raise NotBegun(f"{domain} is in shard {found[0]}, and not in {one} or {other}: nothing was stopped")
+    raise NotBegun(f"neither shard {one} nor {other} has {domain}: nothing was stopped. Where no shard has it, "
+                   "pdpd-shards remap takes away what the map has of it")
+
+
+def has_domain(settings, shard, domain):
+    """Whether a shard lists the domain; one that doesn't answer doesn't."""
+    try:
+        return domain in talk.domains_of(settings, shard)
+    except Wrong:
+        return False
+
+
 def move(settings, domain, one, other):
     """Moves a domain from one shard to another, and tells for how long the two were away."""
     if not DOMAIN.fullmatch(domain) or one == other:
         raise Wrong("a domain's name and two different shards are wanted")
     for shard in (one, other):
         settings.refuse_unfinished_put_back(shard)
-    talk.settle(settings)
+    settings.operator()
     before = talk.map_in_file(settings).get(domain)
+    refuse_absent(settings, domain, one, other)
+    talk.settle(settings)
     began = time.time()
     with talk.hold_messages(settings, one, other):
         # what is left where this is cut: nobody asks either shard for it
@@ -120,6 +150,26 @@ def move(settings, domain, one, other):
     return time.time() - began
 
 
+def stop_making_domains(settings):
+    """No domain is made from here on, and each that was asked for before is there or isn't."""
+    for shard in range(settings.shards):
+        listener.refuse_another(settings, shard)
+    talk.settle(settings)
+    talk.set_in_map(settings, {"NEW": "moving"})
+    time.sleep(talk.TURN)
+    for shard in range(settings.shards):
+        talk.wait_for_turn(settings, shard)
+
+
+def shards_of_domains(settings):
+    """The shards that have each domain, as they list them."""
+    found = {}
+    for shard in range(settings.shards):
+        for name in talk.domains_of(settings, shard):
+            found.setdefault(name, []).append(shard)
+    return found
+
+
 def grow(settings, shards):
     """Makes more shards. Each domain stays in its own, and new ones go to all. Tells how many there are."""
     _, most = NUMBERS["SHARDS"]
@@ -127,24 +177,17 @@ def grow(settings, shards):
     least = max(settings.shards, talk.shards_in_configuration(settings) or 0)
     if not least <= shards <= most:
         raise Wrong(f"the shards become more, up to {most}: now they are {least}")
-    by, many = supervisor.of(settings), range(settings.shards)
-    for shard in many:
-        listener.refuse_another(settings, shard)
-    talk.settle(settings)
-    # no domain is made from here on, and each that was asked for before is there or isn't
-    talk.set_in_map(settings, {"NEW": "moving"})
-    time.sleep(talk.TURN)
-    for shard in many:
-        talk.wait_for_turn(settings, shard)
-    known = talk.map_in_file(settings)
-    places = [(name, shard) for shard in many for name in talk.domains_of(settings, shard)]
+    settings.operator()
+    by, known = supervisor.of(settings), talk.map_in_file(settings)
+    stop_making_domains(settings)
     # of a domain that is in two shards that one counts to which its messages are led
-    places.sort(key=lambda it: talk.place(settings, known, it[0]) == it[1])
-    shard_of = dict(places)
+    shard_of = {name: led if (led := talk.place(settings, known, name)) in places else places[0]
+                for name, places in shards_of_domains(settings).items()}
     talk.set_in_map(settings, {name: shard for name, shard in shard_of.items() if name not in known})
+    applied.apply_where_none(settings, range(shards))
     by.set_up(range(shards))
     larger = copy.copy(settings)
-    larger.shards = shards
+    larger.shards, larger.text = shards, set_in_text(settings.text, "SHARDS", shards)
     talk.write_configuration(larger, is_growth=True)
     talk.reload(larger, by)
     set_in_file("SHARDS", shards)
@@ -152,3 +195,54 @@ def grow(settings, shards):
         talk.wait_until_up(larger, shard)
     talk.set_in_map(larger, {"NEW": None})
     return len(shard_of)
+
+
+def map_or_why_not(settings):
+    """What the map's file says, and why it can't be read, if it can't."""
+    try:
+        return talk.map_in_file(settings), None
+    except Wrong as fault:
+        return {}, str(fault)
+
+
+def remapped(settings, known, places):
+    """The map that leads each domain to the shard that has it, and the domains that several have, which stay where
+    their messages are led. Who has its place by its name needs no line."""
+    entries, twice = {}, []
+    for name, shards in places.items():
+        led = talk.place(settings, known, name)
+        if len(shards) > 1:
+            twice.append(name)
+        if led not in shards:
+            # (one that was moving, and that two shards have, gets no message until it is moved again)
+            led = shards[0] if len(shards) == 1 else "moving"
+        if led != talk.place(settings, {}, name):
+            entries[name] = led
+    return entries, twice
+
+
+def remap(settings):
+    """Makes the map anew, of where each domain is. Gives how many domains there are, what has changed in the map, by
+    name, and the domains that are in several shards."""
+    talk.refuse_other_count(settings)
+    settings.operator()
+    known, fault = map_or_why_not(settings)
+    if fault:
+        # (what HAProxy has read of it may still be whole)
+        known = {name: value for name, value in talk.running(talk.map_while_it_runs(settings)).items()
+                 if value == "moving" or value.isdecimal()}
+        write_whole(settings.map, "".join(f"{name} {value}\n" for name, value in sorted(known.items())))
+    before = known.get("NEW")
+    try:
+        stop_making_domains(settings)
+        places = shards_of_domains(settings)
+        entries, twice = remapped(settings, known, places)
+        names = {*known, *talk.running(talk.map_while_it_runs(settings)), *entries} - {"NEW"}
+        changes = {name: entries.get(name) for name in names}
+        # (also what a growth has left that was cut: all of it agrees on the number of shards, and they answer)
+        talk.set_in_map(settings, {**changes, "NEW": None})
+    except BaseException:
+        talk.set_in_map(settings, {"NEW": before})
+        raise
+    changed = {name: place for name, place in changes.items() if str(place) != str(known.get(name))}
+    return len(places), changed, twice

@@ -4,7 +4,10 @@ pdpd serves one connection after another. So HAProxy lets one message at a time 
 and the others queue in it. What pdpd would answer by closing a connection, and what could hold it up,
 ends here. So does what one client could take away from all others: connections, messages under way, memory.
 """
-from .settings import FILE
+import hashlib
+import pathlib
+
+from . import settings as setting
 
 JSON = "content-type application/json string"
 # Which bytes no field may have; pdpd would close the connection (RFC 9110, section 5.5).
@@ -16,10 +19,17 @@ MOST_BODY, MOST_REPLY, BUFFER = 524_288, 1_000_000, 1_048_576
 AT_ONCE = 65_536
 # lists of all domains that are put together at a time
 LISTS = 4
+# what stands in the configuration where its own digest comes
+DIGEST = "@digest@"
+# the file with sections of the operator's own
+OWN = "pdpd-own.cfg"
 # connections of the tools, of the watchdog and of lists, beside those of clients
 SPARE = 200
 # whose a message is: an address, of IPv6 the network that one machine may have
 SOURCE = "src,ipmask(32,64)"
+# A line of the log: what kind of message it was (`kind_rules`), then the rest. Neither fields nor bodies are in it, so
+# no token is.
+LINE = "%[var(txn.kind)] %ci:%cp %ft %b %HM %{+Q}HPO %ST %Tq/%Tw/%Tc/%Tr/%Ta %tsc %sq/%bq %rc %B"
 
 
 def answers(status, code, fields="", how="return"):
@@ -57,13 +67,15 @@ global
     tune.h2.max-concurrent-streams 10
     hard-stop-after 15s
     stats socket {settings.haproxy_run}/admin.sock mode 660 level admin expose-fd listeners
-    log {settings.log}
+    log {settings.log}{"" if settings.log_decisions else " notice"}
     ssl-default-bind-options ssl-min-ver TLSv1.2 no-tls-tickets
     # before the file that reads them
     setenv PDPD_SHARDS {settings.shards}
     setenv PDPD_MAXCONN {settings.maxconn}
     setenv PDPD_RUN {settings.haproxy_run}
     setenv PDPD_MAP {settings.map}
+    # which configuration this is, for pdpd-shards status
+    setenv PDPD_DIGEST {DIGEST}
     lua-load {settings.haproxy_etc}/domains.lua
 """
 
@@ -96,8 +108,9 @@ defaults
     mode http
     log global
     option dontlognull
-    # Neither fields nor bodies are logged, so no token is.
-    log-format "%ci:%cp %ft %b %HM %{{+Q}}HPO %ST %Tq/%Tw/%Tc/%Tr/%Ta %tsc %sq/%bq %rc %B"
+    # what failed has the level err
+    option log-separate-errors
+    log-format "{LINE}"
     timeout http-request 5s
     # how long a handshake of TLS may take, a connection may be idle, and a client may take nothing of its reply
     timeout client 5s
@@ -141,6 +154,32 @@ def source_rules(settings):
 DOMAIN_RULES = """\
     http-request set-var(txn.domain) path,field(3,/) if { path_beg /domains/ }
     http-request set-var(txn.domain) path,field(4,/) if { path_beg /operator/domains/ }
+"""
+
+
+def kind_rules():
+    """What a message's line in the log begins with: `change`, `decision` or `reading`; `refused` (4xx) or `fault` (5xx)
+    where nothing was changed. A change that nobody has answered (502, 504, or the client went) stays a change."""
+    return """\
+    acl is_ask path_reg ^/domains/[^/]+/pdp$
+    http-request set-var(txn.kind) str(change)
+    http-request set-var(txn.kind) str(decision) if METH_POST is_ask
+    http-request set-var(txn.kind) str(reading) if METH_GET or METH_HEAD or METH_OPTIONS
+    acl may_be_made status 502 504
+    acl of_change var(txn.kind) -m str change
+    http-after-response set-var(txn.kind) str(refused) if { status 400:499 }
+    http-after-response set-var(txn.kind) str(fault) if { status 500:599 } !of_change
+    http-after-response set-var(txn.kind) str(fault) if { status 500:599 } !may_be_made
+"""
+
+
+def level_rules(settings):
+    """Without LOG_DECISIONS what has the level info isn't logged: all but changes, and what failed (err)."""
+    if settings.log_decisions:
+        return ""
+    return """\
+    http-request set-log-level notice if { var(txn.kind) -m str change }
+    http-response set-log-level info if { status 400:499 }
 """
 
 
@@ -255,9 +294,10 @@ def route_rules(settings):
 
 def frontends(settings):
     """Where clients come in, up to the shards' queues."""
-    first = binds(settings) + source_rules(settings) + DOMAIN_RULES + token_rules(settings) + head_rules()
+    first = (binds(settings) + source_rules(settings) + kind_rules() + DOMAIN_RULES + token_rules(settings)
+             + head_rules() + body_rules() + level_rules(settings))
     if not has_two_steps(settings):
-        return f"\nfrontend pdp\n{first}{body_rules()}{route_rules(settings)}"
+        return f"\nfrontend pdp\n{first}{route_rules(settings)}"
     again = """\
     # what changes nothing is sent once more if its connection to the shard was lost, and finds its way anew
     acl asks path_reg ^/domains/[^/]+/pdp$
@@ -267,7 +307,7 @@ def frontends(settings):
 """
     return f"""
 frontend pdp
-{first}{body_rules()}\
+{first}\
     http-response wait-for-body time 12s
     default_backend again
 
@@ -341,9 +381,17 @@ backend shard{shard}
 """ for shard in range(settings.shards))
 
 
+def own_part(settings):
+    """What the operator adds: sections of a file beside HAProxy's, which no tool writes."""
+    path = pathlib.Path(settings.haproxy_etc) / OWN
+    return f"\n# ---- of {path}\n\n{setting.text_of(path)}" if path.exists() else ""
+
+
 def configuration(settings):
     """The whole file."""
-    return "".join((
-        f"# Written by `pdpd-shards config`, of {FILE}: what is changed here is lost.\n",
+    text = "".join((
+        f"# Written by `pdpd-shards config`, of {setting.FILE}: what is changed here is lost. Sections of your own stand "
+        f"in {settings.haproxy_etc}/{OWN}.\n",
         global_part(settings), defaults_part(settings), frontends(settings), other_parts(settings),
-        backends(settings)))
+        backends(settings), own_part(settings)))
+    return text.replace(DIGEST, hashlib.sha256(text.encode()).hexdigest()[:16])

@@ -5,18 +5,24 @@ is by descriptors (`owned`).
 """
 from __future__ import annotations
 
+import contextlib
+import os
 import pathlib
 import re
+from collections.abc import Iterable, Iterator
+from typing import NamedTuple
 
-from . import moving
-from .backups import name_of_moment
+from . import listener, moving, talk
+from .backups import NAME, name_of_moment
 from .owned import PLANTED, Folder
 from .settings import MARK, Wrong
-from .trial import FILES, STORE, copy_files, domains_in_backup
+from .trial import FILES, STORE, copy_files, domains_in_folder
 
 # where the files of a backup wait, and the name of a folder for those that they replace
 COMING = "coming"
 ASIDE = re.compile(r"before-[0-9TZ.]+")
+# so many names are told of many
+MOST = 12
 
 
 def folder_aside(place: Folder) -> Folder:
@@ -63,17 +69,88 @@ def write_mark(place: Folder, coming: Folder, aside: Folder) -> None:
     place.sync()
 
 
-def put_back(settings, shard: int, name: str) -> tuple[list[str], pathlib.Path]:
-    """Puts a backup in place of a shard's files, which are kept beside; it is opened first. Gives its domains, and
-    where the files before are.
+class Plan(NamedTuple):
+    """What a put-back would do."""
+    shard: int
+    name: str
+    # the domains of the backup, and those that the shard has now (nothing where it doesn't answer)
+    domains: list[str]
+    before: list[str] | None
+    # the domains of the backup whose messages are led to other shards
+    astray: dict[str, object]
+
+    def lines(self) -> list[str]:
+        """What is told before it is done."""
+        now, then = None if self.before is None else {*self.before}, {*self.domains}
+        lines = [f"shard {self.shard} gets what {self.name} has: {len(then)} domains"]
+        if now is None:
+            lines.append("what it has now isn't known, since it doesn't answer")
+        else:
+            lines += [f"away then: {listed(now - then)}", f"there again: {listed(then - now)}"]
+            lines.append(f"as they were then: {listed(now & then)}. Policies and attributes are those of then, and "
+                         "tokens that were revoked since are valid again")
+        if self.astray:
+            lines.append(f"in the shard, but led to another one: {listed(self.astray)}. status tells of each")
+        return lines
+
+
+def listed(names: Iterable[str]) -> str:
+    """Names in a line, the first ones of many."""
+    ordered = sorted(names)
+    more = f" and {len(ordered) - MOST} more" if len(ordered) > MOST else ""
+    return f"{len(ordered)}" + (f" ({', '.join(ordered[:MOST])}{more})" if ordered else "")
+
+
+@contextlib.contextmanager
+def backup_of(settings, shard: int, name: str) -> Iterator[Folder]:
+    """The open folder of a backup, or of the files that a put-back has kept aside: with these it is undone."""
+    is_aside = ASIDE.fullmatch(name) is not None
+    if not is_aside and not NAME.fullmatch(name):
+        raise Wrong(f"{name!r} is no backup's name: pdpd-shards backups lists them")
+    above = settings.folder(shard) if is_aside else pathlib.Path(settings.backups) / str(shard)
+    with contextlib.ExitStack() as opened:
+        try:
+            place = opened.enter_context(Folder(above))
+            source = opened.enter_context(place.closed_folder(name))
+        except FileNotFoundError:
+            raise Wrong(f"{above / name} is no backup: pdpd-shards backups lists them") from None
+        if not source.has(STORE):
+            raise Wrong(f"{above / name} is no backup, since it has no {STORE}")
+        yield source
+
+
+def refuse_other_shard(shard: int, source: Folder) -> None:
+    """An error where a backup says that it is another shard's. (Files that were kept aside say nothing.)"""
+    said = source.line("shard") if source.has("shard") else f"{shard}"
+    if said.split()[:1] != [str(shard)]:
+        raise Wrong(f"{source.path} is a backup of shard {said}, and not of {shard}: its domains would be answered by "
+                    "nobody")
+
+
+def plan(settings, shard: int, name: str) -> Plan:
+    """What a put-back would do. The backup is opened."""
+    settings.operator()
+    with backup_of(settings, shard, name) as source:
+        refuse_other_shard(shard, source)
+        domains = domains_in_folder(settings, shard, source)
+    try:
+        before = talk.domains_of(settings, shard)
+    except listener.Impostor:
+        raise
+    except Wrong:
+        before = None
+    known, _ = moving.map_or_why_not(settings)
+    places = {name: talk.place(settings, known, name) for name in domains}
+    return Plan(shard, name, domains, before, {name: led for name, led in places.items() if led != shard})
+
+
+def put_back(settings, planned: Plan) -> pathlib.Path:
+    """Puts a backup in place of a shard's files, which are kept beside. Gives where the files before are.
 
     From before the first file is moved until all of it is there, a mark keeps the shard from starting.
     """
-    path = pathlib.Path(settings.backups) / str(shard) / name
-    if not (path / STORE).exists():
-        raise Wrong(f"{path} is no backup")
-    domains = domains_in_backup(settings, shard, path)
-    with Folder(settings.folder(shard)) as place, Folder(path) as source:
+    shard = planned.shard
+    with Folder(settings.folder(shard)) as place, backup_of(settings, shard, planned.name) as source:
         place.clear(COMING)
         with place.new_folder(COMING) as coming, folder_aside(place) as aside:
             copy_files(source, coming, place.owner)
@@ -85,4 +162,13 @@ def put_back(settings, shard: int, name: str) -> tuple[list[str], pathlib.Path]:
                 place.clear(MARK)
                 # before the shard starts: a mark that came back would have what it answers then replaced once more
                 place.sync()
-            return domains, aside.path
+            return aside.path
+
+
+def kept_aside(settings, shard: int) -> list[str]:
+    """The names of a shard's folders with files that a put-back has replaced, the oldest first."""
+    try:
+        names = os.listdir(settings.folder(shard))
+    except FileNotFoundError:
+        return []
+    return sorted(name for name in names if ASIDE.fullmatch(name))

@@ -18,11 +18,16 @@ NUMBERS = {
     "SHARDS": (1, 64), "FIRST_PORT": (1, 65_000), "KEEP_BACKUPS": (1, 100_000), "CONNECTIONS": (1, 1_000_000),
     "WORK": (0, 2 ** 63), "READING": (0, 2 ** 63), "IDLE": (0, 86_400), "THREADS": (1, 64), "KEEP": (0, 1),
     "RETRY": (0, 1), "MAXCONN": (1, 128), "RATE": (0, 1_000_000),
+    "RESERVE": (0, 100_000),
     "CLIENTS": (1, 100_000), "UNDER_WAY": (10, 100_000), "OF_SOURCE": (0, 100_000), "REFUSALS": (0, 1_000_000),
 }
 # the signals to end, as of a terminal that is closed
 ENDS = (signal.SIGINT, signal.SIGTERM, signal.SIGHUP)
 DOMAIN = re.compile(r"[a-z0-9][a-z0-9-]{0,31}")
+# what pdpd takes for a token
+TOKEN = re.compile(r"[!-~]{8,64}")
+# what the shell would read otherwise than this does, in a value
+SHELLS = re.compile(r"[$`;&|<>()\\]|^~")
 # the file in a shard's folder that is there while a backup replaces its files: pdpd-run starts no program beside it
 MARK = "put-back-unfinished"
 # where the tools' lock is: a folder that root alone can write into
@@ -31,6 +36,27 @@ LOCKS = pathlib.Path("/run/pdpd")
 
 class Wrong(Exception):
     """What the operator has to mend, in words."""
+
+
+class BadToken(Wrong):
+    """The operator's token isn't there, or is none."""
+
+
+def words_of(fault):
+    """What is told of an error: of one of the system its reason, and the file."""
+    reason = getattr(fault, "strerror", None)
+    if not reason or isinstance(fault, Wrong):
+        return str(fault)
+    files = [str(name) for name in (fault.filename, fault.filename2) if name is not None]
+    return ": ".join([*files, reason])
+
+
+def text_of(path):
+    """The text of a small file that a person writes."""
+    try:
+        return pathlib.Path(path).read_text(encoding="utf-8")
+    except UnicodeDecodeError:
+        raise Wrong(f"{path} isn't UTF-8: write it anew") from None
 
 
 def domains_in(body, whose):
@@ -56,13 +82,19 @@ def errors_of(fault):
 
 def lines_of(text):
     """The names and values that lines set."""
-    for number, line in enumerate(text.splitlines(), 1):
-        words = shlex.split(line, comments=True)
+    for number, line in enumerate(text.split("\n"), 1):
+        try:
+            words = shlex.split(line, comments=True)
+        except ValueError:
+            raise Wrong(f"{FILE}, line {number}: a quote has no end") from None
         if not words:
             continue
         name, is_set, value = words[0].partition("=")
         if len(words) != 1 or not is_set:
             raise Wrong(f"{FILE}, line {number}: it is no NAME=VALUE (a value with blanks wants quotes)")
+        if SHELLS.search(value) or not value.isprintable():
+            raise Wrong(f"{FILE}, line {number}: {name} may have none of $ ` ; & | < > ( ) \\, nor ~ at its beginning: "
+                        "a shell reads them otherwise")
         yield name, value
 
 
@@ -87,6 +119,7 @@ class Settings:
     """Each setting by its name in small letters."""
 
     def __init__(self, text=""):
+        self.text = text
         values = {**DEFAULTS, **dict(lines_of(text))}
         for name in values.keys() - DEFAULTS.keys():
             raise Wrong(f"{FILE}: there is no setting {name}")
@@ -96,6 +129,10 @@ class Settings:
             self.supervisor = "systemd" if os.path.isdir("/run/systemd/system") else "runit"
         if self.supervisor not in ("systemd", "runit"):
             raise Wrong(f"{FILE}: SUPERVISOR is {self.supervisor!r}, and neither systemd nor runit")
+        if self.log_decisions not in ("", "0", "1"):
+            raise Wrong(f"{FILE}: LOG_DECISIONS is {self.log_decisions!r}, and neither 0 nor 1 nor empty")
+        # (the journal has no place of its own for them: what is older would go, whatever it is)
+        self.log_decisions = self.log_decisions == "1" or (not self.log_decisions and self.supervisor == "runit")
         if self.keep:
             # another thread, or a message that is sent again, opens a second connection, which waits for ever
             self.threads, self.maxconn, self.retry = 1, 1, 0
@@ -119,9 +156,17 @@ class Settings:
         return pathlib.Path(self.haproxy_etc) / "domains.map"
 
     def operator(self):
-        """The operator's token."""
-        with open(self.token, encoding="ascii") as lines:
-            return lines.readline().strip()
+        """The operator's token; an error where no shard would start with it."""
+        try:
+            with open(self.token, "rb") as lines:
+                line = lines.readline(1000).rstrip(b"\n").decode("latin-1")
+        except (FileNotFoundError, IsADirectoryError) as fault:
+            raise BadToken(f"the operator's token isn't there ({words_of(fault)}): put it back. No shard can be "
+                           "started without it; those that run have it") from None
+        if not TOKEN.fullmatch(line):
+            raise BadToken(f"the first line of {self.token} is no token (8 to 64 visible ASCII characters): mend it. "
+                           "No shard can be started with it, so restart none before")
+        return line
 
     def shard_in(self, word):
         """The shard that a word of the command line names."""
@@ -133,7 +178,7 @@ class Settings:
 
 def read():
     """The settings of the file; those of the installed one where it isn't there."""
-    return Settings(FILE.read_text() if FILE.exists() else "")
+    return Settings(text_of(FILE) if FILE.exists() else "")
 
 
 @contextlib.contextmanager
@@ -176,9 +221,13 @@ def write_whole(path, text, mode=0o644):
     os.replace(file.name, path)
 
 
-def set_in_file(name, value):
-    """Writes one setting into the file."""
-    text = FILE.read_text() if FILE.exists() else ""
+def set_in_text(text, name, value):
+    """Settings with another value of one."""
     line = f"{name}={value}"
     changed, count = re.subn(rf"(?m)^{name}=.*$", line, text)
-    write_whole(FILE, changed if count else f"{text}{line}\n")
+    return changed if count else f"{text}{line}\n"
+
+
+def set_in_file(name, value):
+    """Writes one setting into the file."""
+    write_whole(FILE, set_in_text(text_of(FILE) if FILE.exists() else "", name, value))

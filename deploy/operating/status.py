@@ -1,76 +1,239 @@
 """How the shards are: what an operator looks at first, and what a monitor asks."""
-import shutil
+from __future__ import annotations
+
+import hashlib
+import json
+import os
+import pathlib
 import time
+from typing import NamedTuple
 
-from . import listener, talk, trial
-from .backups import backups_of, emptied
-from .settings import Wrong
+from . import applied, front, listener, room, supervisor, talk, trial
+from .backups import COPIED, backups_of, emptied, is_beyond
+from .findings import Findings
+from .settings import FILE, MARK, BadToken, Settings, Wrong, words_of
 
-# when a backup is too old, in seconds; how full a disk may be
-OLD, FULL = 2 * 3600 + 600, 0.9
+# when a backup is too old, in seconds
+OLD = 2 * 3600 + 600
+# so many digits of a program's SHA-256 are shown
+SHOWN = 12
+HEADS = "shard", "state", "domains", "file MiB", "log MiB", "backup", "program"
 
 
-def size(path):
+class Shard(NamedTuple):
+    """How a shard is. What can't be told is None."""
+    shard: int
+    state: str | None
+    domains: int | None
+    file_bytes: int | None
+    log_bytes: int | None
+    disk_free_bytes: int | None
+    backup_seconds: float | None
+    program: str | None
+
+    def cells(self) -> list[str]:
+        """Its row of the table."""
+        sizes = ["?" if size is None else f"{size / 2 ** 20:.1f}" for size in (self.file_bytes, self.log_bytes)]
+        old = "none" if self.backup_seconds is None else f"{self.backup_seconds / 60:.0f} min ago"
+        count = "-" if self.domains is None else str(self.domains)
+        return [str(self.shard), self.state or "?", count, *sizes, old, (self.program or "?")[:SHOWN]]
+
+
+class Report(NamedTuple):
+    """What is found of all."""
+    shards: list[Shard]
+    certificate_days: float | None
+    findings: Findings
+
+    def exit_status(self) -> int:
+        """1 where something is wrong, 2 where it can't be told."""
+        return 1 if self.findings.wrong else 2 if self.findings.unknown else 0
+
+    def text(self) -> str:
+        """A table and lines."""
+        rows = [list(HEADS), *(shard.cells() for shard in self.shards)]
+        widths = [max(map(len, column)) for column in zip(*rows)]
+        lines = ["  ".join(cell.ljust(width) for cell, width in zip(row, widths)).rstrip() for row in rows]
+        if self.certificate_days is not None:
+            lines.append(f"the certificate is valid for {self.certificate_days:.0f} days more")
+        lines += [f"WRONG: {what}" for what in self.findings.wrong]
+        return "\n".join([*lines, *(f"CAN'T TELL: {what}" for what in self.findings.unknown)])
+
+    def json(self) -> str:
+        """The same for a program."""
+        found = {"status": self.exit_status(), "wrong": self.findings.wrong, "unknown": self.findings.unknown,
+                 "certificate_days": self.certificate_days, "shards": [shard._asdict() for shard in self.shards]}
+        return json.dumps(found)
+
+
+def size(path: pathlib.Path) -> int:
+    """The bytes of a file; 0 where it isn't there."""
     try:
-        return path.lstat().st_size / 2 ** 20
-    except OSError:
-        return 0.0
+        return path.lstat().st_size
+    except FileNotFoundError:
+        return 0
 
 
-def age(settings, shard):
-    """How many seconds old the newest backup is; None where there is none."""
-    folders = backups_of(settings, shard)
-    return time.time() - folders[-1].stat().st_mtime if folders else None
+def sizes(settings: Settings, shard: int, findings: Findings) -> list[int | None]:
+    """The bytes of a shard's files."""
+    with findings.looking(f"the files of shard {shard}"):
+        return [size(settings.folder(shard) / name) for name in trial.FILES]
+    return [None for _ in trial.FILES]
 
 
-def copies(settings, shard, known, names):
-    """What is wrong where a shard has domains whose messages go to another one."""
-    places = {name: talk.place(settings, known, name) for name in names}
-    return [f"shard {shard} has {name}, whose messages go to shard {where}: look which is right"
-            for name, where in places.items() if where not in (shard, "moving")]
+def age_of_backup(settings: Settings, shard: int, findings: Findings) -> float | None:
+    """How many seconds old the newest backup is; nothing where there is none."""
+    with findings.looking(f"the backups of shard {shard}"):
+        folders = backups_of(settings, shard)
+        beyond = [path for path in folders if is_beyond(path)]
+        if beyond:
+            findings.add(f"shard {shard} has {len(beyond)} backups of moments to come (as {beyond[-1].name}): this "
+                         "clock is behind, or was ahead. If it is right now, take these folders away")
+        folders = [path for path in folders if path not in beyond]
+        old = max(0.0, time.time() - folders[-1].stat().st_mtime) if folders else None
+        if old is None or old > OLD:
+            findings.add(f"shard {shard} has no backup of the last two hours")
+        elif settings.backup_hook and not any(was_copied(path) for path in folders):
+            findings.add(f"no backup of shard {shard} of the last two hours was copied away by {settings.backup_hook}: "
+                         f"pdpd-shards backup {shard} tells why")
+        if found := emptied(settings, shard):
+            findings.add(found)
+        return old
+    return None
 
 
-def of_shard(settings, shard, known):
-    """A line on a shard, and what is wrong with it."""
-    wrong, state, count = [], "up", "-"
+def was_copied(path: pathlib.Path) -> bool:
+    """Whether a backup was copied away lately."""
+    mark = path / COPIED
+    return mark.exists() and time.time() - mark.stat().st_mtime <= OLD
+
+
+def led_elsewhere(settings: Settings, shard: int, known: dict[str, str], names: list[str], findings: Findings) -> None:
+    """Tells of domains whose messages go to another shard than the one that has them, and of those that nobody has
+    where their messages go."""
+    for name in names:
+        where = talk.place(settings, known, name)
+        if where not in (shard, "moving"):
+            findings.add(f"shard {shard} has {name}, whose messages go to shard {where}: look which is right")
+    lost = sorted(name for name, where in known.items() if where == str(shard) and name not in names)
+    if lost:
+        findings.add(f"the map leads {front.first_of(lost)} to shard {shard}, where no such domain is. What was "
+                     "removed is taken out of the map by pdpd-shards remap; or an older backup was put back")
+
+
+def state_of(settings: Settings, shard: int, known: dict[str, str],
+             findings: Findings) -> tuple[str | None, int | None]:
+    """The state of a shard, and how many domains it has."""
     try:
         names = talk.domains_of(settings, shard)
-        count = str(len(names))
-        wrong += copies(settings, shard, known, names)
+    except PermissionError as fault:
+        findings.cannot_tell(f"how shard {shard} is: {words_of(fault)}")
+        return None, None
     except Wrong as fault:
-        states = {talk.OtherToken: "up", listener.Impostor: "taken"}
-        state = states.get(type(fault), "down")
-        wrong.append(str(fault))
-    old = age(settings, shard)
-    if old is None or old > OLD:
-        wrong.append(f"shard {shard} has no backup of the last two hours")
-    if found := emptied(settings, shard):
-        wrong.append(found)
-    folder = settings.folder(shard)
-    last = "none" if old is None else f"{old / 60:.0f} min ago"
-    sizes = [f"{size(folder / name):.1f}" for name in trial.FILES]
-    return [str(shard), state, count, *sizes, last], wrong
+        findings.add(str(fault))
+        if isinstance(fault, (talk.NoProxy, BadToken)):
+            return ("up" if listener.is_own(settings, shard) else "down"), None
+        return {talk.OtherToken: "up", listener.Impostor: "taken"}.get(type(fault), "down"), None
+    led_elsewhere(settings, shard, known, names, findings)
+    return "up", len(names)
 
 
-def report(settings):
-    """The lines of a table, and what is wrong."""
-    rows, wrong = [["shard", "state", "domains", "file MiB", "log MiB", "backup"]], []
-    known = talk.map_in_file(settings)
-    for shard in range(settings.shards):
-        row, more = of_shard(settings, shard, known)
-        rows.append(row)
-        wrong += more
-    for name, path in (("DATA", settings.data), ("BACKUPS", settings.backups)):
+def digest_of(path: str | os.PathLike[str]) -> str:
+    """The SHA-256 of a program's file."""
+    digest = hashlib.sha256()
+    with open(path, "rb") as file:
+        while data := file.read(2 ** 20):
+            digest.update(data)
+    return digest.hexdigest()
+
+
+def program_of(settings: Settings, shard: int, installed: str | None, findings: Findings) -> str | None:
+    """The SHA-256 of the program that a shard runs; nothing where it runs none. Its open files are looked at, too."""
+    with findings.looking(f"the program of shard {shard}"):
+        process = supervisor.of(settings).pid(shard)
+        if not process:
+            return None
         try:
-            total, _, free = shutil.disk_usage(path)
-        except OSError:
-            continue  # told by each shard
-        if free < (1 - FULL) * total:
-            wrong.append(f"the disk of {name} has only {free / 2 ** 20:.0f} MiB left")
-    widths = [max(map(len, column)) for column in zip(*rows)]
-    lines = ["  ".join(cell.ljust(width) for cell, width in zip(row, widths)).rstrip() for row in rows]
-    moving = [name for name, value in known.items() if value == "moving"]
-    wrong += ["no domain can be made: a growth was cut; give pdpd-shards grow again" if name == "NEW" else
-              f"{name} is moving: if nobody moves it now, give pdpd-shards move again" for name in moving]
-    wrong += [found for found in (talk.other_count(settings), listener.warning(settings)) if found]
-    return lines, list(dict.fromkeys(wrong))
+            found = digest_of(f"/proc/{process}/exe")
+            removed = trial.removed_files(settings.folder(shard), process)
+        except (FileNotFoundError, ProcessLookupError):
+            return None  # (it has ended meanwhile)
+        if installed and found != installed:
+            findings.add(f"shard {shard} runs another program (SHA-256 {found[:SHOWN]}) than {settings.program} "
+                         f"({installed[:SHOWN]}): pdpd-shards upgrade")
+        for name in removed:
+            findings.add(f"{settings.folder(shard) / name} was removed while the program of shard {shard} has it open, "
+                         f"and all of it is lost once that ends. Don't restart it: run pdpd-shards backup {shard}, "
+                         "which takes it from the program, and put that backup back")
+        return found
+    return None
+
+
+def look_at_disk(settings: Settings, shard: int, findings: Findings) -> int | None:
+    """The bytes that are left on a shard's disk. It tells where there are few, and where none are kept for that."""
+    path, found = settings.folder(shard), None
+    with findings.looking(f"the disk of shard {shard}"):
+        found = room.on_disk_of(path) if path.exists() else None  # (else what looks at its files tells it)
+    if not found:
+        return None
+    if found.is_scarce():
+        findings.add_once(path.stat().st_dev, f"the disk of shard {shard} {found.text()}: "
+                          f"{room.advice(settings, shard)}")
+        return found.free
+    with findings.looking(f"the reserve of shard {shard}"):
+        if not room.is_reserved(settings, shard):
+            findings.add(f"shard {shard} has no reserve of {settings.reserve} MiB for the day on which its disk is "
+                         "full: pdpd-shards reserve")
+    return found.free
+
+
+def look_at_disks(settings: Settings, findings: Findings) -> None:
+    """Whether there is room on the disks of all shards and of the backups."""
+    for name, path in (("DATA", settings.data), ("BACKUPS", settings.backups)):
+        with findings.looking(f"the disk of {name}"):
+            if os.path.exists(path) and (found := room.on_disk_of(path)).is_scarce():
+                findings.add_once(os.stat(path).st_dev, f"the disk of {name} {found.text()}")
+
+
+def look_at_map(settings: Settings, findings: Findings) -> dict[str, str]:
+    """What the map's file says; nothing where it can't be read. It tells of what was cut."""
+    known: dict[str, str] = {}
+    with findings.looking("the map"):
+        known = talk.map_in_file(settings)
+    for name, place in known.items():
+        if place == "moving":
+            findings.add("no domain can be made: a growth was cut; give pdpd-shards grow again, or remap"
+                         if name == "NEW" else
+                         f"{name} is moving: if nobody moves it now, give pdpd-shards move again")
+    return known
+
+
+def shard_report(settings: Settings, shard: int, known: dict[str, str], installed: str | None,
+                 findings: Findings) -> Shard:
+    """How a shard is."""
+    with findings.looking(f"how shard {shard} is"):
+        if os.path.lexists(settings.folder(shard) / MARK):
+            findings.add(f"a backup was put back in part in shard {shard}: give pdpd-shards put-back again")
+    with findings.looking(f"the settings of shard {shard}"):
+        if changed := applied.changed(settings, shard):
+            findings.add(f"{', '.join(changed)} of {FILE} isn't what shard {shard} was started with: pdpd-shards "
+                         f"{'config --write, then ' if 'FIRST_PORT' in changed else ''}restart")
+    state, count = state_of(settings, shard, known, findings)
+    return Shard(shard, state, count, *sizes(settings, shard, findings), look_at_disk(settings, shard, findings),
+                 age_of_backup(settings, shard, findings), program_of(settings, shard, installed, findings))
+
+
+def report(settings: Settings) -> Report:
+    """How all is."""
+    findings, installed = Findings(), None
+    known = look_at_map(settings, findings)
+    with findings.looking("the program that is installed"):
+        installed = digest_of(settings.program)
+    shards = [shard_report(settings, shard, known, installed, findings) for shard in range(settings.shards)]
+    look_at_disks(settings, findings)
+    days = front.look(settings, findings)
+    with findings.looking("SHARDS in HAProxy's file"):
+        for found in (talk.other_count(settings), listener.warning(settings)):
+            if found:
+                findings.add(found)
+    return Report(shards, days, findings)

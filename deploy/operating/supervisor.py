@@ -167,7 +167,7 @@ class Runit:
 
     def renew(self):
         close_sockets_folder(self.settings)
-        for name in self.BESIDE:
+        for name in (*self.BESIDE, "haproxy/log"):
             self.sv("restart", name)
 
 

@@ -10,10 +10,10 @@ import threading
 import time
 import zlib
 
-from . import listener
+from . import applied, listener
 from .owned import owner_of
 from .proxy import configuration
-from .settings import FILE, LIBRARY, Wrong, domains_in, put_off_signals, write_whole
+from .settings import DOMAIN, FILE, LIBRARY, Wrong, domains_in, put_off_signals, text_of, words_of, write_whole
 
 # how long a message may wait for its turn, and then for its reply (`timeout queue`, `timeout server`)
 QUEUE, SERVER = 10, 12
@@ -34,17 +34,32 @@ class OtherToken(Wrong):
     """A shard answers, and knows another operator's token than the file has."""
 
 
+class NoProxy(Wrong, ConnectionError):
+    """HAProxy isn't there, or says nothing."""
+
+
+def no_proxy(settings, socket_name, fault):
+    """What is told then."""
+    return NoProxy(f"HAProxy doesn't answer at {settings.haproxy_run}/{socket_name} ({words_of(fault)}): it doesn't "
+                   "run, or its log says why")
+
+
 def admin_reply(settings, command):
     """What HAProxy says to a command."""
-    with socket.socket(socket.AF_UNIX) as admin:
-        admin.settimeout(10)
-        admin.connect(f"{settings.haproxy_run}/admin.sock")
-        admin.sendall(command.encode() + b"\n")
-        reply = bytearray()
-        while data := admin.recv(65_536):
-            reply += data
-            if len(reply) > MOST:
-                raise Wrong(f"HAProxy answers more than {MOST} bytes to {command}: look who has its user")
+    reply, path = bytearray(), f"{settings.haproxy_run}/admin.sock"
+    try:
+        with socket.socket(socket.AF_UNIX) as admin:
+            admin.settimeout(10)
+            admin.connect(path)
+            admin.sendall(command.encode() + b"\n")
+            while data := admin.recv(65_536):
+                reply += data
+                if len(reply) > MOST:
+                    raise Wrong(f"HAProxy answers more than {MOST} bytes to {command}: look who has its user")
+    except PermissionError as fault:
+        raise PermissionError(fault.errno, fault.strerror, path) from None
+    except OSError as fault:
+        raise no_proxy(settings, "admin.sock", fault) from None
     return reply.decode(errors="replace")
 
 
@@ -131,16 +146,17 @@ def wait_for_turn(settings, shard):
 
 def domains_of(settings, shard):
     """The names of the domains that a shard has. Its own program alone is shown the operator's token."""
+    token = settings.operator()
     listener.wait_for_own(settings, shard)
     try:
         if asked_port(settings, shard) != settings.port(shard):
             raise Wrong(f"HAProxy asks shard {shard} at another port than FIRST_PORT says: pdpd-shards config --write, "
                         f"and pdpd-shards restart {shard}")
-        status, body = shard_reply(settings, shard, "GET", "/operator/domains", settings.operator())
+        status, body = shard_reply(settings, shard, "GET", "/operator/domains", token)
+    except (NoProxy, PermissionError):
+        raise
     except NO_REPLY as fault:
-        why = getattr(fault, "strerror", None) or fault
-        raise Wrong(f"HAProxy doesn't answer at {settings.haproxy_run}/inner.sock ({why}): it doesn't run, or its log "
-                    "says why") from None
+        raise no_proxy(settings, "inner.sock", fault) from None
     if status == 401:
         raise OtherToken(f"shard {shard} was started with another operator's token: pdpd-shards restart {shard}")
     if status != 200:
@@ -150,11 +166,41 @@ def domains_of(settings, shard):
 
 # ---- the map
 
+def entry_of_line(settings, number, line):
+    """The name and the place in a line of the map's file."""
+    words = line.split()
+    if len(words) != 2 or not (DOMAIN.fullmatch(words[0]) or words[0] == "NEW") or \
+            not (words[1] == "moving" or re.fullmatch(r"[0-9]{1,4}", words[1])):
+        raise Wrong(f"{settings.map}, line {number}: {line[:80]!r} isn't DOMAIN SHARD, as `acme 2`: mend it, or have "
+                    "the map made anew by pdpd-shards remap")
+    return words
+
+
 def map_in_file(settings):
-    """What the map's file says: the shard of each domain in it."""
-    if not settings.map.exists():
-        return {}
-    return dict(line.split() for line in settings.map.read_text().splitlines() if line.strip())
+    """What the map's file says: the shard of each domain in it. Of two lines HAProxy goes by the first."""
+    known = {}
+    lines = text_of(settings.map).split("\n") if settings.map.exists() else []
+    for number, line in enumerate(lines, 1):
+        if line.strip() and not line.lstrip().startswith("#"):
+            known.setdefault(*entry_of_line(settings, number, line))
+    return known
+
+
+def map_while_it_runs(settings):
+    """What the HAProxy that runs has in its map."""
+    known = {}
+    for line in admin_reply(settings, f"show map {settings.map}").splitlines():
+        entry, name, *values = *line.split(), "", ""
+        if entry and not entry.startswith("0x"):
+            raise Wrong(f"HAProxy doesn't go by {settings.map} ({line.strip()}): pdpd-shards config --write, reload")
+        if entry:
+            known.setdefault(name, " ".join(values).strip())
+    return known
+
+
+def running(known):
+    """The places of domains in such a map, without what a tool has held back."""
+    return {name: value for name, value in known.items() if name == "NEW" or DOMAIN.fullmatch(name)}
 
 
 def place(settings, known, domain):
@@ -175,8 +221,7 @@ def set_in_map(settings, changes):
 
 def set_while_it_runs(settings, changes):
     """Says where domains are to the HAProxy that runs alone."""
-    lines = admin_reply(settings, f"show map {settings.map}").splitlines()
-    names = {line.split()[1] for line in lines if line.strip()}
+    names = map_while_it_runs(settings)
     for name, value in changes.items():
         if value is None and name not in names:
             continue
@@ -288,6 +333,8 @@ def write_configuration(settings, *, is_growth=False):
     """Writes what HAProxy reads, if it finds no fault in it. A growth alone may change the number of shards."""
     if not is_growth:
         refuse_other_count(settings)
+    if not settings.tls_bind.strip() and not settings.plain_bind.strip():
+        raise Wrong(f"{FILE}: TLS_BIND and PLAIN_BIND are empty: no client could connect")
     if not settings.map.exists():
         write_whole(settings.map, "")
     write_whole(settings.map.with_name("domains.lua"), (LIBRARY / "domains.lua").read_text())
@@ -302,7 +349,7 @@ def write_configuration(settings, *, is_growth=False):
 def shards_in_configuration(settings):
     """How many shards HAProxy's file has; None where there is none of ours."""
     path = settings.map.with_name("haproxy.cfg")
-    line = re.search(r"setenv PDPD_SHARDS (\d+)", path.read_text()) if path.exists() else None
+    line = re.search(r"setenv PDPD_SHARDS (\d+)", text_of(path)) if path.exists() else None
     return int(line[1]) if line else None
 
 
@@ -331,6 +378,7 @@ def reload(settings, supervisor):
                 break
     else:
         raise Wrong(f"HAProxy isn't reloaded after {2 * LONGEST} s; its log says why")
+    applied.apply(settings, applied.PROXY)
     # the new process asks all shards, also one that the process before was kept from
     for shard in range(settings.shards):
         refuse_another(settings, shard)

@@ -10,7 +10,9 @@ import os
 import pathlib
 import secrets
 import select
+import shutil
 import socket
+import stat
 import subprocess
 import threading
 import time
@@ -31,13 +33,48 @@ CONNECTIONS, IDLE = 1000, 1
 MOST, TOLD = 2 ** 26, 1000
 
 
-def copy_files(source: Folder, target: Folder, user: User | None = None) -> None:
-    """Copies the files that are there: just after its first start a shard may have no log yet."""
-    if not source.has(STORE):
-        raise Wrong(f"{source.path / STORE} isn't there: its program has hardly begun")
+def copy_files(source: Folder, target: Folder, user: User | None = None, is_open_in: int = 0) -> None:
+    """Copies the files that are there: just after its first start a shard may have no log yet. Those that a process
+    has open, and that were removed, are copied from there."""
+    removed: dict[str, str] = {}
+    with contextlib.suppress(PermissionError):  # (the unit of backups may not look into the program)
+        removed = removed_files(source.path, is_open_in) if is_open_in else {}
+    if not source.has(STORE) and STORE not in removed:
+        raise Wrong(f"{source.path / STORE} isn't there: its program has hardly begun, or the file was removed. "
+                    "pdpd-shards status tells; pdpd-shards backup by root takes what its program has open")
     for name in FILES:
-        if source.has(name):
+        if name in removed:
+            copy_opened(source, target, name, removed[name])
+        elif source.has(name):
             copy_file(source, target, name, user)
+
+
+def removed_files(folder: pathlib.Path, process: int) -> dict[str, str]:
+    """Which files of a store a process still has open though they were removed from the folder, and where it does."""
+    found, place, real = {}, f"/proc/{process}/fd", os.path.realpath(folder)
+    with contextlib.suppress(FileNotFoundError, ProcessLookupError):
+        for name in os.listdir(place):
+            with contextlib.suppress(FileNotFoundError):
+                opened = f"{place}/{name}"
+                target, status = os.readlink(opened), os.stat(opened)
+                for file in FILES:
+                    if target == f"{real}/{file} (deleted)" and status.st_nlink == 0:
+                        found[file] = opened
+    return found
+
+
+def copy_opened(source: Folder, target: Folder, name: str, opened: str) -> None:
+    """Copies a file that was removed from where a process has it open. It has to be a regular one of the user's."""
+    file = os.open(opened, os.O_RDONLY | os.O_NONBLOCK | os.O_CLOEXEC)
+    try:
+        found = os.fstat(file)
+        if not stat.S_ISREG(found.st_mode) or found.st_uid != source.owner.uid or found.st_nlink:
+            raise Wrong(f"{opened} is no file of the shard's user: look what its program is")
+        with target.making(name) as made, open(file, "rb", closefd=False) as read, \
+                open(made, "wb", closefd=False) as written:
+            shutil.copyfileobj(read, written)
+    finally:
+        os.close(file)
 
 
 def port_of(settings) -> int:
@@ -112,9 +149,15 @@ def let_through(folder: Folder, user: User) -> None:
 
 
 def domains_in_backup(settings, shard: int, path: pathlib.Path) -> list[str]:
+    """The domains of a backup in a folder that stands where root alone can put one."""
+    with Folder(path) as source:
+        return domains_in_folder(settings, shard, source)
+
+
+def domains_in_folder(settings, shard: int, source: Folder) -> list[str]:
     """The domains of a backup, as pdpd lists them over a copy of it. It judges each row as it opens one."""
     user, token = owner_of(settings.folder(shard)), secrets.token_hex(16)
-    with Folder(settings.backups) as backups, Folder(path) as source:
+    with Folder(settings.backups) as backups:
         let_through(backups, user)
         backups.clear(".tried")
         try:

@@ -19,7 +19,7 @@ import sys
 import threading
 import time
 
-from . import listener, supervisor, talk
+from . import applied, listener, room, supervisor, talk
 from . import settings as setting
 
 # how long a message may take, and how long is waited between two looks, in seconds
@@ -131,14 +131,45 @@ def told_state(settings, shard, before):
     """The state of a shard, and its socket; it is told if it is another one than before."""
     now, socket = shard_state(settings, shard)
     if now != before:
-        why = f": {listener.another(settings, shard)}" if now == "taken" else ""
-        tell(f"shard {shard} is {now}{why}")
+        tell(f"shard {shard} is {now}{led(settings, shard, now)}")
     return now, socket
+
+
+def look_at_disk(shard, before):
+    """Tells if a shard's disk has become full, or nearly so, or has room again; gives how it is now."""
+    settings = applied.watched(shard)
+    try:
+        found = room.on_disk_of(settings.folder(shard))
+    except FileNotFoundError:
+        return before  # (it has never begun)
+    now = "full" if found.is_full() else "soon full" if found.is_scarce() else "not full"
+    if now != before:
+        more = f": its changes may be answered with 503. {room.advice(settings, shard)}" if found.is_full() else ""
+        tell(f"the disk of shard {shard} is {now}, it has {found.free / room.MIB:.1f} MiB left{more}")
+    return now
+
+
+def led(settings, shard, now):
+    """Has HAProxy send nothing to a shard's port that another user's program has, and ask it again once it is up: what
+    is told of that."""
+    try:
+        # (a port that was only set by now, and that nobody asks, says nothing of the shard)
+        if now == "taken" and talk.asked_port(settings, shard) == settings.port(shard):
+            talk.refuse_another(settings, shard)
+        elif now == "taken":
+            return f": {listener.another(settings, shard)}"
+        elif now == "up":
+            talk.lead(settings, shard)
+    except setting.Wrong as fault:
+        return f": {fault}"
+    except OSError as fault:
+        return f": HAProxy isn't told: {setting.words_of(fault)}"
+    return ""
 
 
 def look(shard, before):
     """Looks at a shard, tells if it is otherwise than before, kills what is stuck, and gives how it is now."""
-    settings = setting.read()
+    settings = applied.watched(shard)
     now, socket = told_state(settings, shard, before)
     if now == "stuck" and KILLS.wants_second_look(shard):
         tell(f"shard {shard} is looked at once more, since another one was stuck a moment ago")
@@ -154,21 +185,28 @@ def look(shard, before):
 
 def watch(shard):
     """Watches a shard for ever."""
-    now = "up"
+    now = "not known"  # so one that is up is asked again by HAProxy, which may have been kept from another program
+    disk = "not full"
     while True:
         try:
             now = look(shard, now)
+            disk = look_at_disk(shard, disk)
         except Exception as fault:  # pylint: disable=broad-exception-caught
             # a thread that ended would leave its shard unwatched
-            tell(f"shard {shard} wasn't looked at: {fault!r}")
+            why = setting.words_of(fault) if isinstance(fault, (setting.Wrong, OSError)) else repr(fault)
+            tell(f"shard {shard} wasn't looked at: {why}")
         time.sleep(PAUSE)
 
 
 def watch_all():
-    """Watches all shards, also those that come later."""
-    count = 0
+    """Watches all shards, also those that come later. While the settings can't be read those before them count."""
+    count, before = 0, ""
     while True:
-        while count < setting.read().shards:
+        settings, fault = applied.read_or_before()
+        if fault != before:
+            tell(f"{fault}: what was set before goes on" if fault else "the settings can be read again")
+        before = fault
+        while settings and count < settings.shards:
             threading.Thread(target=watch, args=(count,), daemon=True).start()
             count += 1
         time.sleep(PAUSE)

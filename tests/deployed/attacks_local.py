@@ -140,7 +140,31 @@ def impostors(machine, checks):
     wait_until(lambda: not thief_is_at(port(1)), "the port isn't free again")
     shards("restart", 1)
     checks.expect("behind it", [decision(once(ask)) for ask, _ in asks], [effect for _, effect in asks])
+    kept_from(checks, asks, places)
     changes_ports(machine, checks, asks, low)
+
+
+def kept_from(checks, asks, places):
+    """While no tool runs the watchdog has HAProxy send such a program nothing, and ask the shard again behind it."""
+    right = [effect for _, effect in asks]
+    away = [503 if place == 1 else effect for place, effect in zip(places, right)]
+    decisions = lambda: [decision(once(ask)) for ask, _ in asks]
+    sh("sv down /etc/service/pdpd-1")
+    with Local(NOBODY, THIEF, port(1)) as thief:
+        wait_until(lambda: "taken" in thief.said(), "the thief doesn't get the port")
+        wait_until(lambda: server_state(1) == "1", "it is asked", 60)
+        checks.expect("while another program has the port", decisions(), away)
+    sh("sv up /etc/service/pdpd-1")
+    wait_until(lambda: server_state(1) == "0", "the shard is asked no more", 60)
+    wait_until(lambda: decisions() == right, "its domains stay away", 60)
+    checks.expect("behind it, without a tool", decisions(), right)
+
+
+def server_state(shard):
+    """How the HAProxy that runs is told to treat a shard: 0 asks it, 1 doesn't (srv_admin_state, maintenance)."""
+    rows = [line.split() for line in admin(f"show servers state shard{shard}").splitlines()]
+    heads = next(row[1:] for row in rows if row[:1] == ["#"])
+    return next(row[heads.index("srv_admin_state")] for row in rows if row[1:2] == [f"shard{shard}"])
 
 
 def thief_is_at(number):
@@ -165,8 +189,8 @@ def asked_status():
 def meets(machine, checks, thief):
     """Each tool, while a shard's port is another program's."""
     name = re.findall(r"(?m)^1 (\S+)", shards("backups"))[-1]
-    tools = (("status",), ("restart", 1), ("backup", 1), ("move", "d0", 0, 1), ("grow", 4), ("put-back", 1, name),
-             ("upgrade",))
+    tools = (("status",), ("restart", 1), ("backup", 1), ("move", "d0", 0, 1), ("grow", 4), ("remap",),
+             ("put-back", 1, name, "--yes"), ("upgrade",))
     for words in tools:
         said = shards(*words, status=1)
         checks.expect(f"{words}: {said}", impostor_of(thief) in said, True)
@@ -185,6 +209,7 @@ def changes_ports(machine, checks, asks, low):
     checks.expect("no decision is lost while ports change", deciders.wrong, [])
     checks.expect("the ports", [bool(listens(low + shard)) for shard in range(4)], [True] * 4)
     shards("reload")
+    shards("remap")
     checks.expect("status behind it", shards("status").count(" up "), 4)
 
 

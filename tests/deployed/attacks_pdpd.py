@@ -260,13 +260,14 @@ def put_backs(machine, checks):
     name = re.findall(r"(?m)^3 (\S+)", shards("backups"))[-1]
     with Local("pdpd", SWAPPER, place) as swapper:
         for _ in range(3):
-            ran = subprocess.run(["pdpd-shards", "put-back", "3", name], capture_output=True, text=True, check=False)
+            words = ["pdpd-shards", "put-back", "3", name, "--yes"]
+            ran = subprocess.run(words, capture_output=True, text=True, check=False)
             checks.say(f"with a folder that is swapped: {ran.returncode} {ran.stdout + ran.stderr}".strip())
         checks.within("how often the folder is swapped", swapper.said().count("swapped"), Between(1))
     found = owner_and_mode("/var/only-root"), pathlib.Path("/var/only-root").read_text().strip()
     checks.expect("the file of root's", found, (secret, SECRET))
     sh(f"rm -rf {place}/coming {place}/c[0-9]*")
-    shards("put-back", 3, name)
+    shards("put-back", 3, name, "--yes")
     checks.expect("behind it", (machine.operator.is_answered(), asked_status().count(" up ")), (True, 4))
     marks(machine, checks, place, name)
     things(machine, checks, place, name)
@@ -281,7 +282,7 @@ def marks(machine, checks, place, name):
                "a link": "ln -s /var/only-root {}", "a pipe": "mkfifo {}"}
     for what, command in hostile.items():
         as_user("pdpd", f"cd {place}; {command.format(mark)}")
-        said = shards("put-back", 3, name, status=1)
+        said = shards("put-back", 3, name, "--yes", status=1)
         checks.expect(f"a mark, {what}: {said}", "look who put it there" in said, True)
         found = os.listdir("/var/target"), (place / "pdpd.db").exists()
         checks.expect(f"a mark, {what}: what is moved", found, ([], True))
@@ -298,13 +299,13 @@ def things(machine, checks, place, name):
     for what, command in THINGS.items():
         for file in ("pdpd.db", "pdpd.db-wal", "coming"):
             as_user("pdpd", f"cd {place}; rm -rf {file}; {command.format(file)}")
-        shards("put-back", 3, name)
+        shards("put-back", 3, name, "--yes")
         checks.expect(f"{what}: behind it", machine.operator.is_answered(), True)
         aside = [path for path in place.glob("before-*/*") if not path.is_file() or path.is_symlink()]
         checks.expect(f"{what}: kept aside", aside, [])
     deep = "import os\nfor _ in range(3000): os.mkdir('d'); os.chdir('d')"
     as_user("pdpd", f"cd {place}; mkdir coming; cd coming; python3 -c {shlex.quote(deep)}")
-    said = shards("put-back", 3, name, status=1)
+    said = shards("put-back", 3, name, "--yes", status=1)
     checks.expect(f"a folder that is very deep: {said}", "look who put it there" in said, True)
     sh(f"rm -rf {place}/coming")
     checks.expect("the file of root's", owner_and_mode("/var/only-root"), "root root 600 regular file")

@@ -129,9 +129,9 @@ def put_back(machine, checks, shard):
     name = re.search(rf"/{shard}/([^,]+), ", backs_up(shard))[1]
     checks.expect("the domain is removed", status(once(machine.operator.message("DELETE", "/acme"))), 200)
     checks.expect("and away", status(once(ask)), 401)
-    shards("put-back", shard, name)
+    shards("put-back", shard, name, "--yes")
     checks.expect("and there again", decision(once(ask)), "Permit")
-    said = shards("put-back", shard, "20000101T000000Z", status=1)
+    said = shards("put-back", shard, "20000101T000000Z", "--yes", status=1)
     checks.expect("a backup that isn't there", "is no backup" in said, True)
     cut_put_backs(machine, checks, shard, name)
 
@@ -149,12 +149,12 @@ def cut_put_backs(machine, checks, shard, name):
             once(machine.operator.message("DELETE", "/acme"))
             old, what = machine.operator.names(), f"a put-back that is killed at {call} {number}"
             found, said = ended_shards(machine.folder, ("KILL", call, number, *paths), "put-back", shard,
-                                        name)
+                                        name, "--yes")
             if found == 0:
                 break
             checks.expect(f"{what}: {said}", found, -signal.SIGKILL)
             marks.append(stands_cut(machine, checks, what, shard, ask))
-            aside = shards("put-back", shard, name).strip().rpartition(" are in ")[2]
+            aside = shards("put-back", shard, name, "--yes").strip().rpartition(" are in ")[2]
             checks.expect(f"{what}, given again", decision(once(ask)), "Permit")
             checks.expect(f"{what}: the old files", domains_in(shard, pathlib.Path(aside)), sorted(old))
     checks.within(f"moments with a mark: {marks}", marks.count(True), Between(3))
@@ -232,6 +232,6 @@ def anew(machine, checks):
     sh(f"cp /var/lib/pdpd-backups/0/{names['0']}/domains.map /etc/haproxy/domains.map")
     shards("reload")
     for shard, name in names.items():
-        shards("put-back", shard, name)
+        shards("put-back", shard, name, "--yes")
     checks.expect("each domain is there again", machine.operator.names(), [f"d{number}" for number in range(8)])
     checks.expect("and answers", [decision(once(ask)) for ask, _ in asks], [wanted for _, wanted in asks])

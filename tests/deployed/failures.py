@@ -227,6 +227,8 @@ def unkilled(machine, checks):
         checks.expect(f"another program has its port: {line}", (now, begins), ("taken", True))
     stuck = "shard 3 is stuck"
     sh("sv up /etc/service/pdpd-3")
+    # (HAProxy was kept from that other one)
+    wait_until(lambda: looked(3, "taken")[0] == "up", "the watchdog doesn't find it up")
     wait_until(machine.operator.is_answered, "the shard isn't there again")
     old, why = pid(3), "shard 3 wasn't killed: [Errno 1] not permitted"
     os.kill(old, signal.SIGSTOP)
@@ -244,11 +246,12 @@ def looks_again(checks):
     """A look that ends with a fault is told, and the next one knows how the shard was before."""
     from operating import watchdog
     looks = mock.patch.object(watchdog, "look", side_effect=[ValueError("a fault"), "stuck", SystemExit])
-    with mock.patch.object(watchdog, "PAUSE", 0), looks as look, contextlib.suppress(SystemExit), \
+    disk = mock.patch.object(watchdog, "look_at_disk", side_effect=lambda _, before: before)
+    with mock.patch.object(watchdog, "PAUSE", 0), looks as look, disk, contextlib.suppress(SystemExit), \
             contextlib.redirect_stderr(io.StringIO()) as told:
         watchdog.watch(3)
     found = [call.args for call in look.call_args_list]
-    checks.expect("the looks", found, [(3, "up"), (3, "up"), (3, "stuck")])
+    checks.expect("the looks", found, [(3, "not known"), (3, "not known"), (3, "stuck")])
     line = "pdpd-watchdog: shard 3 wasn't looked at: ValueError('a fault')\n"
     checks.expect("what is told", told.getvalue(), line)
 
@@ -275,17 +278,22 @@ def unstarted(machine, checks):
     places = [int(shards("where", f"d{number}")) for number in range(8)]
     one = places[0]
     other = next(place for place in places if place != one)
+    # (both shards have it, and not the same of it: that is found once both are stopped)
+    twice = next(name for name in map("twice{}".format, range(100)) if int(shards("where", name)) == one)
+    machine.operator.makes(twice)
+    checks.expect("it is made twice", decision(once(machine.operator.creates(twice), port(other))), 201)
     for refused, started in ((one, other), (other, one)):
         beside = [ask for ask, place in zip(asks, places) if place == started]
         with refuse_starts(machine.folder, refused), Deciders(beside, 2) as deciders:
-            said = shards("move", "nobody", one, other, status=1)
-        found = f"neither shard {one} nor {other} has nobody" in said, "refused for the test" in said
+            said = shards("move", twice, one, other, status=1)
+        found = f"both shards have a domain {twice}, and not the same of it" in said, "refused for the test" in said
         checks.expect(f"why it isn't made, and what isn't started: {said}", found, (True, True))
         found = bool(pid(refused)), bool(pid(started))
         checks.expect("whether the one runs, and the other", found, (False, True))
         checks.expect("no decision of the other is lost", deciders.wrong, [])
         sh(f"sv up /etc/service/pdpd-{refused}")
         wait_until(machine.operator.is_answered, "the shard isn't there again")
+    once(machine.operator.message("DELETE", f"/{twice}"), port(other))
     with refuse_starts(machine.folder, other):
         shards("move", "d0", one, other, status=1)
     sh(f"sv up /etc/service/pdpd-{other}")

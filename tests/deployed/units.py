@@ -15,13 +15,15 @@ from .clients import status as status_of
 from .machine import LIBRARY, PAGE, SETTINGS, TOP, as_user, backs_up, pid, sh, shards, wait_until
 
 SWITCHES = ("KEEP=1", "RETRY=1", "THREADS=4", "MAXCONN=4", "RATE=100", "PLAIN_BIND=127.0.0.1:8081",
-            "TLS_BIND=", "TLS_BIND=[::]:443 v4v6", "HAPROXY_USER=", "LOG=/dev/log local0", "RETRY=1;THREADS=4;RATE=5",
+            "TLS_BIND=;PLAIN_BIND=127.0.0.1:8081", "TLS_BIND=[::]:443 v4v6", "HAPROXY_USER=", "LOG=/dev/log local0",
+            "LOG=/dev/log local0;LOG_DECISIONS=0", "RETRY=1;THREADS=4;RATE=5;LOG_DECISIONS=0",
             "CLIENTS=10;UNDER_WAY=10;OF_SOURCE=0;REFUSALS=0")
 CURL = "curl --silent --show-error --cacert /etc/haproxy/pdpd.crt"
 DOMAINS = "https://localhost/operator/domains"
 TRACED = 7198
 C_LIBRARY = {"linux-vdso.so.1", "libc.so.6", "ld-linux-x86-64.so.2"}
-WRONG = ("SHARDS=0", "SHARDS=65", "SHARDS=four", "KEEP=2", "NO_SUCH=1", "a line", "SUPERVISOR=cron")
+WRONG = ("SHARDS=0", "SHARDS=65", "SHARDS=four", "KEEP=2", "NO_SUCH=1", "a line", "SUPERVISOR=cron",
+         "TLS_BIND=", "LOG_DECISIONS=2")
 
 
 def walk(machine, checks):
@@ -82,12 +84,17 @@ def configurations(machine, checks):
         lines = "\n".join(re.sub("=(.*)", r'="\1"', word) for word in switch.split(";"))
         found, said = made_with(machine.folder, f"SHARDS={count}\n{lines}")
         checks.expect(f"{count} shards, {switch}: {said}", found, 0)
+        if not switch:
+            said = sh(f"haproxy -c -f {machine.folder}/settings/haproxy.cfg 2>&1")
+            checks.expect(f"{count} shards, what HAProxy warns of: {said}", "[WARNING]" in said, False)
     for line in WRONG:
         found, said = made_with(machine.folder, line)
         checks.expect(f"{line}: {said}", (found, "shards.conf" in said), (1, True))
     checks.expect("no word", "pdpd-shards: several pdpd" in shards(status=2), True)
     found, said = made_with(machine.folder, "CERTIFICATE=/no/such.pem")
     checks.expect(f"a certificate that isn't there: {said}", (found, "'/no/such.pem'" in said), (1, True))
+    said = [shards("--help"), shards("status", "--xml", status=2)]
+    checks.expect("its help", [text.strip() for text in said], [shards(status=2).strip()] * 2)
     containers = TOP / "deploy" / "container"
     checks.expect("the sidecar", sh(f"haproxy -c -q -f {containers}/haproxy-sidecar.cfg"), "")
     scripts = f"{LIBRARY}/pdpd-run {LIBRARY}/runit/* {containers}/pdpd-loop {TOP}/deploy/debian/p*"
@@ -274,6 +281,7 @@ def another_schema(machine, checks):
 def status(machine, checks):
     """What `pdpd-shards status` says while all is well, and while a shard is away."""
     backs_up()
+    shards("remap")
     said = shards("status")
     count = len(re.findall(r"(?m)^\d+ +up ", said))
     checks.expect("each shard is up", count, int(re.search(r"(?m)^SHARDS=(\d+)", SETTINGS.read_text())[1]))

@@ -1,0 +1,68 @@
+"""The settings with which each shard, and HAProxy, were started by a tool: what services go by.
+
+What is written into the settings' file is live only once a tool has applied it: a program that ends by itself, or a
+machine that starts again, goes on with what was applied. `pdpd-run` reads the same files.
+"""
+from __future__ import annotations
+
+import pathlib
+
+from .settings import FILE, Settings, Wrong, read, text_of, words_of, write_whole
+
+FOLDER = FILE.parent / "applied"
+# the settings of a shard's program
+OF_SHARD = ("PROGRAM", "FIRST_PORT", "DATA", "TOKEN", "CONNECTIONS", "WORK", "READING", "IDLE")
+# in whose settings a watchdog finds those of HAProxy
+PROXY = "haproxy"
+# the last settings that could be read, by the name of their file
+LAST: dict[str, Settings] = {}
+
+
+def place(name: int | str) -> pathlib.Path:
+    """The file with what was applied to a shard or to HAProxy."""
+    return FOLDER / f"{name}.conf"
+
+
+def apply(settings: Settings, name: int | str) -> None:
+    """Has a shard, or what watches HAProxy, go by these settings from its next start on."""
+    FOLDER.mkdir(mode=0o755, exist_ok=True)
+    write_whole(place(name), settings.text)
+
+
+def apply_where_none(settings: Settings, shards: list[int]) -> None:
+    """The same of shards to which nothing was applied: those that are new, and those of earlier versions."""
+    for shard in shards:
+        if not place(shard).exists():
+            apply(settings, shard)
+
+
+def of(settings: Settings, name: int | str) -> Settings:
+    """What was applied to a shard or to HAProxy; these settings where nothing was."""
+    return Settings(text_of(place(name))) if place(name).exists() else settings
+
+
+def changed(settings: Settings, shard: int) -> list[str]:
+    """The names of the settings that a shard's program was started with otherwise."""
+    before = of(settings, shard)
+    return [name for name in OF_SHARD if getattr(before, name.lower()) != getattr(settings, name.lower())]
+
+
+def read_or_before() -> tuple[Settings | None, str]:
+    """The settings of the file, or, where it can't be read, those before, and why; a service has to go on. Without any
+    before there are none."""
+    try:
+        LAST[FILE.name] = read()
+        return LAST[FILE.name], ""
+    except (Wrong, OSError) as fault:
+        return LAST.get(FILE.name), words_of(fault)
+
+
+def watched(shard: int) -> Settings | None:
+    """By what a watchdog asks a shard: through HAProxy or not as HAProxy was started, and where the shard is."""
+    settings, _ = read_or_before()
+    if settings is None:
+        return None
+    found, own = of(settings, PROXY), of(settings, shard)
+    for name in OF_SHARD:
+        setattr(found, name.lower(), getattr(own, name.lower()))
+    return found

@@ -1,0 +1,182 @@
+"""What HAProxy runs and shows, against its files: its map, its configuration, its certificate, and a question as
+clients ask it."""
+from __future__ import annotations
+
+import contextlib
+import http.client
+import pathlib
+import re
+import socket
+import ssl
+import time
+
+from . import talk
+from .findings import Findings
+from .proxy import configuration
+from .settings import Wrong, text_of, words_of
+
+# how long a certificate has to be valid from now on, in days
+DAYS = 7
+# after how long two things are compared again that a tool may be changing, in seconds
+AGAIN = 0.5
+# how long a question may take: the time in a queue, for a reply, and a second
+PATIENCE = talk.LONGEST + 1.0
+# of so many names is told
+MOST = 5
+# a certificate in a file of several (RFC 7468)
+CERTIFICATE = re.compile(r"-----BEGIN CERTIFICATE-----.*?-----END CERTIFICATE-----", re.DOTALL)
+# the question of a domain that isn't there, without a token, and what any shard answers
+PATH, ANSWER = "/domains/status/pdp", 401
+# how OpenSSL calls a certificate whose time is over, or hasn't come (X509_V_ERR)
+EXPIRED, NOT_YET = 10, 9
+
+
+# ---- its map and its configuration
+
+def differing_names(settings) -> list[str]:
+    """The domains that HAProxy leads otherwise than the map's file says."""
+    found, wanted = talk.running(talk.map_while_it_runs(settings)), talk.map_in_file(settings)
+    return sorted(name for name in {*found, *wanted} if found.get(name) != wanted.get(name))
+
+
+def look_at_map(settings, findings: Findings) -> None:
+    """Whether HAProxy goes by the map's file, and whether that names shards that are there."""
+    names = differing_names(settings)
+    if names:
+        time.sleep(AGAIN)
+        names = [name for name in differing_names(settings) if name in names]
+    if names:
+        findings.add(f"HAProxy leads {len(names)} domains otherwise than {settings.map} says ({first_of(names)}): if "
+                     "no tool is at work, pdpd-shards remap makes both anew, of where the domains are")
+    beyond = [name for name, place in talk.map_in_file(settings).items() if place.isdecimal()
+              and int(place) >= settings.shards]
+    if beyond:
+        findings.add(f"{settings.map} leads to shards that there aren't: {first_of(sorted(beyond))}")
+
+
+def first_of(names: list[str]) -> str:
+    """The first ones of many names."""
+    return ", ".join(names[:MOST]) + (" .." if len(names) > MOST else "")
+
+
+def digest_in(text: str) -> str | None:
+    """The digest that a configuration has of itself."""
+    line = re.search(r"PDPD_DIGEST[ =](\w+)", text)
+    return line[1] if line else None
+
+
+def look_at_configuration(settings, findings: Findings) -> None:
+    """Whether HAProxy runs its file, and whether that is what the settings say."""
+    path = settings.map.with_name("haproxy.cfg")
+    text = text_of(path)
+    if text != configuration(settings):
+        findings.add(f"{path} isn't what the settings and the installed version make: pdpd-shards config --write, then "
+                     "pdpd-shards reload; behind a new archive pdpd-shards upgrade")
+    if digest_in(talk.admin_reply(settings, "show env PDPD_DIGEST")) != digest_in(text):
+        findings.add(f"HAProxy runs another configuration than {path} has: pdpd-shards reload")
+
+
+# ---- a client's question
+
+def address_of(bind: str) -> tuple[str, int] | None:
+    """Where a client of this machine reaches the first address of a line `bind`; nothing where that isn't known."""
+    first = bind.split()[0].partition(",")[0]
+    host, colon, port = first.rpartition(":")
+    number = re.fullmatch(r"(\d{1,5})(-\d+)?", port)
+    if not colon or not number:
+        return None
+    host = host.strip("[]")
+    if host in ("", "*", "0.0.0.0"):
+        host = "127.0.0.1"
+    elif host == "::":
+        host = "127.0.0.1" if "v4v6" in bind.split() else "::1"
+    return host, int(number[1])
+
+
+def any_certificate() -> ssl.SSLContext:
+    """TLS that takes any certificate: it is looked at for itself, since it names the clients' name."""
+    context = ssl.create_default_context()
+    context.check_hostname = False
+    context.verify_mode = ssl.CERT_NONE
+    return context
+
+
+def ask(address: tuple[str, int], is_tls: bool) -> tuple[int, bytes | None]:
+    """The status of the reply to a client's question, and the certificate that was shown."""
+    if is_tls:
+        connection = http.client.HTTPSConnection(*address, timeout=PATIENCE, context=any_certificate())
+    else:
+        connection = http.client.HTTPConnection(*address, timeout=PATIENCE)
+    with contextlib.closing(connection):
+        connection.connect()
+        shown = connection.sock.getpeercert(True) if is_tls else None
+        connection.request("POST", PATH, b"{}", {"Content-Type": "application/json", "Connection": "close"})
+        return connection.getresponse().status, shown
+
+
+def last_moment(address: tuple[str, int], shown: bytes) -> float | None:
+    """Until when a certificate is valid, in seconds since 1970; nothing where it isn't now. (It is verified as its own
+    authority, since Python tells no dates of others.)"""
+    context = ssl.SSLContext(ssl.PROTOCOL_TLS_CLIENT)
+    context.check_hostname = False
+    context.load_verify_locations(cadata=shown)
+    context.verify_flags |= ssl.VERIFY_X509_PARTIAL_CHAIN
+    try:
+        with socket.create_connection(address, timeout=PATIENCE) as plain, context.wrap_socket(plain) as wrapped:
+            return ssl.cert_time_to_seconds(wrapped.getpeercert()["notAfter"])
+    except ssl.SSLCertVerificationError as fault:
+        if fault.verify_code in (EXPIRED, NOT_YET):
+            return None
+        raise
+
+
+def look_at_certificate(settings, address: tuple[str, int], shown: bytes, findings: Findings) -> float | None:
+    """Whether clients are shown the file's certificate, and for how many days it is valid."""
+    last = last_moment(address, shown)
+    days = (last - time.time()) / 86_400 if last is not None else 0.0
+    if days < DAYS:
+        state = f"is valid for {days:.1f} days more" if last is not None else "has expired, or isn't valid yet"
+        findings.add(f"the certificate {state}: put a new one into {settings.certificate}, then pdpd-shards reload")
+    path = pathlib.Path(settings.certificate)
+    with findings.looking("the certificate"):
+        in_file = CERTIFICATE.search(text_of(path)) if path.is_file() else None
+        if path.is_file() and (not in_file or ssl.PEM_cert_to_DER_cert(in_file[0]) != shown):
+            findings.add(f"clients are shown another certificate than {path} has: pdpd-shards reload")
+    return days if last is not None else None
+
+
+def look_as_client(settings, findings: Findings) -> float | None:
+    """Asks as clients do. Gives for how many days the certificate is valid, if one is shown."""
+    days = None
+    for name, bind in (("TLS_BIND", settings.tls_bind), ("PLAIN_BIND", settings.plain_bind)):
+        if not bind.strip():
+            continue
+        address, is_tls = address_of(bind), name == "TLS_BIND"
+        if not address:
+            findings.cannot_tell(f"{name} is {bind!r}, and it isn't known how to ask there")
+            continue
+        try:
+            status, shown = ask(address, is_tls)
+            if status != ANSWER:
+                findings.add(f"a client's question at {name} ({bind}) is answered with {status}, in place of {ANSWER}")
+            if shown:
+                days = look_at_certificate(settings, address, shown, findings)
+        except (*talk.NO_REPLY, ValueError) as fault:
+            findings.add(f"a client's question at {name} ({bind}) isn't answered ({words_of(fault)}): HAProxy doesn't "
+                         "run with these settings, or its log says why")
+    if not settings.tls_bind.strip() and not settings.plain_bind.strip():
+        findings.add("TLS_BIND and PLAIN_BIND are empty: no client can connect")
+    return days
+
+
+def look(settings, findings: Findings) -> float | None:
+    """All of it."""
+    with findings.looking("HAProxy's map"):
+        look_at_map(settings, findings)
+    with findings.looking("HAProxy's configuration"):
+        look_at_configuration(settings, findings)
+    try:
+        return look_as_client(settings, findings)
+    except Wrong as fault:
+        findings.add(str(fault))
+        return None
