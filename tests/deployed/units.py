@@ -319,7 +319,7 @@ def secrets(machine, checks):
     checks.expect("all are answered", [status_of(once(data)) is None for data in sent], [False] * len(sent))
     backs_up()
     name = re.findall(r"(?m)^1 (\S+)", shards("backups"))[-1]
-    shards("put-back", 1, name)
+    shards("put-back", 1, name, "--yes")
     token = pathlib.Path("/etc/pdpd/token").read_text().strip()
     logs = sh("cat /var/log/pdpd/haproxy/current")
     checks.expect("HAProxy's log has those messages", "/domains/d1/pip/none" in logs, True)
