@@ -193,6 +193,7 @@ def emptied(machine, checks):
     """A backup of a shard that has lost all its domains says so, and ends with 1, and so does the status until the next
     one. It counts all the same."""
     machine.operator.clear()
+    shards("remap")
     backs_up()
     machine.operator.makes("acme")
     shard = int(shards("where", "acme"))
@@ -205,6 +206,7 @@ def emptied(machine, checks):
     checks.expect("it counts", shards("backups").count("\n"), before + 1)
     said = shards("status", status=1)
     checks.expect(f"the status: {said}", told in said, True)
+    shards("remap")
     checks.expect("the next one", told in shards("backup", shard) + shards("status"), False)
     machine.operator.makes("acme")
     shards("backup", shard)
