@@ -1,6 +1,7 @@
 // An enforcement point for nginx: njs asks Dalvezour before a request goes on to the server that is protected.
 // Deny-biased: a request goes on only if the decision is Permit and all its obligations were carried out.
-// `pdp-nginx write` makes map.js of the mapping file, and the configuration that calls `guard`.
+// `pdp-nginx write` makes map.js of the mapping file, and the configuration that calls `guard`. (Not by auth_request:
+// nginx lets a script ask over kept connections only for the request itself, and not for the one that that makes.)
 import fs from 'fs';
 import map from 'map.js';
 
