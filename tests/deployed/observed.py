@@ -7,7 +7,7 @@ import shutil
 
 from .clients import decision, making, message, once, policy
 from .clients import status as status_of
-from .machine import LIBRARY, PAGE, SETTINGS, pid, sh, shards, wait_until
+from .machine import LIBRARY, PAGE, SETTINGS, backs_up, pid, sh, shards, wait_until
 from .states import asked, is_well, tells
 
 LOGS = pathlib.Path("/var/log/pdpd")
@@ -223,7 +223,7 @@ def copied(machine, checks):
     hook.chmod(0o755)
     write("BACKUP_HOOK", hook)
     try:
-        name = re.search(rf"/{place}/([^,]+), ", shards("backup", place))[1]
+        name = re.search(rf"/{place}/([^,]+), ", backs_up(place))[1]
         (copy,) = pathlib.Path(there).iterdir()
         found = [word for word in (b"away", b"SQLite", b"domains.map") if word in copy.read_bytes()]
         checks.expect("what can be read in it", found, [])
@@ -242,7 +242,7 @@ def copied(machine, checks):
         write("BACKUP_HOOK", "")
         sh("umount /mnt")
     sh("sv restart /etc/service/pdpd-backups")
-    shards("backup")
+    backs_up()
     shards("remap")
     is_well(checks, "copies")
 
@@ -286,7 +286,7 @@ def measured(machine, checks):
     """The numbers of status are those of the machine."""
     machine.operator.clear()
     machine.operator.makes("ward")
-    shards("backup")
+    backs_up()
     shards("remap")
     place = int(shards("where", "ward"))
     ended, text = asked("status", "--prometheus")

@@ -11,7 +11,7 @@ import time
 
 from .clients import decision, once
 from .clients import status as status_of
-from .machine import SETTINGS, admin, pid, sh, shards, user_words, wait_until
+from .machine import SETTINGS, admin, backs_up, pid, sh, shards, user_words, wait_until
 
 MAP, TOKEN = pathlib.Path("/etc/haproxy/domains.map"), pathlib.Path("/etc/pdpd/token")
 CERTIFICATE = pathlib.Path("/etc/haproxy/pdpd.pem")
@@ -42,7 +42,7 @@ def broken(machine, checks):
     machine.operator.clear()
     ask = machine.operator.makes("ward")
     for _ in range(2):
-        shards("backup")
+        backs_up()
     shards("remap")
     is_well(checks, "the beginning")
     for state in (other_map, other_configuration, lost_domains, lost_map, cut_remaps, certificates, full_disk,
@@ -192,7 +192,7 @@ def backups_to_come(machine, checks, ask):
         shutil.copytree(newest, place / f"{year}0101T000000.000Z")
     tells(checks, "backups to come", "shard 1 has 3 backups of moments to come (as 20990101T000000.000Z)")
     sh(f"sed -i 's/^KEEP_BACKUPS=.*/KEEP_BACKUPS=3/' {SETTINGS}")
-    made = re.search(r"/1/([^,]+), ", shards("backup", 1))[1]
+    made = re.search(r"/1/([^,]+), ", backs_up(1))[1]
     left = [path.name for path in sorted(place.iterdir())]
     checks.expect(f"what was just made is there: {left}", (made in left, len(left)), (True, 3 + 3))
     sh(f"sed -i 's/^KEEP_BACKUPS=.*/KEEP_BACKUPS=48/' {SETTINGS}; rm -r {place}/209*")
@@ -243,7 +243,7 @@ def removed(machine, checks):
     sh(f"rm /var/lib/pdpd/{place}/pdpd.db /var/lib/pdpd/{place}/pdpd.db-wal")
     behind = machine.operator.makes(name)
     tells(checks, "a removed file", f"/{place}/pdpd.db was removed while the program of shard {place} has it")
-    backup = re.search(rf"/{place}/([^,]+), ", shards("backup", place))[1]
+    backup = re.search(rf"/{place}/([^,]+), ", backs_up(place))[1]
     shards("put-back", place, backup, "--yes")
     checks.expect("what was acknowledged", (decision(once(behind)), sorted(machine.operator.names())),
                   ("Permit", sorted(["ward", name])))
@@ -356,7 +356,7 @@ def refused(machine, checks):
 
 def put_backs(checks, machine, place, other):
     """A put-back of another shard's backup, of none, and one that nobody confirms."""
-    name = re.search(rf"/{place}/([^,]+), ", shards("backup", place))[1]
+    name = re.search(rf"/{place}/([^,]+), ", backs_up(place))[1]
     folder = pathlib.Path("/var/lib/pdpd-backups")
     shutil.copytree(folder / str(place) / name, folder / str(other) / name)
     said = shards("put-back", other, name, "--yes", status=1)
@@ -371,7 +371,7 @@ def put_backs(checks, machine, place, other):
 
 def undone(machine, checks, ask, place):
     """What goes and comes by a put-back is told, and its undo is a command."""
-    name = re.search(rf"/{place}/([^,]+), ", shards("backup", place))[1]
+    name = re.search(rf"/{place}/([^,]+), ", backs_up(place))[1]
     later = next(it for it in map("later{}".format, range(100)) if int(shards("where", it)) == place)
     machine.operator.makes(later)
     once(machine.operator.message("DELETE", "/ward"))
