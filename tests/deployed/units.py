@@ -17,13 +17,15 @@ from .machine import LIBRARY, PAGE, SETTINGS, TOP, as_user, backs_up, pid, sh, s
 SWITCHES = ("KEEP=1", "RETRY=1", "THREADS=4", "MAXCONN=4", "RATE=100", "PLAIN_BIND=127.0.0.1:8081",
             "TLS_BIND=;PLAIN_BIND=127.0.0.1:8081", "TLS_BIND=[::]:443 v4v6", "HAPROXY_USER=", "LOG=/dev/log local0",
             "LOG=/dev/log local0;LOG_DECISIONS=0", "RETRY=1;THREADS=4;RATE=5;LOG_DECISIONS=0",
-            "CLIENTS=10;UNDER_WAY=10;OF_SOURCE=0;REFUSALS=0")
+            "CLIENTS=10;UNDER_WAY=10;OF_SOURCE=0;REFUSALS=0", "AUDIT=1", "AUDIT=1;RETRY=1",
+            *(f"DECISIONS=1;DECISION_REQUESTS={words}" for words in ("whole", "digest", "none")),
+            "DECISIONS=1;LOG_DECISIONS=0", "AUDIT=1;METRICS=127.0.0.1:8405", "METRICS=127.0.0.1:8405")
 CURL = "curl --silent --show-error --cacert /etc/haproxy/pdpd.crt"
 DOMAINS = "https://localhost/operator/domains"
 TRACED = 7198
 C_LIBRARY = {"linux-vdso.so.1", "libc.so.6", "ld-linux-x86-64.so.2"}
 WRONG = ("SHARDS=0", "SHARDS=65", "SHARDS=four", "KEEP=2", "NO_SUCH=1", "a line", "SUPERVISOR=cron",
-         "TLS_BIND=", "LOG_DECISIONS=2")
+         "TLS_BIND=", "LOG_DECISIONS=2", "DECISION_REQUESTS=some")
 
 
 def walk(machine, checks):
@@ -97,7 +99,8 @@ def configurations(machine, checks):
     checks.expect("its help", [text.strip() for text in said], [shards(status=2).strip()] * 2)
     containers = TOP / "deploy" / "container"
     checks.expect("the sidecar", sh(f"haproxy -c -q -f {containers}/haproxy-sidecar.cfg"), "")
-    scripts = f"{LIBRARY}/pdpd-run {LIBRARY}/runit/* {containers}/pdpd-loop {TOP}/deploy/debian/p*"
+    scripts = f"{LIBRARY}/pdpd-run {LIBRARY}/pdpd-replica-run {LIBRARY}/runit/* {containers}/pdpd-loop"
+    scripts += f" {TOP}/deploy/debian/p*"
     sh(f"for script in {scripts}; do sh -n $script; done")
 
 
@@ -105,6 +108,8 @@ def installed(machine, checks):
     """The units, the checksums, a second installation elsewhere, and that the drawing is that of its text."""
     packed_again(machine, checks)
     units = "./pdpd@0.service ./pdpd-watchdog.service ./pdpd-backup@0.service ./pdpd-backup@0.timer"
+    units += " ./pdpd-replica@0.service ./pdpd-decisions.service ./pdpd-verify.service ./pdpd-verify.timer"
+    units += " ./pdpd-figures.service"
     said = sh(f"cd /etc/systemd/system && systemd-analyze verify {units} 2>&1 || true")
     checks.expect("the units", said, "")
     there = machine.folder / "elsewhere"
