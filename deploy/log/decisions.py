@@ -18,7 +18,7 @@ from dataclasses import dataclass
 from .archive import Segment
 from .domains import Forgotten
 from .history import Change, Unknown, ask, messages_again
-from .past import Past, pasts_of
+from .past import Past, micros, pasts_of
 from .receiving import files_in
 from .replaying import ASKER, replay
 
@@ -48,6 +48,7 @@ class Decision:
     digest: str
     request: bytes
     is_same: bool = False
+    is_known: bool = True
 
 
 def decision_in(line: str) -> Decision | str:
@@ -76,6 +77,16 @@ def asked_behind(changes: list[Change], asked: list[Decision]) -> dict[int, dict
             for moment in range(int(one.begin), int(one.end) + 1):
                 found.setdefault(place, {}).setdefault(moment, []).append(one)
     return found
+
+
+def by_life(past: Past, asked: list[Decision]) -> list[list[Decision]]:
+    """Decisions by how often the domain had been removed before: what it had then may be forgotten, and what it had
+    later not."""
+    ends = [place.ended for place in (past.places[index] for index in range(len(past.places))) if place.removes]
+    found: dict[int, list[Decision]] = {}
+    for one in asked:
+        found.setdefault(bisect.bisect_right(ends, micros(one.begin)), []).append(one)
+    return list(found.values())
 
 
 def work_out(past: Past, asked: list[Decision]) -> None:
@@ -112,11 +123,12 @@ def verify(archives: list[list[Segment]], lines: Iterable[str]) -> Iterator[tupl
         else:
             by_domain.setdefault(found.domain, []).append(found)
     for domain, asked in by_domain.items():
-        kind = "other"
         for past in pasts_of(archives, domain):
-            try:
-                work_out(past, asked)
-            except (Unknown, Forgotten):
-                kind = "unverified"
+            for held in by_life(past, asked):
+                try:
+                    work_out(past, held)
+                except (Unknown, Forgotten):
+                    for one in held:
+                        one.is_known = False
         for one in asked:
-            yield "same" if one.is_same else kind, one.line.strip()
+            yield "same" if one.is_same else "other" if one.is_known else "unverified", one.line.strip()

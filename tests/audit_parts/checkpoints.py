@@ -1,10 +1,13 @@
 """What an archive has of each domain beside its records: checkpoints, places, keys; and domains that are forgotten."""
+import base64
 import contextlib
+import hashlib
+import json
 import os
 import random
 import shutil
 
-from log import audit, checking, keeping
+from log import audit, checking, decisions, keeping
 from log.archive import segments_in
 from log.domains import Forgotten, checkpoints_in, folder_of, keys_in
 from log.history import Unknown, by_archive
@@ -138,6 +141,10 @@ def forgetting():
     expect("what is told of it", (status, out.count(b"(forgotten)"), said), (0, 4, ""))
     behind = [answers(past_in(path, name), [clock.now], audit.decide) for name in ("acme", "other")]
     expect("the next one stays", behind, before)
+    ((_, reply),) = audit.decide(past_in(path), clock.now, REQUEST)
+    lines = [decided(early, b""), decided(clock.now, reply.body()), decided(clock.now, b"another reply")]
+    found = [kind for kind, _ in decisions.verify(by_archive([path]), lines)]
+    expect("decisions that were logged: then, and since", found, ["unverified", "same", "other"])
     found = compared(path)
     expect("the chain holds", found.wrong, [])
     checking.replayed(by_archive([path])[0], found)
@@ -145,6 +152,13 @@ def forgetting():
     expect("one that is there isn't forgotten", log("forget", "--archive", path, "--domain", "other")[::2],
            (2, "pdpd-log: the domain 'other' is there: remove it first\n"))
     expect("its key stays", len(keys_in(folder_of(path, "other"))), 1)
+
+
+def decided(at, reply):
+    """A line of a decision of that moment, as HAProxy logs it."""
+    begin, digest = round(at * 1e6), hashlib.sha256(reply).hexdigest()
+    return json.dumps({"begin": begin, "end": begin + 1000, "domain": "acme", "who": "00000000", "status": 200,
+                       "reply": digest, "request": base64.b64encode(REQUEST).decode()}, separators=(",", ":"))
 
 
 def raised(call):

@@ -5,9 +5,11 @@ import re
 import subprocess
 import time
 
-from .machine import LIBRARY, PAGE, PLAIN, TOP, sh, wait_until
+from .machine import LIBRARY, PAGE, PLAIN, SETTINGS, TOP, sh, shards, wait_until
 
 DECISIONS = pathlib.Path("/var/log/pdpd-decisions")
+# HAProxy's logs, each of its kinds of lines (docs/guide/OPERATING.md, Logs)
+LOGS = pathlib.Path("/var/log/pdpd")
 WARD = TOP / "examples" / "ward"
 # how many of the page's commands switch it on
 SWITCH = 3
@@ -69,7 +71,8 @@ def audit(machine, checks):
     # the commands name whole seconds
     second = int(time.time()) + 1
     wait_until(lambda: time.time() >= second, "the clock stands still")
-    wait_until(lambda: any(path.stat().st_size for path in DECISIONS.glob("*.log")), "no decision is logged")
+    wait_until(lambda: count_of_decisions() > 0, "no decision is logged")
+    in_logs_of_proxy(checks)
     folder = machine.folder / "audit"
     folder.mkdir()
     said = {}
@@ -80,6 +83,43 @@ def audit(machine, checks):
         checks.say(f"$ {command}\n    " + "\n    ".join(said[command.split()[1]].splitlines()[-3:]))
     compare(said, decided, folder, checks)
     kept(operator, checks)
+
+
+def count_of_decisions():
+    """The lines of decisions."""
+    return sum(len(path.read_text().splitlines()) for path in DECISIONS.glob("*.log"))
+
+
+def has_line(folder, words):
+    """Whether a log of HAProxy has a line."""
+    files = [*(LOGS / folder).glob("current"), *(LOGS / folder).glob("@*")]
+    return any(re.search(words, path.read_text(errors="replace")) for path in files)
+
+
+def ask_ward(token):
+    """The status of a request for a decision."""
+    return sent("POST", "/domains/ward/pdp", token, (WARD / "request-alice.json").read_text())[0]
+
+
+def in_logs_of_proxy(checks):
+    """HAProxy's own logs have their kinds of lines beside. A decision that was given is in its own log alone, and with
+    LOG_DECISIONS=0 it is there, too."""
+    checks.expect("a token that isn't the domain's", ask_ward("ward-nobody"), 401)
+    refused = r'(?m) refused .* POST "/domains/ward/pdp" 401 '
+    wait_until(lambda: has_line("decisions", refused), "what was refused isn't logged")
+    change = r'(?m) change .* changes\d+/?\S* PUT "/domains/ward/pip" 200 '
+    wait_until(lambda: has_line("changes", change), "the change isn't logged")
+    before, text = count_of_decisions(), SETTINGS.read_text()
+    SETTINGS.write_text(re.sub(r"(?m)^LOG_DECISIONS=.*$", "LOG_DECISIONS=0", text))
+    for words in (("config", "--write"), ("reload",)):
+        shards(*words)
+    checks.expect("a decision with LOG_DECISIONS=0", ask_ward(TOKENS["ask"]), 200)
+    wait_until(lambda: count_of_decisions() == before + 1, "it isn't logged")
+    SETTINGS.write_text(text)
+    for words in (("config", "--write"), ("reload",)):
+        shards(*words)
+    given = [name for name in ("changes", "haproxy", "decisions") if has_line(name, '"/domains/ward/pdp" 200 ')]
+    checks.expect("logs of HAProxy that have a decision", given, [])
 
 
 def compare(said, decided, folder, checks):

@@ -119,9 +119,10 @@ def installed(machine, checks):
     (there / "opt" / "pdpd" / "lib" / "pdpd" / "container").mkdir(parents=True)
     sh(f"DESTDIR={there} {folder}/deploy/install /opt/pdpd")
     checks.expect("what is built in the archive alone", [*there.rglob("container")], [])
-    for file in ("etc/systemd/system/pdpd@.service", "opt/pdpd/lib/pdpd/runit/pdpd"):
+    for file in ("etc/systemd/system/pdpd@.service", "opt/pdpd/lib/pdpd/runit/pdpd",
+                 "opt/pdpd/lib/pdpd/prometheus/prometheus.yml"):
         text = (there / file).read_text()
-        found = "/opt/pdpd/lib/pdpd/pdpd-run" in text, "/usr/local" in text
+        found = "/opt/pdpd/lib/pdpd/p" in text, "/usr/local" in text
         checks.expect(f"the place in {file}", found, (True, False))
     said = sh(f"{there}/opt/pdpd/lib/pdpd/pdpd-shards 2>&1 || true")
     checks.expect("it runs", said.startswith("pdpd-shards:"), True)
