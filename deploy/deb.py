@@ -22,7 +22,10 @@ import dist  # noqa: E402
 
 SCRIPTS = TOP / "deploy" / "debian"
 CONFFILES = "/etc/pdpd/shards.conf\n"
-SYSUSERS = 'u pdpd - "pdpd shards" /nonexistent /usr/sbin/nologin\n'
+SYSUSERS = """\
+u pdpd - "pdpd shards" /nonexistent /usr/sbin/nologin
+u pdpd-replica - "logs of pdpd shards" /nonexistent /usr/sbin/nologin
+"""
 # the time that each file of the package has: the first that all tools take (1980)
 MOMENT = os.environ.get("SOURCE_DATE_EPOCH", "315532800")
 # what a manual page has beside the help text of its command: its summary, and what belongs to it
@@ -38,7 +41,14 @@ MANUALS = {
 .br
 /var/lib/pdpd/N: what shard N keeps. /var/lib/pdpd\\-backups/N: its backups.
 """),
+    "pdpd-log": ("what was changed and decided, and when, of the logs of pdpd shards", """\
+.SH FILES
+/var/lib/pdpd\\-replica/N: the archive of shard N.
+.br
+/var/log/pdpd\\-decisions: the lines of decisions.
+"""),
 }
+COMMANDS = tuple(MANUALS)
 
 
 def roff(text: str) -> str:
@@ -50,11 +60,11 @@ def roff(text: str) -> str:
 def manual(name: str, version: str, said: str) -> str:
     """The manual page of a command, of what it says of itself."""
     summary, more = MANUALS[name]
-    other = next(each for each in MANUALS if each != name)
+    others = "".join(f".BR {roff(each)[:-1]} (8),\n" for each in COMMANDS if each != name)
     _, _, rest = said.partition("\n\n")
     return (f'.TH {name.upper()} 8 "" "pdpd {version}"\n.SH NAME\n{roff(name)[:-1]} \\- {roff(summary)}'
             f".SH DESCRIPTION\n.nf\n{roff(rest.rstrip())}.fi\n{more}"
-            f".SH SEE ALSO\n.BR {roff(other)[:-1]} (8);\n/usr/share/doc/pdpd/docs/guide/OPERATING.md\n")
+            f".SH SEE ALSO\n{others}/usr/share/doc/pdpd/docs/guide/OPERATING.md\n")
 
 
 def help_of(command: pathlib.Path, *words: str) -> str:
@@ -77,11 +87,11 @@ def lay_out(archive: pathlib.Path, at: pathlib.Path, version: str) -> None:
     (at / "etc" / "systemd" / "system").rename(at / "lib" / "systemd" / "system")
     (at / "etc" / "systemd").rmdir()
     write(at / "usr" / "lib" / "sysusers.d" / "pdpd.conf", SYSUSERS.encode())
-    for name, words in (("pdpd", ["--help"]), ("pdpd-shards", [])):
-        said = help_of(at / "usr" / "lib" / "pdpd" / name, *words)
+    for name in COMMANDS:
+        said = help_of(at / "usr" / "lib" / "pdpd" / name, "--help")
         page = gzip.compress(manual(name, version, said).encode(), mtime=0)
         write(at / "usr" / "share" / "man" / "man8" / f"{name}.8.gz", page)
-    for link in ("pdpd", "pdpd-shards"):
+    for link in COMMANDS:
         (at / "usr" / "bin" / link).unlink()
         (at / "usr" / "bin" / link).symlink_to(f"../lib/pdpd/{link}")
 

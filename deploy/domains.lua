@@ -148,3 +148,47 @@ core.register_service("pdpd_domains", "http", function(applet)
     for i, name in ipairs(names) do names[i] = '"' .. name .. '"' end
     answer(applet, 200, '{"Domain":[' .. table.concat(names, ",") .. "]}")
 end)
+
+-- ---- health
+--
+-- Whether each shard answers a request for a decision that shows no token (401), and, for /ready, a change that shows
+-- none, where a daemon takes changes. An answer holds for a second, so whoever asks often asks the shards no oftener.
+
+local function is_answered(shard, method, path, more)
+    local held = { host = { "pdpd" }, ["x-shard"] = { tostring(shard) }, ["content-type"] = { "application/json" } }
+    -- (a body would be sent as a chunked one, which pdpd doesn't take)
+    if more then held[more] = { "1" } end
+    local client = core.httpclient()
+    local reply = client[method](client, {
+        url = "http://127.0.0.1" .. path, headers = held, dst = inner, timeout = 5000,
+    })
+    return reply ~= nil and reply.status == 401
+end
+
+local function are_decisions_answered()
+    for shard = 0, shards - 1 do
+        if not is_answered(shard, "post", "/domains/health/pdp") then return false end
+    end
+    return true
+end
+
+local function are_changes_taken()
+    if is_anything_held() or map:lookup("NEW") then return false end
+    if os.getenv("PDPD_AUDIT") ~= "1" then return true end
+    for shard = 0, shards - 1 do
+        if not is_answered(shard, "put", "/domains/health/pip", "x-changes") then return false end
+    end
+    return true
+end
+
+local looked = { ["/health"] = { 0, false }, ["/ready"] = { 0, false } }
+
+core.register_service("pdpd_health", "http", function(applet)
+    local last = looked[applet.path]
+    if seconds() > last[1] + 1 then
+        last[1] = seconds()
+        last[2] = are_decisions_answered() and (applet.path == "/health" or are_changes_taken())
+    end
+    if last[2] then return answer(applet, 200, "{}") end
+    answer(applet, 503, '{"Error":"Unavailable"}')
+end)

@@ -32,8 +32,8 @@ sys.path.insert(0, str(TOP / "tests"))
 
 from checks import Checks  # noqa: E402
 from deployed import (  # noqa: E402
-    attacks_front, attacks_local, attacks_pdpd, attacks_proxy, backups, booting, changes, clients, containers, deb,
-    enforcement, failures, machine, observed, replies, slowness, states, systemd, units)
+    attacks_front, attacks_local, attacks_pdpd, attacks_proxy, audit, backups, booting, changes, clients, containers,
+    deb, enforcement, failures, machine, metrics, observed, replies, slowness, states, systemd, units)
 
 PARTS = (
     units.walk, units.decision, units.configurations, units.installed, units.calls,
@@ -46,7 +46,7 @@ PARTS = (
     *states.STATES, *observed.OBSERVED,
     *attacks_front.ATTACKS, *attacks_local.ATTACKS, *attacks_pdpd.ATTACKS, *attacks_proxy.ATTACKS,
     units.certificate, units.want_of_memory, units.upgrade, changes.growth, changes.miscounted, units.status,
-    units.secrets)
+    audit.audit, audit.killed_logged, metrics.metrics, units.secrets)
 # those that have a machine of their own each, with the commands that they want and Debian's packages of these
 ALONE = {systemd.systemd: booting.WANTED, deb.deb: booting.WANTED, containers.containers: containers.WANTED}
 # words that name several of them

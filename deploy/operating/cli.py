@@ -17,6 +17,7 @@
   pdpd-shards make-room SHARD          gives up what is kept of a shard's disk for the day on which it is full
   pdpd-shards reserve [SHARD]          keeps it again
   pdpd-shards watchdog                 kills shards that are stuck, for ever
+  pdpd-shards figures                  answers who asks for figures of the shards, for ever
   pdpd-shards keep-backups SECONDS     makes backups again and again, for ever
 
 Settings are in /etc/pdpd/shards.conf, or where PDPD_SETTINGS says. OPERATING.md is the page on all of it.
@@ -29,7 +30,7 @@ import subprocess
 import sys
 
 from . import (
-    applied, backups, listener, metrics, moving, proxy, restoring, room, status, supervisor, talk, watchdog)
+    applied, backups, figures, listener, metrics, moving, proxy, restoring, room, status, supervisor, talk, watchdog)
 from .settings import DOMAIN, ENDS, Wrong, alone, errors_of, harmless, number_in_word, read, words_of
 
 
@@ -269,6 +270,7 @@ WORDS = {
     "make-room": (make_room, (1,)),
     "reserve": (reserve, (0, 1)),
     "watchdog": (lambda settings, words: watchdog.watch_all(), (0,)),
+    "figures": (lambda settings, words: figures.serve(), (0,)),
     "keep-backups": (keep_backups, (1,)),
 }
 
@@ -283,7 +285,7 @@ def end_in_order():
 # the words that may stand last behind some words
 SWITCHES = {"config": (1, ("--write",)), "status": (1, ("--json", "--prometheus")), "put-back": (3, ("--yes",))}
 # services, which go on with what was set before where the settings can't be read
-SERVICES = ("watchdog", "keep-backups")
+SERVICES = ("watchdog", "figures", "keep-backups")
 
 
 def is_usage(words):

@@ -7,6 +7,7 @@ ends here. So does what one client could take away from all others: connections,
 import hashlib
 import pathlib
 
+from . import audited, logged, monitored
 from . import settings as setting
 
 JSON = "content-type application/json string"
@@ -27,9 +28,6 @@ OWN = "pdpd-own.cfg"
 SPARE = 200
 # whose a message is: an address, of IPv6 the network that one machine may have
 SOURCE = "src,ipmask(32,64)"
-# A line of the log: what kind of message it was (`kind_rules`), then the rest. Neither fields nor bodies are in it, so
-# no token is.
-LINE = "%[var(txn.kind)] %ci:%cp %ft %b %HM %{+Q}HPO %ST %Tq/%Tw/%Tc/%Tr/%Ta %tsc %sq/%bq %rc %B"
 
 
 def answers(status, code, fields="", how="return"):
@@ -67,13 +65,14 @@ global
     tune.h2.max-concurrent-streams 10
     hard-stop-after 15s
     stats socket {settings.haproxy_run}/admin.sock mode 660 level admin expose-fd listeners
-    log {settings.log}{"" if settings.log_decisions else " notice"}
+    log {settings.log}{logged.level(settings)}
     ssl-default-bind-options ssl-min-ver TLSv1.2 no-tls-tickets
     # before the file that reads them
     setenv PDPD_SHARDS {settings.shards}
     setenv PDPD_MAXCONN {settings.maxconn}
     setenv PDPD_RUN {settings.haproxy_run}
     setenv PDPD_MAP {settings.map}
+    setenv PDPD_AUDIT {settings.audit}
     # which configuration this is, for pdpd-shards status
     setenv PDPD_DIGEST {DIGEST}
     lua-load {settings.haproxy_etc}/domains.lua
@@ -110,7 +109,7 @@ defaults
     option dontlognull
     # what failed has the level err
     option log-separate-errors
-    log-format "{LINE}"
+    log-format "{logged.LINE}"
     timeout http-request 5s
     # how long a handshake of TLS may take, a connection may be idle, and a client may take nothing of its reply
     timeout client 5s
@@ -154,32 +153,6 @@ def source_rules(settings):
 DOMAIN_RULES = """\
     http-request set-var(txn.domain) path,field(3,/) if { path_beg /domains/ }
     http-request set-var(txn.domain) path,field(4,/) if { path_beg /operator/domains/ }
-"""
-
-
-def kind_rules():
-    """What a message's line in the log begins with: `change`, `decision` or `reading`; `refused` (4xx) or `fault` (5xx)
-    where nothing was changed. A change that nobody has answered (502, 504, or the client went) stays a change."""
-    return """\
-    acl is_ask path_reg ^/domains/[^/]+/pdp$
-    http-request set-var(txn.kind) str(change)
-    http-request set-var(txn.kind) str(decision) if METH_POST is_ask
-    http-request set-var(txn.kind) str(reading) if METH_GET or METH_HEAD or METH_OPTIONS
-    acl may_be_made status 502 504
-    acl of_change var(txn.kind) -m str change
-    http-after-response set-var(txn.kind) str(refused) if { status 400:499 }
-    http-after-response set-var(txn.kind) str(fault) if { status 500:599 } !of_change
-    http-after-response set-var(txn.kind) str(fault) if { status 500:599 } !may_be_made
-"""
-
-
-def level_rules(settings):
-    """Without LOG_DECISIONS what has the level info isn't logged: all but changes, and what failed (err)."""
-    if settings.log_decisions:
-        return ""
-    return """\
-    http-request set-log-level notice if { var(txn.kind) -m str change }
-    http-response set-log-level info if { status 400:499 }
 """
 
 
@@ -285,6 +258,7 @@ def route_rules(settings):
     http-response {answers(503, "Unavailable")} if has_domain {{ res.hdr_val(content-length) gt {MOST_REPLY} }}
     http-response wait-for-body time 12s
     use_backend lists if METH_GET {{ path /operator/domains }}
+{audited.change_rules(settings)}\
     use_backend shard%[var(txn.shard)] if has_shard
     use_backend shard0 if !has_domain
     # the map names a shard that isn't there
@@ -294,8 +268,9 @@ def route_rules(settings):
 
 def frontends(settings):
     """Where clients come in, up to the shards' queues."""
-    first = (binds(settings) + source_rules(settings) + kind_rules() + DOMAIN_RULES + token_rules(settings)
-             + head_rules() + body_rules() + level_rules(settings))
+    first = (binds(settings) + audited.decision_log(settings, logged.LINE) + source_rules(settings)
+             + logged.kind_rules() + DOMAIN_RULES + token_rules(settings) + head_rules() + body_rules()
+             + audited.token_rules(settings) + audited.decision_rules(settings) + logged.level_rules(settings))
     if not has_two_steps(settings):
         return f"\nfrontend pdp\n{first}{route_rules(settings)}"
     again = """\
@@ -342,6 +317,7 @@ frontend inner
     http-request set-var(txn.shard) req.hdr(x-shard)
     http-request del-header x-shard
     http-request del-header x-turn
+{monitored.inner_rules(settings)}\
     use_backend shard%[var(txn.shard)]
 
 # A few lists are put together at a time, and the others wait.
@@ -393,5 +369,6 @@ def configuration(settings):
         f"# Written by `pdpd-shards config`, of {setting.FILE}: what is changed here is lost. Sections of your own stand "
         f"in {settings.haproxy_etc}/{OWN}.\n",
         global_part(settings), defaults_part(settings), frontends(settings), other_parts(settings),
-        backends(settings), own_part(settings)))
+        backends(settings), audited.backends(settings), audited.decision_ring(settings), monitored.frontend(settings),
+        own_part(settings)))
     return text.replace(DIGEST, hashlib.sha256(text.encode()).hexdigest()[:16])

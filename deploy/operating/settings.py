@@ -20,7 +20,11 @@ NUMBERS = {
     "RETRY": (0, 1), "MAXCONN": (1, 128), "RATE": (0, 1_000_000),
     "RESERVE": (0, 100_000),
     "CLIENTS": (1, 100_000), "UNDER_WAY": (10, 100_000), "OF_SOURCE": (0, 100_000), "REFUSALS": (0, 1_000_000),
+    "AUDIT": (0, 1), "ROOM": (0, 2 ** 63), "DECISIONS": (0, 1), "DECISION_BYTES": (1, 2 ** 40),
+    "DECISION_DAYS": (1, 100_000),
 }
+# the words that a setting may be
+CHOICES = {"DECISION_REQUESTS": ("whole", "digest", "none"), "SUPERVISOR": ("systemd", "runit")}
 # the signals to end, as of a terminal that is closed
 ENDS = (signal.SIGINT, signal.SIGTERM, signal.SIGHUP)
 DOMAIN = re.compile(r"[a-z0-9][a-z0-9-]{0,31}")
@@ -127,8 +131,9 @@ class Settings:
             setattr(self, name.lower(), number_of_setting(name, value) if name in NUMBERS else value)
         if not self.supervisor:
             self.supervisor = "systemd" if os.path.isdir("/run/systemd/system") else "runit"
-        if self.supervisor not in ("systemd", "runit"):
-            raise Wrong(f"{FILE}: SUPERVISOR is {self.supervisor!r}, and neither systemd nor runit")
+        for name, words in CHOICES.items():
+            if (value := getattr(self, name.lower())) not in words:
+                raise Wrong(f"{FILE}: {name} is {value!r}, and none of {', '.join(words)}")
         if self.log_decisions not in ("", "0", "1"):
             raise Wrong(f"{FILE}: LOG_DECISIONS is {self.log_decisions!r}, and neither 0 nor 1 nor empty")
         # (the journal has no place of its own for them: what is older would go, whatever it is)

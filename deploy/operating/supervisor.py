@@ -1,6 +1,7 @@
 """What starts, stops and kills a shard's pdpd: systemd or runit."""
 import os
 import pathlib
+import pwd
 import shutil
 import subprocess
 import time
@@ -31,8 +32,24 @@ def close_sockets_folder(settings):
         place.chmod(0o755)
 
 
+def refuse_no_user(settings):
+    """An error where the user is missing as which changes and decisions are logged."""
+    if not (settings.audit or settings.decisions):
+        return
+    try:
+        pwd.getpwnam("pdpd-replica")
+    except KeyError:
+        raise Wrong("there is no user pdpd-replica, as which changes and decisions are logged: useradd --system "
+                    "--home-dir /nonexistent --shell /usr/sbin/nologin pdpd-replica") from None
+
+
+def further(settings):
+    """The services that some settings switch on."""
+    return [*(["pdpd-decisions"] if settings.decisions else []), *(["pdpd-figures"] if settings.metrics else [])]
+
+
 class Systemd:
-    """Units pdpd@N, pdpd-backup@N.timer, pdpd-watchdog and haproxy."""
+    """Units pdpd@N, pdpd-replica@N, pdpd-backup@N.timer, pdpd-watchdog and haproxy."""
     UNITS = pathlib.Path("/etc/systemd/system")
     PLACES, PROXY = UNITS / "pdpd-backup@.service.d/backups.conf", UNITS / "haproxy.service.d/pdpd.conf"
 
@@ -48,6 +65,9 @@ class Systemd:
 
     def start(self, shard):
         run("systemctl", "start", f"pdpd@{shard}")
+        if self.settings.audit:
+            # it has a copy of the token, too
+            run("systemctl", "restart", f"pdpd-replica@{shard}")
 
     def reload_proxy(self):
         run("systemctl", "reload", "haproxy")
@@ -73,9 +93,12 @@ class Systemd:
         """Has these shards, and what belongs to them, run now and after each start of the machine."""
         self.allow_backups()
         self.close_sockets_folder()
-        timers = [f"pdpd-backup@{shard}.timer" for shard in shards]
+        others = [f"pdpd-backup@{shard}.timer" for shard in shards]
+        others += [f"pdpd-replica@{shard}" for shard in shards if self.settings.audit]
+        others += [*further(self.settings), *(["pdpd-verify.timer"] if self.settings.decisions else [])]
+        refuse_no_user(self.settings)
         run("systemctl", "daemon-reload")
-        run("systemctl", "enable", "--now", *(f"pdpd@{shard}" for shard in shards), *timers, "pdpd-watchdog")
+        run("systemctl", "enable", "--now", *(f"pdpd@{shard}" for shard in shards), *others, "pdpd-watchdog")
 
     def start_proxy(self):
         run("systemctl", "enable", "haproxy")
@@ -86,17 +109,17 @@ class Systemd:
         self.allow_backups()
         self.close_sockets_folder()
         run("systemctl", "daemon-reload")
-        run("systemctl", "restart", "pdpd-watchdog")
+        run("systemctl", "restart", "pdpd-watchdog", *further(self.settings))
 
 
 class Runit:
-    """Services pdpd-N, pdpd-backups, pdpd-watchdog and haproxy."""
+    """Services pdpd-N, pdpd-replica-N, pdpd-backups, pdpd-watchdog and haproxy."""
     BESIDE = ("pdpd-watchdog", "pdpd-backups")
 
     def __init__(self, settings):
-        self.settings = settings
         self.services = pathlib.Path(settings.services)
         self.folders = pathlib.Path(settings.service_folders)
+        self.settings, self.has_replicas = settings, bool(settings.audit)
 
     def sv(self, word, name):
         return run("sv", word, str(self.services / name))
@@ -127,6 +150,9 @@ class Runit:
 
     def start(self, shard):
         self.sv("up", f"pdpd-{shard}")
+        if self.has_replicas:
+            # it has a copy of the token, too
+            self.sv("restart", f"pdpd-replica-{shard}")
 
     def reload_proxy(self):
         self.sv("2", "haproxy")
@@ -144,7 +170,11 @@ class Runit:
     def set_up(self, shards):
         if not (shutil.which("sv") and self.services.is_dir()):
             raise Wrong(f"there is neither systemd nor runit with its folder {self.services}: install runit")
-        for name, kind in (*((f"pdpd-{shard}", "pdpd") for shard in shards), *((each, each) for each in self.BESIDE)):
+        refuse_no_user(self.settings)
+        kinds = ("pdpd", "pdpd-replica") if self.has_replicas else ("pdpd",)
+        others = (*further(self.settings), *(("pdpd-verify",) if self.settings.decisions else ()), *self.BESIDE)
+        for name, kind in (*((f"{kind}-{shard}", kind) for shard in shards for kind in kinds),
+                           *((each, each) for each in others)):
             self.add(name, kind)
         end = time.time() + SEEN
         while not self.is_seen(self.BESIDE[-1]):
@@ -167,7 +197,7 @@ class Runit:
 
     def renew(self):
         close_sockets_folder(self.settings)
-        for name in (*self.BESIDE, "haproxy/log"):
+        for name in (*further(self.settings), *self.BESIDE, "haproxy/log"):
             self.sv("restart", name)
 
 

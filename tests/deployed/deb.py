@@ -60,7 +60,8 @@ def begin(machine, checks, name):
     checks.say(machine.sh(INSTALL.format(name)).splitlines()[-1])
     checks.expect("files that aren't as packed", machine.sh("dpkg --verify pdpd"), "")
     checks.expect("the token", machine.sh("stat -c '%U %a' /etc/pdpd/token; wc -c < /etc/pdpd/token"), "root 600\n49")
-    checks.expect("the user's shell", machine.sh("getent passwd pdpd | cut -d: -f7"), "/usr/sbin/nologin")
+    for user in ("pdpd", "pdpd-replica"):
+        checks.expect(f"the shell of {user}", machine.sh(f"getent passwd {user} | cut -d: -f7"), "/usr/sbin/nologin")
     checks.expect("it starts nothing by itself", machine.sh("pgrep -c -u pdpd || true"), "0")
     for command in commands_of_page():
         if not BROUGHT.match(command):
@@ -77,7 +78,8 @@ def begin(machine, checks, name):
 def manuals(machine, checks):
     """The manual pages are found, have what the commands say of themselves, and no mistake in their form."""
     for name, words in (("pdpd", ("pdpd serve DATABASE", "Exit statuses: 0 done;")),
-                        ("pdpd-shards", ("pdpd-shards grow SHARDS", "Exit status: 0 done, 1 something is wrong"))):
+                        ("pdpd-shards", ("pdpd-shards grow SHARDS", "Exit status: 0 done, 1 something is wrong")),
+                        ("pdpd-log", ("pdpd-log changes --domain D", "Exit status: 0 as it was said"))):
         page = machine.sh(f"MANWIDTH=150 man --warnings {name} 2>&1 | col -b")
         checks.expect(f"man {name}", ([word for word in words if word not in page], "warning" in page), ([], False))
 

@@ -27,6 +27,7 @@ WANTED = {
     "haproxy": "haproxy", "runsvdir": "runit", "sv": "runit", "chpst": "runit", "svlogd": "runit",
     "curl": "curl", "wrk": "wrk", "openssl": "openssl", "unshare": "util-linux", "setpriv": "util-linux",
     "ip": "iproute2",
+    "prometheus": "prometheus",
     "systemd-analyze": "systemd", "useradd": "passwd", "strace": "strace", "cc": "gcc",
     "sqlite3": "sqlite3",
 }
@@ -48,7 +49,7 @@ DECOYS = {
 PLACES = ("/etc/pdpd", "/etc/haproxy/domains.*", "/etc/haproxy/pdpd.*", "/etc/haproxy/haproxy.cfg*", "/etc/sv/pdpd-*",
           "/etc/sv/haproxy", "/etc/service/*", "/etc/systemd/system/pdpd*", "/usr/local/lib/pdpd",
           "/usr/local/bin/pdpd*", "/usr/local/share/doc/pdpd", "/var/lib/pdpd", "/var/lib/pdpd-backups",
-          "/var/log/pdpd")
+          "/var/lib/pdpd-replica", "/var/log/pdpd", "/var/log/pdpd-decisions")
 
 
 def is_proved():
@@ -159,14 +160,15 @@ class Machine:
     """The machine: what deploy/ installs on it, its shards and its proxy."""
 
     def __init__(self, folder):
-        self.folder, self.operator = pathlib.Path(folder), None
+        self.folder, self.operator, self.is_audited = pathlib.Path(folder), None, False
         # as root has it, and not as tests/serving.py
         os.umask(0o022)
         sh("mount --make-rprivate / && mount -o remount,ro,bind /sys && ip link set lo up")
         for own in OWN:
             self.own(own)
         sh("mount -t tmpfs -o mode=755 run /run && mkdir -p /run/lock")
-        sh(f"rm -rf {' '.join(PLACES)}; ! id pdpd > /dev/null 2>&1 || userdel pdpd")
+        sh(f"rm -rf {' '.join(PLACES)}; for user in pdpd pdpd-replica; do ! id $user > /dev/null 2>&1 || "
+           "userdel $user; done")
 
     def own(self, path):
         """Has what is written below that path go into the test's folder."""

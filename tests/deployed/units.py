@@ -17,13 +17,15 @@ from .machine import LIBRARY, PAGE, SETTINGS, TOP, as_user, backs_up, pid, sh, s
 SWITCHES = ("KEEP=1", "RETRY=1", "THREADS=4", "MAXCONN=4", "RATE=100", "PLAIN_BIND=127.0.0.1:8081",
             "TLS_BIND=;PLAIN_BIND=127.0.0.1:8081", "TLS_BIND=[::]:443 v4v6", "HAPROXY_USER=", "LOG=/dev/log local0",
             "LOG=/dev/log local0;LOG_DECISIONS=0", "RETRY=1;THREADS=4;RATE=5;LOG_DECISIONS=0",
-            "CLIENTS=10;UNDER_WAY=10;OF_SOURCE=0;REFUSALS=0")
+            "CLIENTS=10;UNDER_WAY=10;OF_SOURCE=0;REFUSALS=0", "AUDIT=1", "AUDIT=1;RETRY=1",
+            *(f"DECISIONS=1;DECISION_REQUESTS={words}" for words in ("whole", "digest", "none")),
+            "DECISIONS=1;LOG_DECISIONS=0", "AUDIT=1;METRICS=127.0.0.1:8405", "METRICS=127.0.0.1:8405")
 CURL = "curl --silent --show-error --cacert /etc/haproxy/pdpd.crt"
 DOMAINS = "https://localhost/operator/domains"
 TRACED = 7198
 C_LIBRARY = {"linux-vdso.so.1", "libc.so.6", "ld-linux-x86-64.so.2"}
 WRONG = ("SHARDS=0", "SHARDS=65", "SHARDS=four", "KEEP=2", "NO_SUCH=1", "a line", "SUPERVISOR=cron",
-         "TLS_BIND=", "LOG_DECISIONS=2")
+         "TLS_BIND=", "LOG_DECISIONS=2", "DECISION_REQUESTS=some")
 
 
 def walk(machine, checks):
@@ -97,7 +99,8 @@ def configurations(machine, checks):
     checks.expect("its help", [text.strip() for text in said], [shards(status=2).strip()] * 2)
     containers = TOP / "deploy" / "container"
     checks.expect("the sidecar", sh(f"haproxy -c -q -f {containers}/haproxy-sidecar.cfg"), "")
-    scripts = f"{LIBRARY}/pdpd-run {LIBRARY}/runit/* {containers}/pdpd-loop {TOP}/deploy/debian/p*"
+    scripts = f"{LIBRARY}/pdpd-run {LIBRARY}/pdpd-replica-run {LIBRARY}/runit/* {containers}/pdpd-loop"
+    scripts += f" {TOP}/deploy/debian/p*"
     sh(f"for script in {scripts}; do sh -n $script; done")
 
 
@@ -105,6 +108,8 @@ def installed(machine, checks):
     """The units, the checksums, a second installation elsewhere, and that the drawing is that of its text."""
     packed_again(machine, checks)
     units = "./pdpd@0.service ./pdpd-watchdog.service ./pdpd-backup@0.service ./pdpd-backup@0.timer"
+    units += " ./pdpd-replica@0.service ./pdpd-decisions.service ./pdpd-verify.service ./pdpd-verify.timer"
+    units += " ./pdpd-figures.service"
     said = sh(f"cd /etc/systemd/system && systemd-analyze verify {units} 2>&1 || true")
     checks.expect("the units", said, "")
     there = machine.folder / "elsewhere"
@@ -114,9 +119,10 @@ def installed(machine, checks):
     (there / "opt" / "pdpd" / "lib" / "pdpd" / "container").mkdir(parents=True)
     sh(f"DESTDIR={there} {folder}/deploy/install /opt/pdpd")
     checks.expect("what is built in the archive alone", [*there.rglob("container")], [])
-    for file in ("etc/systemd/system/pdpd@.service", "opt/pdpd/lib/pdpd/runit/pdpd"):
+    for file in ("etc/systemd/system/pdpd@.service", "opt/pdpd/lib/pdpd/runit/pdpd",
+                 "opt/pdpd/lib/pdpd/prometheus/prometheus.yml"):
         text = (there / file).read_text()
-        found = "/opt/pdpd/lib/pdpd/pdpd-run" in text, "/usr/local" in text
+        found = "/opt/pdpd/lib/pdpd/p" in text, "/usr/local" in text
         checks.expect(f"the place in {file}", found, (True, False))
     said = sh(f"{there}/opt/pdpd/lib/pdpd/pdpd-shards 2>&1 || true")
     checks.expect("it runs", said.startswith("pdpd-shards:"), True)
@@ -321,8 +327,8 @@ def secrets(machine, checks):
     name = re.findall(r"(?m)^1 (\S+)", shards("backups"))[-1]
     shards("put-back", 1, name, "--yes")
     token = pathlib.Path("/etc/pdpd/token").read_text().strip()
-    logs = sh("cat /var/log/pdpd/haproxy/current")
-    checks.expect("HAProxy's log has those messages", "/domains/d1/pip/none" in logs, True)
+    logs = sh("cat /var/log/pdpd/decisions/current")
+    checks.expect("HAProxy's log of what was refused has those messages", "/domains/d1/pip/none" in logs, True)
     for word in (token, wrong, *(f"d{number}-token-1" for number in range(8))):
         found = sh(f"grep -rlaF -- {word} /var/log/pdpd /var/lib/pdpd /var/lib/pdpd-backups || true")
         checks.expect(f"where the token {word[:6]}.. stands", found, "")

@@ -1,0 +1,86 @@
+"""One conversation with a pdpd, over a connection of its own."""
+from __future__ import annotations
+
+import re
+import socket
+from dataclasses import dataclass
+
+
+class NotSent(Exception):
+    """pdpd took no connection: it got nothing."""
+
+
+class Lost(Exception):
+    """The connection ended on the way: pdpd may have answered, or not."""
+
+
+@dataclass(frozen=True)
+class Reply:
+    """A reply as it came."""
+    status: int
+    data: bytes
+
+    def body(self) -> bytes:
+        return self.data.partition(b"\r\n\r\n")[2]
+
+
+def length_of(data: bytes) -> int | None:
+    """How many bytes the first reply has in those that have come; None where that isn't known yet."""
+    end = data.find(b"\r\n\r\n")
+    if end < 0:
+        return None
+    found = re.search(rb"\r\ncontent-length: *(\d{1,9})\r\n", data[:end + 2], re.I)
+    return end + 4 + (int(found[1]) if found else 0)
+
+
+def first_reply(data: bytes) -> Reply | None:
+    """The first reply, if it is whole."""
+    length = length_of(data)
+    if length is None or len(data) < length:
+        return None
+    return Reply(int(data[9:12]), data[:length])
+
+
+def connection_to(address: str, seconds: float) -> socket.socket:
+    """A connection to HOST:PORT, or to the Unix socket unix:PATH."""
+    if address.startswith("unix:"):
+        made = socket.socket(socket.AF_UNIX)
+        made.settimeout(seconds)
+        made.connect(address.removeprefix("unix:"))
+        return made
+    host, _, port = address.rpartition(":")
+    made = socket.create_connection((host.strip("[]"), int(port)), timeout=seconds)
+    made.setsockopt(socket.IPPROTO_TCP, socket.TCP_NODELAY, 1)
+    return made
+
+
+def replies(address: str, data: bytes, count: int, seconds: float) -> list[Reply]:
+    """The first `count` replies to messages that are sent together; fewer where the stream ends behind a whole one."""
+    try:
+        connection = connection_to(address, seconds)
+    except OSError as fault:
+        raise NotSent(str(fault)) from None
+    held, found = b"", []
+    with connection:
+        try:
+            connection.sendall(data)
+            while len(found) < count:
+                while reply := first_reply(held):
+                    found.append(reply)
+                    held = held[len(reply.data):]
+                if len(found) < count:
+                    more = connection.recv(1 << 16)
+                    if not more:
+                        break
+                    held += more
+        except OSError as fault:
+            if not found:
+                raise Lost(str(fault)) from None
+    if not found:
+        raise Lost("it ended before a reply")
+    return found[:count]
+
+
+def reply(address: str, data: bytes, seconds: float) -> Reply:
+    """The reply to one message."""
+    return replies(address, data, 1, seconds)[0]

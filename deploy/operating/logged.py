@@ -1,0 +1,39 @@
+"""The log of HAProxy: what kind of message each line begins with, and which lines there are."""
+
+# A line of the log: what kind of message it was (`kind_rules`), then the rest. Neither fields nor bodies are in it, so
+# no token is.
+LINE = "%[var(txn.kind)] %ci:%cp %ft %b %HM %{+Q}HPO %ST %Tq/%Tw/%Tc/%Tr/%Ta %tsc %sq/%bq %rc %B"
+
+
+def level(settings):
+    """The least level that is logged, if not all: without LOG_DECISIONS that of changes. With DECISIONS the lines of
+    decisions have the level debug, and go to their own log alone."""
+    if not settings.log_decisions:
+        return " notice"
+    return " info" if settings.decisions else ""
+
+
+def kind_rules():
+    """What a message's line in the log begins with: `change`, `decision` or `reading`; `refused` (4xx) or `fault` (5xx)
+    where nothing was changed. A change that nobody has answered (502, 504, or the client went) stays a change."""
+    return """\
+    acl is_ask path_reg ^/domains/[^/]+/pdp$
+    http-request set-var(txn.kind) str(change)
+    http-request set-var(txn.kind) str(decision) if METH_POST is_ask
+    http-request set-var(txn.kind) str(reading) if METH_GET or METH_HEAD or METH_OPTIONS
+    acl may_be_made status 502 504
+    acl of_change var(txn.kind) -m str change
+    http-after-response set-var(txn.kind) str(refused) if { status 400:499 }
+    http-after-response set-var(txn.kind) str(fault) if { status 500:599 } !of_change
+    http-after-response set-var(txn.kind) str(fault) if { status 500:599 } !may_be_made
+"""
+
+
+def level_rules(settings):
+    """Without LOG_DECISIONS what has the level info isn't logged: all but changes, and what failed (err)."""
+    if settings.log_decisions:
+        return ""
+    return """\
+    http-request set-log-level notice if { var(txn.kind) -m str change }
+    http-response set-log-level info if { status 400:499 }
+"""

@@ -1,0 +1,173 @@
+"""What an archive has of each domain beside its records: checkpoints, places, keys; and domains that are forgotten."""
+import base64
+import contextlib
+import hashlib
+import json
+import os
+import random
+import shutil
+
+from log import audit, checking, decisions, keeping
+from log.archive import segments_in
+from log.domains import Forgotten, checkpoints_in, folder_of, keys_in
+from log.history import Unknown, by_archive
+from log.past import Past, state_before
+from log.sealing import counted, opened, sealed
+
+from .generated import BEGIN, WARD, Clock, Writer, table, write_year
+from .shared import PROGRAM, SEED, expect, log
+from .shared import memory as folder
+
+REQUEST = (WARD / "request-alice.json").read_bytes()
+MOMENTS = 12
+# NIST SP 800-38A, F.5.5: AES-256 in counter mode
+KEY = "603deb1015ca71be2b73aef0857d77811f352c073b6108d72d9810a30914dff4"
+START, PLAIN = "f0f1f2f3f4f5f6f7f8f9fafbfcfdfeff", "6bc1bee22e409f96e93d7e117393172aae2d8a571e03ac9c9eb76fac45af8e51"
+CIPHER = "601ec313775789a5b7a7f504bbf3d228f443e3ca4d62b59aca84e990cacaf5c5"
+
+
+def sealing():
+    """The cipher is that of the standard, and gives back what it took."""
+    found = counted(bytes.fromhex(KEY), bytes.fromhex(START), bytes.fromhex(PLAIN)).hex()
+    expect("the standard's example", found, CIPHER)
+    key = bytes(range(32))
+    for body in (b"", b"x", b"y" * 524_288):
+        expect(f"{len(body)} bytes", opened(key, sealed(key, body)), body)
+    expect("the same body twice", sealed(key, b"the same body") != sealed(key, b"the same body"), True)
+
+
+@contextlib.contextmanager
+def often(changes):
+    """A checkpoint behind so few changes."""
+    before = keeping.MOST_CHANGES
+    keeping.MOST_CHANGES = changes
+    try:
+        yield
+    finally:
+        keeping.MOST_CHANGES = before
+
+
+def past_in(path, domain="acme"):
+    return Past(by_archive([path])[0], domain)
+
+
+def compared(path):
+    """What `check` says of places and checkpoints. (The replies here aren't pdpd's.)"""
+    found = checking.Checked()
+    checking.compared(by_archive([path])[0], found)
+    return found
+
+
+def answers(past, moments, how):
+    return [[reply.data for _, reply in how(past, at, REQUEST)] for at in moments]
+
+
+def checkpoints():
+    """A decision from the last checkpoint is that of all messages, also where checkpoints or places are spoilt."""
+    os.environ["PDPD"] = PROGRAM
+    path = folder / "checkpoints"
+    with often(10):
+        last = write_year(path, 60, 12, seconds=6_000)
+    past, chance = past_in(path), random.Random(SEED)
+    found = [number for number, _, _ in checkpoints_in(past.folder)]
+    expect("checkpoints, ten changes apart", [past.places.behind(lambda one, n=number: one.number <= n)
+                                              for number in found], list(range(10, len(past.places) + 1, 10)))
+    expect("where one begins", [past.start(count)[0] for count in (9, 10, 19, 25, 60)], [0, 10, 10, 20, 60])
+    moments = [chance.uniform(BEGIN + 1, last) for _ in range(MOMENTS)]
+    wanted = answers(past, moments, audit.decide_by_all)
+    expect("more than one answer", len({str(one) for one in wanted}) > 1, True)
+    expect("from checkpoints", answers(past, moments, audit.decide), wanted)
+    found = compared(path)
+    expect("check", (found.wrong, found.checkpoints), ([], 6))
+    spoilt_checkpoint(path, moments, wanted)
+    spoilt_places(path, moments, wanted)
+
+
+def spoilt_checkpoint(path, moments, wanted):
+    """One that is changed is passed over, and told by `check`."""
+    copy = shutil.copytree(path, folder / "spoilt-checkpoint")
+    for _, _, file in checkpoints_in(folder_of(copy, "acme")):
+        data = bytearray(file.read_bytes())
+        data[-1] ^= 1
+        file.write_bytes(data)
+    expect("changed checkpoints", answers(past_in(copy), moments, audit.decide), wanted)
+    expect("check tells of them", len(compared(copy).wrong), 6)
+    for file in folder_of(copy, "acme").glob("*/*.text"):
+        file.unlink()
+    expect("no texts", answers(past_in(copy), moments, audit.decide), wanted)
+
+
+def spoilt_places(path, moments, wanted):
+    """One that is missing or another one is seen, and all records are read."""
+    for what, change in (("missing", lambda data: data[:56 * 30] + data[56 * 31:]),
+                         ("of nothing", lambda data: data[:56 * 30] + bytes(56) + data[56 * 31:]),
+                         ("cut", lambda data: data[:56 * 40 + 7])):
+        copy = shutil.copytree(path, folder / f"places-{what.replace(' ', '-')}")
+        file = folder_of(copy, "acme") / "places"
+        file.write_bytes(change(file.read_bytes()))
+        expect(f"a place is {what}", answers(past_in(copy), moments, audit.decide), wanted)
+        expect(f"a place is {what}: check", compared(copy).wrong != [], True)
+    writer = Writer(copy, Clock(BEGIN + 10_000))
+    writer.close()
+    expect("a start mends what stands at the end", compared(copy).wrong, [])
+
+
+def forgetting():
+    """What a removed domain had can't be read once it is forgotten, also not in the next one of that name; the chain
+    holds, and others stay."""
+    os.environ["PDPD"] = PROGRAM
+    path, clock, chance = folder / "forgetting", Clock(), random.Random(SEED)
+    with often(4):
+        writer = Writer(path, clock)
+        for name in ("acme", "other", "acme"):
+            if name == "acme" and writer.archive.position:
+                writer.remove("acme")
+            writer.domain(name)
+            writer.change(name, "PUT", f"/domains/{name}/pip", table(chance, 12))
+            clock.now += 100
+        writer.close()
+    data = b"".join(segment.data() for segment in segments_in([path]))
+    expect("bodies in the archive", [word for word in (b"PolicyId", b"urn:example:role") if word in data], [])
+    before = [answers(past_in(path, name), [clock.now], audit.decide) for name in ("acme", "other")]
+    early = BEGIN + 50
+    expect("what it had then", len(state_before(past_in(path), early)[0].documents), 1)
+    status, out, said = log("forget", "--archive", path, "--domain", "acme")
+    expect("it is forgotten", (status, out, said), (0, f"{path}: 1 keys of acme are gone\n".encode(), ""))
+    expect("what it had can't be read", raised(lambda: state_before(past_in(path), early)), Forgotten)
+    expect("by no way", raised(lambda: audit.decide_by_all(past_in(path), early, REQUEST)), Forgotten)
+    held = {file for file in (path / "domains").rglob("*") if file.is_file()}
+    expect("no checkpoint of it is left", [file for file in held if file.parent.name == f"{1:016d}"], [])
+    status, out, said = log("changes", "--archive", path, "--domain", "acme")
+    expect("what is told of it", (status, out.count(b"(forgotten)"), said), (0, 4, ""))
+    behind = [answers(past_in(path, name), [clock.now], audit.decide) for name in ("acme", "other")]
+    expect("the next one stays", behind, before)
+    ((_, reply),) = audit.decide(past_in(path), clock.now, REQUEST)
+    lines = [decided(early, b""), decided(clock.now, reply.body()), decided(clock.now, b"another reply")]
+    found = [kind for kind, _ in decisions.verify(by_archive([path]), lines)]
+    expect("decisions that were logged: then, and since", found, ["unverified", "same", "other"])
+    found = compared(path)
+    expect("the chain holds", found.wrong, [])
+    checking.replayed(by_archive([path])[0], found)
+    expect("check replays the others", (found.forgotten, found.count), ({"acme"}, 12))
+    expect("one that is there isn't forgotten", log("forget", "--archive", path, "--domain", "other")[::2],
+           (2, "pdpd-log: the domain 'other' is there: remove it first\n"))
+    expect("its key stays", len(keys_in(folder_of(path, "other"))), 1)
+
+
+def decided(at, reply):
+    """A line of a decision of that moment, as HAProxy logs it."""
+    begin, digest = round(at * 1e6), hashlib.sha256(reply).hexdigest()
+    return json.dumps({"begin": begin, "end": begin + 1000, "domain": "acme", "who": "00000000", "status": 200,
+                       "reply": digest, "request": base64.b64encode(REQUEST).decode()}, separators=(",", ":"))
+
+
+def raised(call):
+    """The class of the error that a call ends with."""
+    try:
+        call()
+    except (Forgotten, Unknown) as fault:
+        return type(fault)
+    return None
+
+
+PARTS = (sealing, checkpoints, forgetting)

@@ -1,0 +1,156 @@
+"""The log of changes and the decision log: the commands of the page, over what is installed."""
+import json
+import pathlib
+import re
+import subprocess
+import time
+
+from .machine import LIBRARY, PAGE, PLAIN, SETTINGS, TOP, sh, shards, wait_until
+
+DECISIONS = pathlib.Path("/var/log/pdpd-decisions")
+# HAProxy's logs, each of its kinds of lines (docs/guide/OPERATING.md, Logs)
+LOGS = pathlib.Path("/var/log/pdpd")
+WARD = TOP / "examples" / "ward"
+# how many of the page's commands switch it on
+SWITCH = 3
+TOKENS = {"admin": "ward-audit-admin", "ask": "ward-audit-asks"}
+
+
+def commands(name):
+    """Those of a section of the page, in order."""
+    section = re.search(rf"(?ms)^## {name}\n(.*?)^## ", PAGE.read_text())[1]
+    return re.findall(r"(?m)^    # (.*)$", section)
+
+
+def switch_on(machine):
+    """Gives the page's commands that switch the log of changes on, unless it is on; what they say."""
+    if machine.is_audited:
+        return []
+    machine.is_audited = True
+    return [f"$ {command}\n    {sh(command).strip()[-200:]}" for command in commands("Audit")[:SWITCH]]
+
+
+def sent(method, path, token, body=None):
+    """The status and the body of a reply through HAProxy."""
+    words = ["curl", "--silent", "--max-time", "60", "-w", "\n%{http_code}", "-X", method, "-H",
+             f"Authorization: Bearer {token}", f"http://127.0.0.1:{PLAIN}{path}"]
+    if body is not None:
+        words += ["-H", "Content-Type: application/json", "--data-binary", body]
+    ran = subprocess.run(words, capture_output=True, text=True, check=False)
+    text, _, status = ran.stdout.rpartition("\n")
+    return int(status), text
+
+
+def make_ward(operator):
+    """The domain `ward` anew; the statuses."""
+    at, pap = "/operator/domains/ward", "/domains/ward/pap"
+    sent("DELETE", at, operator)
+    steps = [("PUT", at, operator), *(("POST", f"{at}/tokens", operator, json.dumps({"Role": role, "Token": token}))
+                                      for role, token in TOKENS.items()),
+             ("POST", f"{pap}/policies", TOKENS["admin"], (WARD / "policy.json").read_text()),
+             ("PUT", f"{pap}/policy/urn:example:ward:records/1.0/active", TOKENS["admin"]),
+             ("PUT", f"{pap}/root", TOKENS["admin"], '{"PolicyIdReference":{"Id":"urn:example:ward:records"}}'),
+             ("PUT", "/domains/ward/pip", TOKENS["admin"], (WARD / "rows.json").read_text())]
+    return [sent(*step)[0] for step in steps]
+
+
+def audit(machine, checks):
+    """AUDIT=1 is switched on under a tenant, and each command of the page is given as it stands."""
+    operator = machine.operator.token
+    sent("PUT", "/operator/domains/before", operator)
+    put = sh("echo before-admin-1 | pdpd-log token").strip()
+    for token in ("before-admin-1", put):
+        sent("POST", "/operator/domains/before/tokens", operator, json.dumps({"Role": "admin", "Token": token}))
+    checks.expect("before", sent("GET", "/domains/before/pip", "before-admin-1")[0], 200)
+    for line in switch_on(machine):
+        checks.say(line)
+    wait_until(lambda: sent("GET", "/domains/before/pip", "before-admin-1")[0] == 200, "the tenant isn't let in again")
+    wait_until(lambda: sent("PUT", "/operator/domains/behind", operator)[0] in (201, 409), "no change is taken")
+    checks.expect("a domain", make_ward(operator), [201, 200, 200, 201, 200, 200, 200])
+    decided = sent("POST", "/domains/ward/pdp", TOKENS["ask"], (WARD / "request-alice.json").read_text())
+    # the commands name whole seconds
+    second = int(time.time()) + 1
+    wait_until(lambda: time.time() >= second, "the clock stands still")
+    wait_until(lambda: count_of_decisions() > 0, "no decision is logged")
+    in_logs_of_proxy(checks)
+    folder = machine.folder / "audit"
+    folder.mkdir()
+    said = {}
+    for command in commands("Audit")[SWITCH:]:
+        if command.startswith("pdpd-log forget"):
+            checks.expect("the domain is removed", sent("DELETE", "/operator/domains/ward", operator)[0], 200)
+        said[command.split()[1]] = sh(command, cwd=folder)
+        checks.say(f"$ {command}\n    " + "\n    ".join(said[command.split()[1]].splitlines()[-3:]))
+    compare(said, decided, folder, checks)
+    kept(operator, checks)
+
+
+def count_of_decisions():
+    """The lines of decisions."""
+    return sum(len(path.read_text().splitlines()) for path in DECISIONS.glob("*.log"))
+
+
+def has_line(folder, words):
+    """Whether a log of HAProxy has a line."""
+    files = [*(LOGS / folder).glob("current"), *(LOGS / folder).glob("@*")]
+    return any(re.search(words, path.read_text(errors="replace")) for path in files)
+
+
+def ask_ward(token):
+    """The status of a request for a decision."""
+    return sent("POST", "/domains/ward/pdp", token, (WARD / "request-alice.json").read_text())[0]
+
+
+def in_logs_of_proxy(checks):
+    """HAProxy's own logs have their kinds of lines beside. A decision that was given is in its own log alone, and with
+    LOG_DECISIONS=0 it is there, too."""
+    checks.expect("a token that isn't the domain's", ask_ward("ward-nobody"), 401)
+    refused = r'(?m) refused .* POST "/domains/ward/pdp" 401 '
+    wait_until(lambda: has_line("decisions", refused), "what was refused isn't logged")
+    change = r'(?m) change .* changes\d+/?\S* PUT "/domains/ward/pip" 200 '
+    wait_until(lambda: has_line("changes", change), "the change isn't logged")
+    before, text = count_of_decisions(), SETTINGS.read_text()
+    SETTINGS.write_text(re.sub(r"(?m)^LOG_DECISIONS=.*$", "LOG_DECISIONS=0", text))
+    for words in (("config", "--write"), ("reload",)):
+        shards(*words)
+    checks.expect("a decision with LOG_DECISIONS=0", ask_ward(TOKENS["ask"]), 200)
+    wait_until(lambda: count_of_decisions() == before + 1, "it isn't logged")
+    SETTINGS.write_text(text)
+    for words in (("config", "--write"), ("reload",)):
+        shards(*words)
+    given = [name for name in ("changes", "haproxy", "decisions") if has_line(name, '"/domains/ward/pdp" 200 ')]
+    checks.expect("logs of HAProxy that have a decision", given, [])
+
+
+def compare(said, decided, folder, checks):
+    """What the commands say."""
+    checks.expect("the changes", len(said["changes"].splitlines()) >= 7, True)
+    what = re.compile(r'"Decision":"\w+"')
+    checks.expect("the decision", what.findall(said["decide"]), what.findall(decided[1]))
+    checks.expect("the state", (folder / "ward-then" / "domain.json").exists(), True)
+    checks.expect("the difference", "uploaded   policy urn:example:ward:records 1.0, active" in said["diff"], True)
+    found = re.findall(r"(\d+) replies that replay gives otherwise", said["check"])
+    checks.expect("check", (len(found) > 0, set(found)), (True, {"0"}))
+    checks.expect("verify", re.findall(r"[1-9]\d* same, 0 other", said["verify"]) != [], True)
+    checks.expect("forget", "1 keys of ward are gone" in said["forget"], True)
+
+
+def kept(operator, checks):
+    """What stands on the disk, and who may read it."""
+    words = "|".join([*TOKENS.values(), operator])
+    secret = sh(f"grep -rlE '{words}' /var/lib/pdpd-replica /var/lib/pdpd /var/log/pdpd {DECISIONS} || true")
+    checks.expect("files that have a token", secret, "")
+    clear = sh("grep -rlE 'urn:example:role|PolicyId' /var/lib/pdpd-replica || true")
+    checks.expect("files of the archive that have policies or rows", clear, "")
+    files = [path for path in pathlib.Path("/var/lib/pdpd-replica").glob("*/*.log")]
+    checks.expect("whose the archives are, and who may read them",
+                  {(path.owner(), f"{path.stat().st_mode & 0o777:o}") for path in files}, {("pdpd-replica", "600")})
+    found = {(path.owner(), path.group(), f"{path.stat().st_mode & 0o777:o}") for path in DECISIONS.glob("*.log")}
+    checks.expect("and the lines of decisions", found, {("pdpd-replica", "pdpd-replica", "640")})
+
+
+def killed_logged(machine, checks):
+    """Daemon, pdpd and HAProxy are killed in a stream of changes, some times; by hand it is more often."""
+    said = sh(f"{TOP}/tests/audit.py {LIBRARY}/pdpd kills --kills 5 --askers 10")
+    checks.say(said.strip().splitlines()[0].strip())
+    checks.expect("tests/audit.py kills", ", 0 failed" in said, True)
