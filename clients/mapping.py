@@ -20,8 +20,8 @@ NGINX_OWN = {"host", "connection", "content-length", "transfer-encoding", "upgra
 
 
 # Fields by which a server may take another method or path than those that were asked about, or another protocol.
-REFUSED = ("x-http-method-override", "x-http-method", "x-method-override", "x-original-url", "x-rewrite-url", "upgrade",
-           "http2-settings")
+REFUSED = ("x-http-method-override", "x-http-method", "x-method-override", "x-original-url", "x-rewrite-url",
+           "script-name", "upgrade", "http2-settings")
 # What may stand in a decoded path, as a class of a regular expression: of ASCII what needs no encoding, and a space;
 # else letters of Latin, Greek, Cyrillic, Hebrew, Arabic, Japanese, Chinese and Korean, which no Unicode normalization
 # changes.

@@ -20,9 +20,9 @@ PARTS = (real.values, real.several, real.obligations, real.administration, real.
          real.under_asyncio,
          hostile.decisions, hostile.cuts, hostile.slowness, hostile.secrets, hostile.mistakes,
          recipes.types, recipes.wheel, recipes.java, recipes.wsgi, recipes.asgi, recipes.flask_views, recipes.page,
-         mapping.mapping, points.grants, points.underscores, points.obligations_there, points.faulty,
-         points.two_readings, points.letters, points.certificates, points.kept, points.crowds, points.script_errors,
-         points.pages)
+         mapping.mapping, points.grants, points.underscores, points.odd_fields, points.rewrites,
+         points.obligations_there, points.faulty, points.two_readings, points.letters,
+         points.certificates, points.kept, points.crowds, points.script_errors, points.pages)
 
 
 def main():

@@ -50,12 +50,17 @@ local function path_of(raw)
     return path
 end
 
--- Whether a query names another method, as `_method=` in some encoding of its name.
+-- Whether a query names another method, as `_method=`, `a[_method]=` or `X-HTTP-Method-Override=` in some encoding.
 local function names_method(query)
     local decoded = query:gsub("%%(%x%x)", function(digits)
         return string.char(tonumber(digits, 16))
     end)
-    return ("&" .. decoded:lower()):find("[&;?][%s+]*[_. +]method") ~= nil
+    for _, name in ipairs({"[_. +]method", "x[%-_. +]method", "x[%-_. +]http[%-_. +]method"}) do
+        if ("&" .. decoded:lower()):find("[&;?%[][%s+]*" .. name) then
+            return true
+        end
+    end
+    return false
 end
 
 -- The values of the fields that some server reads as this one, each time that one stands in the head.
@@ -119,6 +124,15 @@ local function category(id, value, more)
             .. json.text(each[2]) .. "}"
     end
     return '{"Attribute":[' .. table.concat(all, ",") .. "]}"
+end
+
+-- Refuses a field whose name a server may read as another one, as SCRIPT_NAME or X_User.
+local function refuse_odd_names(head)
+    for name in pairs(head) do
+        if not name:find("^[A-Za-z0-9-]+$") then
+            refuse(400, "a field whose name has other characters than letters, digits and dashes")
+        end
+    end
 end
 
 -- Refuses what names another method, path or protocol than those that are asked about.
@@ -254,6 +268,7 @@ end
 -- Asks, and carries the obligations out; an error, if the request mustn't go on.
 local function ask(txn)
     local head = txn.http:req_get_headers()
+    refuse_odd_names(head)
     local subject = subject_of(txn, head)
     local obligations = permitted(answer(question(txn, subject, head)))
     for _, each in ipairs(obligations) do

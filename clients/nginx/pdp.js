@@ -18,7 +18,8 @@ function refusal(status, why) {
 const PLAIN = new RegExp('^[' + map.Plain + ']+$');
 
 // The path as every server reads it; 400 if two could read it differently: empty parts, dots, parameters, a backslash,
-// a character of ASCII that is encoded (but for a space), what isn't UTF-8, or another character than those above.
+// a character of ASCII that is encoded (but for a space), what isn't UTF-8, or another character than those above; 500
+// if nginx would pass another one on, since a `rewrite` changed it.
 function path_of(r) {
     const raw = r.variables.request_uri.split('?')[0];
     if (!/^\/(?:[A-Za-z0-9\-._~!$&'()*+,=:@]|%20|%[89A-Fa-f][0-9A-Fa-f]|\/)*$/.test(raw)) {
@@ -35,6 +36,9 @@ function path_of(r) {
     }
     if (!PLAIN.test(path)) {
         throw refusal(400, 'a character in the path that isn\'t plain');
+    }
+    if (r.uri !== path) {
+        throw refusal(500, 'a path that the configuration of nginx rewrites');
     }
     return path;
 }
@@ -67,16 +71,25 @@ function category(id, value, more) {
     return {Attribute: all.map(each => ({AttributeId: each[0], DataType: STRING, Value: each[1]}))};
 }
 
-// Whether a query names another method, as `_method=` in some encoding of its name.
+// Whether a query names another method, as `_method=`, `a[_method]=` or `X-HTTP-Method-Override=` in some encoding.
 function names_method(query) {
     const decoded = query.replace(/%([0-9A-Fa-f]{2})/g, (_, digits) => String.fromCharCode(parseInt(digits, 16)));
-    return /(?:^|[&;?])[\s+]*[_. +]method/i.test(decoded);
+    return /(?:^|[&;?[])[\s+]*(?:[_. +]|x[-_. +](?:http[-_. +])?)method/i.test(decoded);
+}
+
+// Refuses a field whose name a server may read as another one, as SCRIPT_NAME or X_User.
+function refuse_odd_names(r) {
+    if (r.rawHeadersIn.some(each => !/^[A-Za-z0-9-]+$/.test(each[0]))) {
+        throw refusal(400, 'a field whose name has other characters than letters, digits and dashes');
+    }
 }
 
 // The request for the decision.
 function question(r, subject) {
     const odd = map.Refused.filter(name => fields(r, name).length > 0);
-    if (odd.length || names_method(r.variables.args || '') || r.httpVersion < '1.0') {
+    // (a configuration may set other `args` than came, and either may go on)
+    const query = (r.variables.args || '') + r.variables.request_uri.replace(/^[^?]*/, '');
+    if (odd.length || names_method(query) || r.httpVersion < '1.0') {
         throw refusal(400, 'another method, path or protocol in a field or the query');
     }
     const action = Object.keys(map.Action).includes(r.method) ? map.Action[r.method] : null;
@@ -164,6 +177,7 @@ function refuse(r, fault) {
 // By `then`, since njs 0.7.9 ends its worker at an `await` among the arguments of a call.
 function guard(r) {
     try {
+        refuse_odd_names(r);
         const subject = subject_of(r);
         const body = question(r, subject);
         r.subrequest('/pdp-decision', {method: 'POST', body: body, args: ''})

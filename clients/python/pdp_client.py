@@ -3,11 +3,11 @@
     from pdp_client import Domain
 
     domain = Domain("https://pdp.example", "ward", token, ca_file="ca.pem", understood=["urn:example:log"])
-    if domain.decide(subject={"id": "alice"}, resource={"id": "record-42"}, action={"id": "read"}):
+    if domain.decide(subject={"id": "alice"}, resource={"id": "record-42"}, action={"id": "read"}).permit:
         ..
 
-A decision is true if it is Permit and every obligation that comes with it is one of `understood`, which the caller
-carries out. Whatever else happens is false or an exception, so that nothing is granted by a fault.
+`permit` is true if the decision is Permit and every obligation that comes with it is one of `understood`, which the
+caller carries out. Whatever else happens is false or an exception, so that nothing is granted by a fault.
 """
 from __future__ import annotations
 
@@ -23,8 +23,8 @@ import urllib.parse
 from dataclasses import dataclass
 from datetime import date, datetime, time as daytime, timedelta, tzinfo
 from typing import (
-    AbstractSet, Any, Awaitable, Callable, Deque, Dict, Iterable, Iterator, List, Mapping, Optional, Sequence, Tuple,
-    TypeVar, Union)
+    AbstractSet, Any, Callable, Coroutine, Deque, Dict, Generator, Iterable, Iterator, List, Mapping, Optional,
+    Sequence, Tuple, TypeVar, Union)
 
 # What the server takes: decisions and bytes of a message (docs/guide/API.md). A reply has at most 16 MiB there.
 MOST_DECISIONS, MOST_BODY, MOST_REPLY, MOST_HEAD = 64, 524_288, 32 << 20, 65_536
@@ -234,7 +234,7 @@ class Obligation:
 
 @dataclass(frozen=True)
 class Decision:
-    """One decision. It is true if it is Permit and all its obligations are understood."""
+    """One decision. It is true if `permit` is."""
     decision: str
     status: str
     obligations: Tuple[Obligation, ...] = ()
@@ -246,8 +246,13 @@ class Decision:
         """The ids of the obligations that the caller doesn't carry out."""
         return [each.id for each in self.obligations if each.id not in self.understood]
 
-    def __bool__(self) -> bool:
+    @property
+    def permit(self) -> bool:
+        """Whether it is Permit and all its obligations are understood."""
         return self.decision == "Permit" and not self.not_understood
+
+    def __bool__(self) -> bool:
+        return self.permit
 
     def enforce(self, handlers: Mapping[str, Callable[[Obligation], object]]) -> bool:
         """Whether access is granted, once each obligation was carried out by the handler of its id. Permit with one
@@ -425,8 +430,8 @@ class _Server:
 
     def close(self) -> None:
         """Closes the connections that wait."""
-        while self._kept:
-            self._kept.pop()[0].close()
+        while held := self._popped():
+            held[0].close()
 
     def __enter__(self: _S) -> _S:
         return self
@@ -434,10 +439,17 @@ class _Server:
     def __exit__(self, *_: object) -> None:
         self.close()
 
+    def _popped(self) -> Optional[Tuple[socket.socket, int, float]]:
+        """One of the connections that wait; None if there is none, or if other threads have just taken the last."""
+        try:
+            return self._kept.pop()
+        except IndexError:
+            return None
+
     def _waiting(self) -> Optional[socket.socket]:
         """A connection that waits. One that a fork has copied isn't used, since two processes would mix replies."""
-        while self._kept:
-            connection, process, until = self._kept.pop()
+        while held := self._popped():
+            connection, process, until = held
             if process == os.getpid() and time.monotonic() < until and _is_silent(connection):
                 return connection
             connection.close()
@@ -628,7 +640,7 @@ class Domain(_Server):
         asked = list(resources)
         questions = [{"subject": subject, "resource": each, "action": action, "environment": environment}
                      for each in asked]
-        return [each for each, decision in zip(asked, self.decide_many(questions)) if decision]
+        return [each for each, decision in zip(asked, self.decide_many(questions)) if decision.permit]
 
     def message(self, method: str, path: str, body: Optional[bytes] = None) -> bytes:
         """The body of the reply to any message of this domain, for a route that has no call here. The path is what
@@ -694,10 +706,32 @@ _A = TypeVar("_A", bound=Attributes)
 _R = TypeVar("_R")
 
 
-def _in_thread(call: Callable[..., _R], *given: Any) -> Awaitable[_R]:
+async def _in_thread(call: Callable[..., _R], *given: Any) -> _R:
     """What a call gives, in a thread."""
     import asyncio  # slowly imported, and most callers want none of it
-    return asyncio.to_thread(call, *given)
+    return await asyncio.to_thread(call, *given)
+
+
+class _Asked(Coroutine[Any, Any, _R]):
+    """A call that is awaited. Whether it is true is a mistake to ask, since each coroutine is."""
+
+    def __init__(self, call: Coroutine[Any, Any, _R]) -> None:
+        self._call = call
+
+    def __await__(self) -> Generator[Any, Any, _R]:
+        return self._call.__await__()
+
+    def send(self, value: Any) -> Any:
+        return self._call.send(value)
+
+    def throw(self, *given: Any) -> Any:
+        return self._call.throw(*given)
+
+    def close(self) -> None:
+        self._call.close()
+
+    def __bool__(self) -> bool:
+        raise Unsendable("nothing was asked yet: await it, as (await domain.decide(..)).permit")
 
 
 class AsyncDomain:
@@ -707,18 +741,20 @@ class AsyncDomain:
     def __init__(self, domain: Domain) -> None:
         self._domain = domain
 
-    async def decide(self, subject: Optional[Attributes] = None, resource: Optional[Attributes] = None,
-                     action: Optional[Attributes] = None, environment: Optional[Attributes] = None,
-                     others: Optional[Mapping[str, Attributes]] = None) -> Decision:
+    def decide(self, subject: Optional[Attributes] = None, resource: Optional[Attributes] = None,
+               action: Optional[Attributes] = None, environment: Optional[Attributes] = None,
+               others: Optional[Mapping[str, Attributes]] = None) -> Coroutine[Any, Any, Decision]:
         """As Domain.decide."""
-        return await _in_thread(self._domain.decide, subject, resource, action, environment, others)
+        return _Asked(_in_thread(self._domain.decide, subject, resource, action, environment, others))
 
-    async def decide_many(self, questions: Iterable[Question], at_once: int = MOST_DECISIONS) -> List[Decision]:
+    def decide_many(self, questions: Iterable[Question], at_once: int = MOST_DECISIONS) -> Coroutine[
+            Any, Any, List[Decision]]:
         """As Domain.decide_many."""
-        return await _in_thread(self._domain.decide_many, list(questions), at_once)
+        return _Asked(_in_thread(self._domain.decide_many, list(questions), at_once))
 
-    async def permitted(self, resources: Iterable[_A], subject: Optional[Attributes] = None,
-                        action: Optional[Attributes] = None, environment: Optional[Attributes] = None) -> List[_A]:
+    def permitted(self, resources: Iterable[_A], subject: Optional[Attributes] = None,
+                  action: Optional[Attributes] = None,
+                  environment: Optional[Attributes] = None) -> Coroutine[Any, Any, List[_A]]:
         """As Domain.permitted."""
         held = list(resources)
-        return await _in_thread(lambda: self._domain.permitted(held, subject, action, environment))
+        return _Asked(_in_thread(lambda: self._domain.permitted(held, subject, action, environment)))

@@ -27,7 +27,8 @@ PHRASES = {400: "400 Bad Request", 403: "403 Forbidden", 503: "503 Service Unava
 UNPLAIN = re.compile(r"(^|/)\.{1,2}(/|$)|//|[\\;%]|[\x00-\x1f\x7f]")
 # and bytes that were decoded to such a character
 DECODED = re.compile(rb"%(2e|2f|5c|3b|25|0|1|7f)", re.I)
-OVERRIDES = ("x-http-method-override", "x-http-method", "x-method-override")
+# fields by which an application may take another method, or its server another path (gunicorn: SCRIPT_NAME)
+OVERRIDES = ("x-http-method-override", "x-http-method", "x-method-override", "script-name")
 log = logging.getLogger(__name__)
 
 
@@ -78,7 +79,7 @@ class GuardedASGI:
 
     async def status(self, scope: Environ) -> int:
         headers: List[Tuple[bytes, bytes]] = list(scope["headers"])
-        overridden = any(name.lower().decode("latin-1") in OVERRIDES for name, _ in headers)
+        overridden = any(name.lower().decode("latin-1").replace("_", "-") in OVERRIDES for name, _ in headers)
         path = scope["path"]
         if overridden or UNPLAIN.search(path) or DECODED.search(scope.get("raw_path") or b"") or path[:1] != "/":
             return 400

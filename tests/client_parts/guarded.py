@@ -27,7 +27,7 @@ http {{
     access_log {made}/access.log; client_body_temp_path {made}/1; proxy_temp_path {made}/2; fastcgi_temp_path {made}/3;
     uwsgi_temp_path {made}/4; scgi_temp_path {made}/5; large_client_header_buffers 4 16k;
     include {made}/conf/http.conf;
-    server {{ listen 127.0.0.1:{port}; include {made}/conf/server.conf; }}
+    server {{ listen 127.0.0.1:{port}; {more} include {made}/conf/server.conf; }}
     {tls}
 }}
 """
@@ -136,6 +136,7 @@ class Guarded:
 
 class Nginx(Guarded):
     name, lacks = "nginx", "nginx and njs (apt-get install nginx libnginx-mod-http-js)"
+    more = ""  # that stands in the server beside what is included
 
     @staticmethod
     def is_there():
@@ -143,9 +144,9 @@ class Nginx(Guarded):
 
     def words(self):
         user = "user root;\n" if os.getuid() == 0 else ""
-        more = NGINX_TLS.format(made=self.made, port=self.tls_port) if self.tls else ""
+        tls = NGINX_TLS.format(made=self.made, port=self.tls_port) if self.tls else ""
         (self.made / "nginx.conf").write_text(
-            NGINX.format(module=MODULE, made=self.made, port=self.port, user=user, tls=more))
+            NGINX.format(module=MODULE, made=self.made, port=self.port, user=user, tls=tls, more=self.more))
         return ["nginx", "-p", self.made, "-c", self.made / "nginx.conf", "-e", "stderr"]
 
 
@@ -165,9 +166,9 @@ class Haproxy(Guarded):
         return ["haproxy", "-db", "-f", self.made / "haproxy.cfg", "-f", self.made / "conf" / "pdp.cfg"]
 
 
-def points():
-    """The proxies that are there; those that aren't are told."""
-    for point in (Nginx, Haproxy):
+def points(*some):
+    """The proxies that are there, all or some of them; those that aren't are told."""
+    for point in some or (Nginx, Haproxy):
         if point.is_there():
             yield point
         elif point.lacks not in untried:

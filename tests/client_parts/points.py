@@ -16,7 +16,7 @@ from concurrent.futures import ThreadPoolExecutor
 
 from serving import free_port
 
-from .guarded import LOG, MARK, OPEN, PATIENCE, Haproxy, points, reads, ready, told
+from .guarded import LOG, MARK, OPEN, PATIENCE, Haproxy, Nginx, points, reads, ready, told
 from .odd_targets import READINGS, odd_targets
 from .servers import Scripted, is_silent, keeps, reset, response, result, whole
 from .shared import ASKS, TOP, Acme, expect
@@ -35,8 +35,7 @@ def grants():
             status, _, body = guarded.sent("/open/x", method="HEAD")
             expect(f"{point.name}: HEAD", (status, body), (200, b""))
             grants_no_other(point, guarded, echo)
-            said = json.loads(guarded.sent("/open/x", "X-Remote-User: root", "x-remote-user: root",
-                                           "X_Remote_User: root")[2])["Fields"]
+            said = json.loads(guarded.sent("/open/x", "X-Remote-User: root", "x-remote-user: root")[2])["Fields"]
             expect(f"{point.name}: the fields that name a user", [each for each in said if "user" in each],
                    ["x-user: ann"])
             logs = guarded.logs()
@@ -72,6 +71,43 @@ def underscores():
                 arrived = [each for each in json.loads(body)["Fields"] if "connection: " in each and "user" in each] \
                     if status == 200 else []
                 expect(f"{point.name}: {field}", (status in (200, 400), arrived), (True, []))
+
+
+# names that some server takes for another field, of those that HTTP allows (RFC 9110, section 5.6.2)
+ODD_FIELDS = ("SCRIPT_NAME: /open", "script_name: /open", "PATH_INFO: /open/x", "X_User: root", "X.User: root",
+              "X-Remote_User: root", "X_HTTP_Method_Override: POST", "X~Y: z")
+
+
+class UnderscoringNginx(Nginx):
+    more = "underscores_in_headers on; ignore_invalid_headers off;"
+
+
+class RewritingNginx(Nginx):
+    more = ("rewrite ^/open/old/(.*)$ /closed/$1; rewrite ^/closed/new/(.*)$ /open/$1; "
+            "rewrite ^/open/args$ /open/args?_method=POST? ;")
+
+
+def odd_fields():
+    """A field whose name a server may read as another one is refused, and `SCRIPT_NAME` moves no path of gunicorn."""
+    for point in points(UnderscoringNginx, Haproxy):
+        with ready(point, reads("ann")) as (guarded, echo, _, _):
+            expect(f"{point.name}: plain names", guarded.sent("/open/x", "X-Any-1: _")[0], 200)
+            before = len(echo.messages)
+            for field in ODD_FIELDS:
+                expect(f"{point.name}: {field}", guarded.sent("/open/closed/x", field)[0], 400)
+            expect(f"{point.name}: none of them arrived", len(echo.messages) - before, 0)
+
+
+def rewrites():
+    """What a configuration of nginx rewrites isn't what was asked about: it is refused."""
+    for point in points(RewritingNginx):
+        with ready(point, reads("ann")) as (guarded, echo, _, _):
+            for path in ("/open/x", "/open/%c3%a9", "/open/a%20b"):
+                expect(f"as it came: {path}", guarded.sent(path)[0], 200)
+            before = len(echo.messages)
+            for path, wanted in (("/open/old/x", 500), ("/closed/new/x", 500), ("/open/args", 400)):
+                expect(f"rewritten: {path}", guarded.sent(path)[0], wanted)
+            expect("none of them arrived", len(echo.messages) - before, 0)
 
 
 def obligations_there():
@@ -177,9 +213,12 @@ REFUSED_TARGETS = (
     "/open/e%cc%81", "/open/%e2%80%8b", "/open/%ff", "/open/%c0%ae", "/open/%ed%a0%80", "/open/|")
 REFUSED_FIELDS = (
     "X-HTTP-Method-Override: POST", "X-HTTP-Method: POST", "X-Method-Override: POST", "Upgrade: websocket",
-    "Upgrade: h2c", "HTTP2-Settings: x", "X-Original-URL: /closed", "x-rewrite-url: /closed")
+    "Upgrade: h2c", "HTTP2-Settings: x", "X-Original-URL: /closed", "x-rewrite-url: /closed",
+    "Script-Name: /open")
 REFUSED_QUERIES = ("_method=POST", "a=1&_method=DELETE", "_METHOD=PUT", "a;_method=PUT", "%5fmethod=PUT",
-                   "%5F%6dethod=PUT", "_method[]=PUT", "+_method=PUT", "a=b?_method=PUT", ".method=PUT")
+                   "%5F%6dethod=PUT", "_method[]=PUT", "+_method=PUT", "a=b?_method=PUT", ".method=PUT",
+                   "X-HTTP-Method-Override=PUT", "a=1&x-http-method%2doverride=PUT", "x_http_method=PUT",
+                   "X-Method-Override=PUT", "a[_method]=PUT", "a%5B%5Fmethod%5d=PUT", "a[b][_method]=PUT")
 
 
 def two_readings():

@@ -1,12 +1,13 @@
 """The client beside the real program: what it sends is understood as it was meant."""
 import asyncio
+import collections
 import json
 import os
 import threading
 from datetime import date, datetime, time, timedelta, timezone
 
 from .servers import Relay
-from .shared import ADMIN, ASKS, Acme, expect, match, policy_of, raised, rule
+from .shared import ADMIN, Acme, expect, match, policy_of, raised, rule
 
 from pdp_client import AsyncDomain, Domain, Listed, Typed, row  # noqa: E402, found by shared
 
@@ -114,6 +115,7 @@ def obligations():
             decision = acme.domain(understood=understood).decide("ann")
             expect(f"Permit to who understands {understood}", (decision.decision, bool(decision)),
                    ("Permit", is_granted))
+            expect("its property says the same", decision.permit, is_granted)
             expect("the rest is named", decision.not_understood,
                    [name for name in ("urn:example:log", "urn:example:mark") if name not in understood])
         expect("Deny stays Deny", bool(acme.domain(understood=["urn:example:alarm"]).decide("ben")), False)
@@ -180,6 +182,13 @@ def administration():
         expect("nothing is left", admin.policies(), [])
 
 
+class Snatched(collections.deque):
+    """What waits, as a thread sees it of which another one takes the last connection a moment later."""
+
+    def __bool__(self):
+        return True
+
+
 def threads():
     """Kept connections over threads and processes: each has the answers to its own questions."""
     with Acme() as acme, Relay(acme.served.port) as relay:
@@ -188,10 +197,15 @@ def threads():
         with acme.domain(relay.url) as domain:
             expect("each closes", [bool(domain.decide("ann", even)) for _ in range(5)], [True] * 5)
             expect("a connection each", relay.connections, 5)
+        with acme.domain(relay.url, keep=30) as domain:
+            domain._kept = Snatched()
+            expect("another thread takes the last that waits", domain.decide("ann", even).permit, True)
+            expect("and while they are closed", raised(domain.close), ("", None))
+        before = relay.connections
         with acme.domain(relay.url, keep=30, seconds=60) as domain:
             expect("one connection", [bool(domain.decide("ann", each)) for each in (even, odd) * 10],
                    [True, False] * 10)
-            expect("for twenty messages", relay.connections, 6)
+            expect("for twenty messages", relay.connections - before, 1)
             wrong, lock = [], threading.Lock()
 
             def asks(number):
@@ -241,4 +255,8 @@ def under_asyncio():
             expect("several", [bool(each) for each in await domain.decide_many(
                 {"subject": name, "resource": even} for name in ("ann", "ben"))], [True, False])
             expect("what may be seen", await domain.permitted([even, odd], subject="ann"), [even])
+            expect("as a task", (await asyncio.create_task(domain.decide("ann", even))).permit, True)
+            for asked in (domain.decide("ben", even), domain.decide_many([]), domain.permitted([])):
+                expect("one that isn't awaited isn't true", raised(bool, asked)[0], "Unsendable")
+                asked.close()
         asyncio.run(all_of_it())

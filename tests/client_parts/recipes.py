@@ -121,6 +121,7 @@ def wsgi():
             b"".join(guarded(environ, lambda status, fields: said.append(int(status[:3]))))
             return said[0], len(arrived) - before
         expect("a permitted one", (sent("/open/x"), asked.logged), ((200, 1), [["ann"]]))
+        expect("a path in two parts", sent("/x", SCRIPT_NAME="/open"), (200, 1))
         expect("a path that isn't ASCII", sent("/logged/é".encode().decode("latin-1")), (200, 1))
         for what, found, wanted in (
                 ("another path", sent("/closed"), 403), ("another user", sent("/open/x", "ben"), 403),
@@ -129,6 +130,8 @@ def wsgi():
                 ("no server", sent("/open/x", domain=asked.down), 503),
                 ("no UTF-8", sent("/open/\xff"), 400),
                 ("another method by a field", sent("/open/x", HTTP_X_HTTP_METHOD_OVERRIDE="PUT"), 400),
+                # (as gunicorn gives the application GET /closed/open/x with the field SCRIPT_NAME: /open)
+                ("another path by a field", sent("/x", SCRIPT_NAME="/open", HTTP_SCRIPT_NAME="/open"), 400),
                 *((f"{path!r}", sent(path), 400) for path in ODD_PATHS)):
             expect(f"WSGI: {what}", found, (wanted, 0))
 
@@ -161,6 +164,8 @@ def asgi():
                 ("a web socket", sent(type="websocket"), "websocket.close"),
                 ("unknown", sent(type="x"), "websocket.close"),
                 ("another method by a field", sent(headers=[(b"X-HTTP-Method-Override", b"PUT")]), 400),
+                ("by an underscore", sent(headers=[(b"x_http_method_override", b"PUT")]), 400),
+                ("another path by a field", sent(headers=[(b"script_name", b"/open")]), 400),
                 ("a slash that was decoded", sent(raw_path=b"/open%2Fx"), 400),
                 ("a dot", sent(raw_path=b"/op%2en/x"), 400),
                 *((f"{path!r}", sent(path), 400) for path in ODD_PATHS)):

@@ -97,9 +97,15 @@ class Packed(DeployTest):
         subprocess.run(packs, check=True, capture_output=True)
         with tarfile.open(self.room / "dist" / "pdpd-9.9.tar.gz") as archive:
             entry = archive.getmember("pdpd-9.9/policy.pyz")
+            archive.extractall(self.room / "unpacked")
             held, sums = archive.extractfile(entry).read(), archive.extractfile("pdpd-9.9/SHA256SUMS").read()
         self.assertEqual((held == self.file.read_bytes(), entry.mode), (True, 0o755))
         self.assertIn(f"{hashlib.sha256(held).hexdigest()}  policy.pyz\n", sums.decode())
+
+        subprocess.run([self.room / "unpacked" / "pdpd-9.9" / "deploy" / "install", "/usr"], check=True,
+                       capture_output=True, env={**os.environ, "DESTDIR": str(self.room / "there")})
+        installed = self.room / "there" / "usr" / "lib" / "pdpd" / "policy.pyz"
+        self.assertEqual((installed.read_bytes() == held, os.access(installed, os.X_OK)), (True, True))
 
     def test_the_version(self) -> None:
         """It is that of pdpd."""
