@@ -1,6 +1,6 @@
 #!/usr/bin/env python3
-"""What an ask takes through the proved pdpd, in microseconds of processor time: one whose response is kept, and
-ordinary ones that are worked out.
+"""What a decision request takes through the proved pdpd, in microseconds of processor time: one whose response is
+kept, and ordinary ones that are worked out.
 
 Usage: bench/asks.py [PDPD]     PDPD: the built program (build/pdpd, which `make pdpd` makes)
        bench/asks.py [--write] PDPD --instructions     instructions in place of times, in some minutes (valgrind,

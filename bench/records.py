@@ -1,6 +1,6 @@
 #!/usr/bin/env python3
-"""The keeper in memory: nanoseconds a call of one domain, with 10 and with 10,000 domains of 10 documents each; the
-two may differ by three tenths.
+"""The repository in memory: nanoseconds a call of one domain, with 10 and with 10,000 domains of 10 documents each;
+the two may differ by three tenths.
 
 Usage: bench/records.py [--write] [XA_TRIALS]     XA_TRIALS: the built program; without it the proved one, which is
                                                   proved and built first where it isn't yet

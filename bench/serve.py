@@ -1,6 +1,6 @@
 #!/usr/bin/env python3
-"""Asks a second over a socket, and the processor time that an ask takes, of the proved `pdpd serve`; beside nginx,
-which answers `return 200`, or a file.
+"""Decision requests a second over a socket, and the processor time that one takes, of the proved `pdpd serve`; beside
+nginx, which answers `return 200`, or a file.
 
 Usage: bench/serve.py [--write] [PDPD]     PDPD: the built program (build/pdpd, which `make pdpd` makes)
                                            --write: the table is written into docs/PERFORMANCE.md too

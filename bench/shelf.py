@@ -1,6 +1,6 @@
 #!/usr/bin/env python3
-"""What an ask of a domain with ten active documents of 5 KB costs through the proved pdpd: the first, which reads
-them, and a second, for which the domain's view is ready.
+"""What a decision request to a domain with ten active documents of 5 KB costs through the proved pdpd: the first,
+which reads them, and a second, for which the domain's view is ready.
 
 Usage: bench/shelf.py [--write] [PDPD]     PDPD: the built program (build/pdpd, which `make pdpd` makes)
                                            --write: the table is written into docs/PERFORMANCE.md too

@@ -1,7 +1,7 @@
 #!/usr/bin/env python3
-"""Views that are kept ready: what an ask takes that is worked out, with room for 128 views and with room for none, in
-instructions (valgrind, Debian's package) where the domain is small and in processor time where it is large; and what
-memory a view takes for each byte of the texts that were read for it.
+"""Views that are kept ready: what a decision request takes that is worked out, with room for 128 views and with room
+for none, in instructions (valgrind, Debian's package) where the domain is small and in processor time where it is
+large; and what memory a view takes for each byte of the texts that were read for it.
 
 Usage: bench/views.py [--write] [XA_TRIALS]     XA_TRIALS: the built program; without it the proved one, which is proved
                                                 and built first where it isn't yet

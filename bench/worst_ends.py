@@ -1,5 +1,5 @@
-"""Inputs that only a limit of work ends, and asks of domains with as many bytes of policies as may be read for one
-message: rows of a server for the program xa_trials."""
+"""Inputs that only a limit of work ends, and decision requests to domains with as many bytes of policies as may be
+read for one message: rows of a server for the program xa_trials."""
 from functions import V1, V2, V3
 from unit_documents import (
     apply, designator, inner, literal, match, policy, policy_set, rule, target, to_policy, to_set, variable, written)

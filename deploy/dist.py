@@ -9,6 +9,7 @@ import gzip
 import hashlib
 import io
 import pathlib
+import re
 import subprocess
 import sys
 import tarfile
@@ -33,7 +34,7 @@ LEFT_OUT = ("deb.py", "debian", "dist.py", "draw.py", "wheel.py")
 def program_of(named):
     """The program that is packed, and a line that says which one it is."""
     if named:
-        return named.resolve(), "This program was named by whoever made the archive: it isn't known to be proved."
+        return elf(named.resolve()), "This program was named by whoever made the archive: it isn't known to be proved."
     try:
         path = programs.proved_program("pdpd")
     except programs.NotBuilt as fault:
@@ -44,6 +45,20 @@ def program_of(named):
                          "`deploy/dist.py --program PATH`; the file PROGRAM then says so")
     return path, ("This program was proved and built of the sources of checksum "
                   f"{programs.fingerprint('pdpd')}\nby {first_line_of('rt', 'version')}.")
+
+
+def elf(program):
+    """The program, if it is an ELF file. A script, such as `make run` leaves without a proof, starts a program that
+    is elsewhere and isn't packed with it."""
+    try:
+        held = program.read_bytes()
+    except OSError as fault:
+        raise SystemExit(f"deploy/dist.py: {program} can't be read: {fault.strerror}") from None
+    if held[:4] == b"\x7fELF":
+        return program
+    starts = re.search(rb"(?m)^exec (\S+)", held)
+    raise SystemExit(f"deploy/dist.py: {program} isn't a compiled program (ELF). A script of `make run` starts one: "
+                     f"name that: {starts[1].decode(errors='replace') if starts else 'build/unproved/pdpd'}")
 
 
 def first_line_of(*words):

@@ -264,6 +264,24 @@ def commands():
     for row in cells("API.md", "| Code | Status |"):
         expect(f"{row[0]} has something to run", len(row) == 5 and bool(row[4]), True)
         expect(f"{row[0]}: words of the desk", set(re.findall(r"`policy (\w+)", row[-1])) - known, set())
+    unknown_to_the_desk()
+
+
+def unknown_to_the_desk():
+    """An error of a body that `policy check` doesn't know names the object whose members openapi.yaml lists."""
+    page = read_yaml(TOP, OPENAPI)
+    runs = {row[0].strip("`"): row[-1] for row in cells("API.md", "| Code | Status |")}
+    bodies = {f"{method.upper()} {path}": next(iter(each["requestBody"]["content"].values()))["schema"]["$ref"]
+              for path, methods in page["paths"].items() for method, each in methods.items()
+              if isinstance(each, dict) and "requestBody" in each}
+    found = 0
+    for name, example in read_openapi(page).examples.items():
+        code = re.search(rb'"Error":"(MissingMember|UnknownMember|BadValue)"', example.reply)
+        body = bodies.get(example.route, "").rpartition("/")[2]
+        if code and body not in ("Document", "RowsBody"):
+            found += 1
+            expect(f"{name}: what to look at", f"`{body}`" in runs[code[1].decode()], True)
+    expect("errors of bodies of tokens and roots", found, 9)
 
 
 def ready():

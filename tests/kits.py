@@ -145,14 +145,23 @@ def has_processors(number):
 
 # ---- the parts
 
+def told_of(found, text):
+    """What is told of a kit that the text doesn't name, and nothing of another; and whether its logic is the text's."""
+    names, logics = set(re.findall(r"rattle-kit-\w+", text)), set(re.findall(r"\blogic ([0-9a-f]{16})\b", text))
+    told = f"# The kit at hand is {found}. README.md names {', '.join(sorted(names))}."
+    return "" if found.split()[0] in names else told, set(re.findall(r"\blogic (\S+)", found)) == logics
+
+
 def named():
     """The kit at hand has the logic that README names; another name is told."""
     text = (TOP / "README.md").read_text(encoding="utf-8")
-    names, logics = set(re.findall(r"rattle-kit-\w+", text)), set(re.findall(r"\blogic ([0-9a-f]{16})\b", text))
-    found = kit.identity()
-    if found.split()[0] not in names:
-        print(f"# The kit at hand is {found}. README.md names {', '.join(sorted(names))}.")
-    checks.expect("the logic of the kit at hand is README's", set(re.findall(r"\blogic (\S+)", found)), logics)
+    told, same = told_of(kit.identity(), text)
+    print(told, end="\n" * bool(told))
+    checks.expect("the logic of the kit at hand is README's", same, True)
+    one = "rattle-kit-1 logic 0123456789abcdef"
+    for found, wanted in ((one, (False, True)), (IDENTITY, (True, True)), (f"{one[:-1]}0", (False, False))):
+        told, same = told_of(found, f"`{one}`")
+        checks.expect(f"whether {found} is told, and has the logic", (bool(told), same), wanted)
 
 
 def runs_ahead():

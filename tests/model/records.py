@@ -1,4 +1,4 @@
-"""What a keeper of records answers to changes and readings, one after another, of which the first finds no domain.
+"""What a repository of records answers to changes and readings, one after another, of which the first finds no domain.
 
 A change alters one domain, or is refused and alters nothing. Each domain has a number, which no other ever has, and an
 epoch, which rises by one with each change of what decides: of its documents, of which of them are active, of its root,

@@ -1,5 +1,5 @@
-"""What opening a store as a keeper's answers, and what it leaves, over Python's own sqlite3; and what a server answers
-whose keeper was opened so.
+"""What opening a store as a repository's answers, and what it leaves, over Python's own sqlite3; and what a server
+answers whose repository was opened so.
 
 A store without one of a keeper's tables gets all of them. Another is read and judged, row by row, and nothing of it is
 altered unless all of it is sound: then the rows of sources of schema 1 are brought over into the second schema.

@@ -1,4 +1,4 @@
-"""How often a server calls its keeper, and what it answers where one of these calls fails.
+"""How often a server calls its repository, and what it answers where one of these calls fails.
 
 The operator's message makes one call, unless its body isn't one. Any other message to a domain asks for its gate, and
 once it is let in makes one call more for what it asks, unless its body isn't one or its path names no document. An ask

@@ -1,5 +1,5 @@
 """How a decision comes about: the tree with each target, condition and rule, what settled it, and where its
-status and duties came from.
+status, obligations and advice came from.
 
 What each part comes to is the model's own reckoning, part by part from the leaves up.
 """

@@ -1,10 +1,10 @@
-"""The order of a deployment's steps in which every ask between the first and the last is answered as before
-or as after, where there is one.
+"""The order of a deployment's steps in which every decision request between the first and the last is
+answered as before or as after, where there is one.
 
 A step is quiet where what answers rest on is the same after it. Steps that are quiet under the old state
 come first, then one step that makes the new state's answers of the old state's, then steps that are quiet
-under the new state. Where no single step makes the turn, some asks between may be answered by neither state:
-the order with the fewest such steps is taken, and what is mixed is said.
+under the new state. Where no single step makes the turn, some decision requests between may be answered
+by neither state: the order with the fewest such steps is taken, and what is mixed is said.
 """
 from __future__ import annotations
 

@@ -33,6 +33,12 @@ def pythons() -> list[str]:
     return list(found.values())
 
 
+def dist(program: pathlib.Path, folder: pathlib.Path) -> subprocess.CompletedProcess:
+    """Packs that program, as `make dist PROGRAM=..` does."""
+    words = [sys.executable, TOP / "deploy" / "dist.py", "--program", program, "--to", folder]
+    return subprocess.run(words, capture_output=True, text=True, check=False)
+
+
 class Packed(DeployTest):
     """The one file."""
 
@@ -90,22 +96,35 @@ class Packed(DeployTest):
 
     def test_in_the_archive(self) -> None:
         """The archive of `make dist` holds these very bytes, to be run, and their checksum."""
-        stub = self.room / "pdpd"
-        stub.write_text("#!/bin/sh\necho pdpd 9.9\n", encoding="ascii")
-        stub.chmod(0o755)
-        packs = [sys.executable, TOP / "deploy" / "dist.py", "--program", stub, "--to", self.room / "dist"]
-        subprocess.run(packs, check=True, capture_output=True)
-        with tarfile.open(self.room / "dist" / "pdpd-9.9.tar.gz") as archive:
-            entry = archive.getmember("pdpd-9.9/policy.pyz")
+        # any compiled program that tells a version stands for pdpd: here the interpreter
+        packs = dist(pathlib.Path(sys.executable).resolve(), self.room / "dist")
+        self.assertEqual(packs.returncode, 0, packs.stderr)
+        (made,) = (self.room / "dist").glob("*.tar.gz")
+        name = made.name[:-len(".tar.gz")]
+        with tarfile.open(made) as archive:
+            entry = archive.getmember(f"{name}/policy.pyz")
             archive.extractall(self.room / "unpacked")
-            held, sums = archive.extractfile(entry).read(), archive.extractfile("pdpd-9.9/SHA256SUMS").read()
+            held, sums = archive.extractfile(entry).read(), archive.extractfile(f"{name}/SHA256SUMS").read()
         self.assertEqual((held == self.file.read_bytes(), entry.mode), (True, 0o755))
         self.assertIn(f"{hashlib.sha256(held).hexdigest()}  policy.pyz\n", sums.decode())
 
-        subprocess.run([self.room / "unpacked" / "pdpd-9.9" / "deploy" / "install", "/usr"], check=True,
+        subprocess.run([self.room / "unpacked" / name / "deploy" / "install", "/usr"], check=True,
                        capture_output=True, env={**os.environ, "DESTDIR": str(self.room / "there")})
         installed = self.room / "there" / "usr" / "lib" / "pdpd" / "policy.pyz"
         self.assertEqual((installed.read_bytes() == held, os.access(installed, os.X_OK)), (True, True))
+
+    def test_a_script_in_place_of_the_program(self) -> None:
+        """What `make run` leaves without a proof, or nothing at all, isn't packed, and a line says what to name."""
+        script = self.room / "build" / "pdpd"
+        script.parent.mkdir()
+        script.write_text("#!/bin/sh\nexec /clone/build/unproved/pdpd \"$@\"\n", encoding="ascii")
+        script.chmod(0o755)
+        for named, told in ((script, "name that: /clone/build/unproved/pdpd"), (self.room / "absent", "No such file")):
+            with self.subTest(named.name):
+                packs = dist(named, self.room / "refused")
+                self.assertEqual((packs.returncode, packs.stderr.count("\n")), (1, 1), packs.stderr)
+                self.assertIn(told, packs.stderr)
+                self.assertFalse((self.room / "refused").exists())
 
     def test_the_version(self) -> None:
         """It is that of pdpd."""
