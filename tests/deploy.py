@@ -8,8 +8,8 @@ It runs in namespaces of its own (mounts, processes, network), in which all path
 real machine, and leaves nothing behind. It takes the rights of root and Debian's packages haproxy, runit,
 curl, wrk, openssl, iproute2, strace, gcc, sqlite3 and systemd; where something is missing it says so and ends with
 status 2. The part `clients` fails where one of nginx, libnginx-mod-http-js, mypy, python3-flask,
-python3-pip and default-jdk-headless is missing. It gives the commands of docs/guide/OPERATING.md word for word. What
-is expected is worked out from the pages and RFC 9110 and 9112, and never by the program.
+python3-pip and default-jdk-headless is missing. It gives the commands of docs/guide/OPERATING.md, of the sections that
+its end names. What is expected is worked out from the pages and RFC 9110 and 9112, and never by the program.
 
 Some parts have a machine of their own: `systemd` and `deb` a Debian that systemd has booted, and `containers` what
 podman runs, all at the same time. They take Debian's packages systemd-container, debootstrap, podman, crun, catatonit,
@@ -40,7 +40,7 @@ PARTS = (
     replies.examples, replies.desk, replies.odd, replies.paths, replies.listing,
     slowness.slow, slowness.slow_readers, slowness.rates,
     failures.restarts, failures.kills, failures.stuck, failures.watched, failures.unkilled,
-    failures.behind_several, failures.unstarted, failures.holding,
+    failures.behind_several, failures.unstarted, failures.holding, failures.unbalanced,
     backups.backups, backups.checkpoints, backups.emptied, backups.anew,
     changes.moves, changes.crossed, changes.killed, changes.keeping, enforcement.clients,
     *states.STATES, *observed.OBSERVED,

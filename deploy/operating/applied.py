@@ -5,6 +5,8 @@ machine that starts again, goes on with what was applied. `pdpd-run` reads the s
 """
 from __future__ import annotations
 
+import contextlib
+import copy
 import pathlib
 
 from .settings import FILE, Settings, Wrong, read, text_of, words_of, write_whole
@@ -25,7 +27,8 @@ def place(name: int | str) -> pathlib.Path:
 
 def apply(settings: Settings, name: int | str) -> None:
     """Has a shard, or what watches HAProxy, go by these settings from its next start on."""
-    FOLDER.mkdir(mode=0o755, exist_ok=True)
+    FOLDER.mkdir(exist_ok=True)
+    FOLDER.chmod(0o755)  # (whatever root's umask is: `pdpd-run` looks into it as the user pdpd)
     write_whole(place(name), settings.text)
 
 
@@ -38,7 +41,7 @@ def apply_where_none(settings: Settings, shards: list[int]) -> None:
 
 def of(settings: Settings, name: int | str) -> Settings:
     """What was applied to a shard or to HAProxy; these settings where nothing was."""
-    return Settings(text_of(place(name))) if place(name).exists() else settings
+    return Settings(text_of(place(name)), place(name)) if place(name).exists() else settings
 
 
 def changed(settings: Settings, shard: int) -> list[str]:
@@ -48,13 +51,33 @@ def changed(settings: Settings, shard: int) -> list[str]:
 
 
 def read_or_before() -> tuple[Settings | None, str]:
-    """The settings of the file, or, where it can't be read, those before, and why; a service has to go on. Without any
-    before there are none."""
+    """The settings of the file, or, where it can't be read, those before, and why; a service has to go on. One that has
+    only begun has those that were applied to HAProxy; without these there are none."""
     try:
         LAST[FILE.name] = read()
         return LAST[FILE.name], ""
     except (Wrong, OSError) as fault:
+        if FILE.name not in LAST and place(PROXY).exists():
+            with contextlib.suppress(Wrong, OSError):
+                LAST[FILE.name] = Settings(text_of(place(PROXY)), place(PROXY))
         return LAST.get(FILE.name), words_of(fault)
+
+
+def goes_on(settings: Settings | None, fault: str) -> str:
+    """What a service tells while the settings can't be read."""
+    return f"{fault}: {'what was set before goes on' if settings else 'nothing was set before, so nothing is done'}"
+
+
+def backed_up(settings: Settings) -> tuple[list[Settings], str]:
+    """By what a backup of each shard is made: how many there are, and where its files are, is as it was applied; and
+    what is told where the settings have it otherwise."""
+    count = of(settings, PROXY).shards
+    found = [copy.copy(settings) for _ in range(count)]
+    for shard, own in enumerate(found):
+        own.shards, own.data = count, of(settings, shard).data
+    others = [name for name in ("SHARDS", "DATA")
+              if any(getattr(own, name.lower()) != getattr(settings, name.lower()) for own in found)]
+    return found, f"{', '.join(others)} of {FILE} isn't what was applied: that goes on" if others else ""
 
 
 def watched(shard: int) -> Settings | None:

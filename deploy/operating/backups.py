@@ -174,22 +174,38 @@ def summary(path, domains, took):
     return f"{path}, {len(domains)} domains, still for {took * 1000:.0f} ms"
 
 
+def tell(what):
+    print(harmless(what), file=sys.stderr, flush=True)
+
+
+def settings_of_shards():
+    """By what a backup of each shard is made, which is nothing where that can't be found out; it tells why."""
+    settings, fault = applied.read_or_before()
+    if fault:
+        tell(applied.goes_on(settings, fault))
+    try:
+        found, other = applied.backed_up(settings) if settings else ([], "")
+    except (Wrong, OSError) as fault:
+        found, other = [], f"NO BACKUP: {words_of(fault)}"
+    if other:
+        tell(other)
+    return found
+
+
 def keep_making(seconds):
-    """A backup of each shard, again and again."""
+    """A backup of each shard, again and again. A number of shards or a place that wasn't applied isn't gone by."""
     while True:
-        settings, fault = applied.read_or_before()
-        if fault:
-            print(harmless(f"{fault}: what was set before goes on"), file=sys.stderr, flush=True)
-        for shard in range(settings.shards if settings else 0):
+        found = settings_of_shards()
+        for shard, settings in enumerate(found):
             path = None
             try:
                 with alone():
                     path, domains, took = backup(settings, shard)
                 print(f"backup of shard {shard}: {summary(path, domains, took)}", flush=True)
-                if found := emptied(settings, shard):
-                    print(f"WRONG: {found}", file=sys.stderr, flush=True)
+                if gone := emptied(settings, shard):
+                    tell(f"WRONG: {gone}")
                 copy_away(settings, shard, path)
             except (Wrong, OSError, subprocess.SubprocessError) as fault:
                 what = "NO BACKUP" if path is None else "NO COPY of the backup"
-                print(harmless(f"{what} of shard {shard}: {words_of(fault)}"), file=sys.stderr, flush=True)
-        time.sleep(seconds if settings else SOON)
+                tell(f"{what} of shard {shard}: {words_of(fault)}")
+        time.sleep(seconds if found else SOON)

@@ -78,8 +78,9 @@ def services(settings, words):
             applied.apply(settings, shard)
     applied.apply_where_none(settings, range(settings.shards))
     by.set_up(range(settings.shards))
-    by.start_proxy()
+    # (with runit it starts by what was applied)
     applied.apply(settings, applied.PROXY)
+    by.start_proxy()
     for shard in range(settings.shards):
         talk.wait_until_up(settings, shard)
     keep_room(settings)

@@ -52,7 +52,7 @@ global
 {rights}\
     # a second HAProxy that is started by mistake would share the ports, and the shards
     noreuseport
-    # clients have fewer, so the tools always have room
+    # clients have fewer, so the tools always get a connection
     maxconn {most}
     tune.bufsize {BUFFER}
     # the most memory: a buffer for each connection of clients and of the tools, and for each message two, or three if

@@ -84,29 +84,29 @@ def errors_of(fault):
     return [*(errors_of(before) if before else ()), fault]
 
 
-def lines_of(text):
-    """The names and values that lines set."""
+def lines_of(text, file=FILE):
+    """The names and values that lines of a file set."""
     for number, line in enumerate(text.split("\n"), 1):
         try:
             words = shlex.split(line, comments=True)
         except ValueError:
-            raise Wrong(f"{FILE}, line {number}: a quote has no end") from None
+            raise Wrong(f"{file}, line {number}: a quote has no end") from None
         if not words:
             continue
         name, is_set, value = words[0].partition("=")
         if len(words) != 1 or not is_set:
-            raise Wrong(f"{FILE}, line {number}: it is no NAME=VALUE (a value with blanks wants quotes)")
+            raise Wrong(f"{file}, line {number}: it is no NAME=VALUE (a value with blanks wants quotes)")
         if SHELLS.search(value) or not value.isprintable():
-            raise Wrong(f"{FILE}, line {number}: {name} may have none of $ ` ; & | < > ( ) \\, nor ~ at its beginning: "
+            raise Wrong(f"{file}, line {number}: {name} may have none of $ ` ; & | < > ( ) \\, nor ~ at its beginning: "
                         "a shell reads them otherwise")
         yield name, value
 
 
-def number_of_setting(name, value):
+def number_of_setting(name, value, file):
     """The number that a setting is."""
     least, most = NUMBERS[name]
     if not re.fullmatch(r"[0-9]{1,19}", value) or not least <= int(value) <= most:
-        raise Wrong(f"{FILE}: {name} is {value!r}, and no number from {least} to {most}")
+        raise Wrong(f"{file}: {name} is {value!r}, and no number from {least} to {most}")
     return int(value)
 
 
@@ -120,22 +120,22 @@ DEFAULTS = {"PROGRAM": str(LIBRARY / "pdpd"), **dict(lines_of((LIBRARY / "shards
 
 
 class Settings:
-    """Each setting by its name in small letters."""
+    """Each setting by its name in small letters; an error names the file."""
 
-    def __init__(self, text=""):
+    def __init__(self, text="", file=FILE):
         self.text = text
-        values = {**DEFAULTS, **dict(lines_of(text))}
+        values = {**DEFAULTS, **dict(lines_of(text, file))}
         for name in values.keys() - DEFAULTS.keys():
-            raise Wrong(f"{FILE}: there is no setting {name}")
+            raise Wrong(f"{file}: there is no setting {name}")
         for name, value in values.items():
-            setattr(self, name.lower(), number_of_setting(name, value) if name in NUMBERS else value)
+            setattr(self, name.lower(), number_of_setting(name, value, file) if name in NUMBERS else value)
         if not self.supervisor:
             self.supervisor = "systemd" if os.path.isdir("/run/systemd/system") else "runit"
         for name, words in CHOICES.items():
             if (value := getattr(self, name.lower())) not in words:
-                raise Wrong(f"{FILE}: {name} is {value!r}, and none of {', '.join(words)}")
+                raise Wrong(f"{file}: {name} is {value!r}, and none of {', '.join(words)}")
         if self.log_decisions not in ("", "0", "1"):
-            raise Wrong(f"{FILE}: LOG_DECISIONS is {self.log_decisions!r}, and neither 0 nor 1 nor empty")
+            raise Wrong(f"{file}: LOG_DECISIONS is {self.log_decisions!r}, and neither 0 nor 1 nor empty")
         # (the journal has no place of its own for them: what is older would go, whatever it is)
         self.log_decisions = self.log_decisions == "1" or (not self.log_decisions and self.supervisor == "runit")
         if self.keep:

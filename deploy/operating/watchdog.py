@@ -204,7 +204,7 @@ def watch_all():
     while True:
         settings, fault = applied.read_or_before()
         if fault != before:
-            tell(f"{fault}: what was set before goes on" if fault else "the settings can be read again")
+            tell(applied.goes_on(settings, fault) if fault else "the settings can be read again")
         before = fault
         while settings and count < settings.shards:
             threading.Thread(target=watch, args=(count,), daemon=True).start()

@@ -15,7 +15,7 @@ from unittest import mock
 from checks import Between
 
 from .clients import Load, Makers, decision, many, message, once, policy, status
-from .machine import LIBRARY, admin, backs_up, ended_shards, sh, shards, wait_until
+from .machine import LIBRARY, SETTINGS, admin, backs_up, ended_shards, sh, shards, wait_until
 
 BACKUPS = 50
 # so many of the texts that were uploaded last are kept, and the others are deleted
@@ -215,6 +215,22 @@ def emptied(machine, checks):
     count = log.read_text().count(told)
     sh("sv restart pdpd-backups")
     wait_until(lambda: log.read_text().count(told) > count, "the service that makes backups doesn't say so")
+    unapplied(checks, log)
+
+
+def unapplied(checks, log):
+    """A number of shards and a place that are only written yet are told, and backups go on by what was applied."""
+    held, before = SETTINGS.read_text(), len(log.read_text())
+    SETTINGS.write_text(f"{held}SHARDS=5\nDATA=/var/elsewhere\n")
+    try:
+        sh("sv restart pdpd-backups")
+        wait_until(lambda: "backup of shard 3: /" in log.read_text()[before:], "no backup is made by what was applied")
+        time.sleep(1)
+    finally:
+        SETTINGS.write_text(held)
+    said = log.read_text()[before:]
+    found = f"SHARDS, DATA of {SETTINGS} isn't what was applied" in said, "NO BACKUP" in said, "shard 4" in said
+    checks.expect(f"what isn't applied: {said}", found, (True, False, False))
 
 
 def anew(machine, checks):

@@ -116,6 +116,8 @@ def removal(machine, checks, before):
     checks.expect("its configuration", machine.sh("sha256sum /etc/haproxy/haproxy.cfg"), before)
     for path in ("/etc/pdpd/shards.conf", "/etc/pdpd/token", "/var/lib/pdpd/0/pdpd.db", "/etc/haproxy/domains.map"):
         checks.expect(path, machine.holds(f"test -e {path}"), True)
+    checks.expect("what was added to HAProxy's unit",
+                  machine.holds("test -e /etc/systemd/system/haproxy.service.d"), False)
     checks.expect("commands", machine.holds("test -e /usr/bin/pdpd-shards || test -e /usr/lib/pdpd"), False)
 
 

@@ -3,6 +3,7 @@ import contextlib
 import io
 import json
 import os
+import pathlib
 import signal
 import socket
 import subprocess
@@ -16,7 +17,7 @@ from checks import Between
 from . import clients
 from .attacking import kills as killed_by_watchdog
 from .clients import Client, Deciders, Load, Makers, decision, many, message, once, status
-from .machine import LIBRARY, pid, port, refuse_starts, sh, shards, wait_until
+from .machine import LIBRARY, SETTINGS, pid, port, refuse_starts, sh, shards, wait_until
 
 KILLS = 20
 
@@ -325,3 +326,41 @@ def holding(machine, checks):
     found = decision(once(ask))
     checks.expect("held by nobody", (found, 2 < time.time() - began < 9), (wanted, True))
     talk.set_while_it_runs(now, {"SHARD1": None, "HELD": None})
+
+
+def unbalanced(machine, checks):
+    """While the settings can't be read the watchdog kills what is stuck, and it, HAProxy and backups begin again by
+    what was applied. A file of that which can't be read is named."""
+    machine.operator.clear()
+    ask = machine.operator.makes("ward")
+    held, file = SETTINGS.read_text(), SETTINGS.parent / "applied" / "1.conf"
+    wait_until(backups_made, "no backup is made")
+    watchdog, made, applied = running("pdpd-watchdog"), backups_made(), file.read_text()
+    SETTINGS.write_text(held + 'LOG="stdout\n')
+    try:
+        kills_stuck()
+        checks.expect("the watchdog", running("pdpd-watchdog"), watchdog)
+        sh("sv restart pdpd-watchdog pdpd-backups haproxy")
+        # (a backup has what was stopped go on)
+        wait_until(lambda: backups_made() > made, "no backup is made while the settings can't be read")
+        kills_stuck()
+        wait_until(lambda: decision(once(ask)) == "Permit", "HAProxy doesn't begin while the settings can't be read")
+    finally:
+        SETTINGS.write_text(held)
+    file.write_text('LOG="stdout\n')
+    said = shards("status", status=1)
+    file.write_text(applied)
+    checks.expect(f"what was applied can't be read: {said}", f"{file}, line 1: a quote has no end" in said, True)
+
+
+def running(name):
+    return sh(f"cat /etc/service/{name}/supervise/pid")
+
+
+def backups_made():
+    return pathlib.Path("/var/log/pdpd/pdpd-backups/current").read_text().count("backup of shard 3: /")
+
+
+def kills_stuck():
+    os.kill(stuck := pid(2), signal.SIGSTOP)
+    wait_until(lambda: pid(2) not in (0, stuck), "the watchdog kills nothing while the settings can't be read")

@@ -67,13 +67,13 @@ def desk(machine, checks):
     trusts = {"DALVEZOUR_TOKEN": "ward-admin-1", "SSL_CERT_FILE": "/etc/haproxy/pdpd.crt"}
     for word, *more, wanted in (("deploy", "--yes", "Deployed: number 1."),
                                 ("status", "--strict", "is what runs there"),
-                                ("deploy", "--yes", "Nothing is to be done.")):
+                                ("deploy", "--yes", "Nothing else was to be done.")):
         words = [TOP / "tools" / "policy" / "policy.py", word, "--program", "none", *more, folder]
         ran = subprocess.run(words, env={**os.environ, **trusts}, capture_output=True, text=True, check=False)
         checks.expect(f"policy {word}: {ran.stdout}{ran.stderr}", (ran.returncode, wanted in ran.stdout), (0, True))
     trusts.pop("SSL_CERT_FILE")
     ran = subprocess.run(words, env={**os.environ, **trusts}, capture_output=True, text=True, check=False)
-    found = ran.returncode, "certificate verify failed" in " ".join(ran.stderr.split())
+    found = ran.returncode, "the certificate isn't trusted" in " ".join(ran.stderr.split())
     checks.expect(f"a certificate that isn't trusted: {ran.stderr}", found, (4, True))
 
 

@@ -78,6 +78,8 @@ def unapplied(machine, checks, ask):
     """What is written for a shard is told, and isn't live before it is applied, however the shard is started."""
     held = SETTINGS.read_text()
     place = int(shards("where", "ward"))
+    # (pdpd-run, which reads what was applied, is the user pdpd, whatever umask root's shell has)
+    sh("rm -r /etc/pdpd/applied; umask 077; pdpd-shards restart; pdpd-shards reload")
     sh(f"sed -i 's/^FIRST_PORT=.*/FIRST_PORT=388/; s/^IDLE=.*/IDLE=3/' {SETTINGS}")
     os.kill(old := pid(place), signal.SIGKILL)
     wait_until(lambda: pid(place) not in (0, old), "the shard isn't started again")
@@ -286,7 +288,6 @@ def written(machine, checks):
         lines.write("# a line that HAProxy passes over\n")
     checks.expect("a comment in the map", asked("where", "ward")[0], 0)
     token_away(checks)
-    unbalanced(checks)
     interrupted(machine, checks)
     checks.expect("behind it", decision(once(ask)), "Permit")
 
@@ -315,20 +316,6 @@ def interrupted(machine, checks):
         tool.send_signal(signal.SIGINT)
         _, said = tool.communicate(timeout=30)
     checks.expect("a ^C at the beginning", (tool.returncode, said), (-signal.SIGINT, ""))
-
-
-def unbalanced(checks):
-    """The watchdog kills what is stuck though the settings can't be read."""
-    held, stuck = SETTINGS.read_text(), pid(2)
-    watchdog = sh("cat /etc/service/pdpd-watchdog/supervise/pid")
-    SETTINGS.write_text(held + 'LOG="stdout\n')
-    try:
-        os.kill(stuck, signal.SIGSTOP)
-        wait_until(lambda: pid(2) != stuck, "the watchdog kills nothing while the settings can't be read")
-    finally:
-        SETTINGS.write_text(held)
-    checks.expect("the watchdog", sh("cat /etc/service/pdpd-watchdog/supervise/pid"), watchdog)
-    wait_until(lambda: pid(2) not in (0, stuck), "shard 2 stays away")
 
 
 def refused(machine, checks):

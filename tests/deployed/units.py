@@ -51,8 +51,9 @@ def decision(machine, checks):
     page = (TOP / "docs" / "guide" / "API.md").read_text()
     block = re.search(r"(?ms)^## From nothing to a decision\n(.*?)^## ", page)[1]
     lines = [line for line in block.splitlines() if line.startswith("curl ") and "--retry" not in line]
-    settings = re.findall(r"(?m)^    # (operator=.*|at=.*); alias|^    # (operator=.*)", PAGE.read_text())
-    first = "\n".join(one or other for one, other in settings)
+    settings = re.findall(r"(?m)^    # ((?:operator=|at=|\(umask 077; sed ).*?)(?:; alias.*)?$", PAGE.read_text())
+    checks.expect("what is set before", [line.split("=")[0][:6] for line in settings], ["(umask", "operat", "at"])
+    first = "\n".join(settings)
     trusting = 'curl() { command curl --silent --cacert /etc/haproxy/pdpd.crt "$@"; echo; }'
     said = sh("\n".join([first, trusting, "cd /usr/local/share/doc/pdpd", *lines])).splitlines()
     checks.expect("messages", (len(lines), [line for line in said if line][:7]), (8, ["{}"] * 7))
@@ -227,7 +228,8 @@ def lost_links(page):
 
 
 def certificate(machine, checks):
-    """A new certificate, by the page's words: who trusts it alone is answered, who trusts the old one alone isn't."""
+    """A new certificate, put where the page says: who trusts it alone is answered, and who trusts the old
+    one alone isn't."""
     sh(f"""cp /etc/haproxy/pdpd.crt {machine.folder}/old.crt; umask 077; cd /etc/haproxy
     openssl req -x509 -newkey ec -pkeyopt ec_paramgen_curve:P-256 -nodes -days 30 -subj /CN=localhost \
         -addext subjectAltName=DNS:localhost -keyout pdpd.key -out pdpd.crt 2>&1; cat pdpd.crt pdpd.key > pdpd.pem""")
