@@ -175,14 +175,15 @@ def full_disk(machine, checks, ask):
     place = "/var/lib/pdpd/3"
     # (its own folder is mounted away, and comes back)
     owner = "uid=$(id -u pdpd),gid=$(id -g pdpd)"
-    sh(f"sv down /etc/service/pdpd-3; mount -t tmpfs -o size=1m,mode=700,{owner} full {place}; "
+    sh(f"sv -w 30 stop /etc/service/pdpd-3; mount -t tmpfs -o size=1m,mode=700,{owner} full {place}; "
        "sv up /etc/service/pdpd-3")
     wait_until(machine.operator.is_answered, "shard 3 stays away")
     try:
         sh(f"dd if=/dev/zero of={place}/filler bs=64k 2>/dev/null || true")
         tells(checks, "a full disk", "WRONG: the disk of shard 3 has only 0.0 MiB of 1 left")
     finally:
-        sh(f"sv down /etc/service/pdpd-3; umount {place}; sv up /etc/service/pdpd-3")
+        # (a backup may look at it for a moment)
+        sh(f"sv -w 30 stop /etc/service/pdpd-3; until umount {place}; do sleep 0.2; done; sv up /etc/service/pdpd-3")
     wait_until(machine.operator.is_answered, "shard 3 stays away")
 
 
