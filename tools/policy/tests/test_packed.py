@@ -81,11 +81,16 @@ class Packed(DeployTest):
         self.assertIn("has no sources", " ".join(tried.stderr.replace("!", "").split()))
 
     def test_a_deployment(self) -> None:
+        """It deploys to a server that runs, and each Python then finds there what the folder has."""
         folder = self.written(files(P1), "urn:p")
-        for words in (("deploy", "--yes"), ("status", "--strict"), ("diff", "--live", "--strict")):
-            done = self.ran(sys.executable, *words, folder)
-            self.assertEqual(done.returncode, 0, done.stdout + done.stderr)
-        self.assertIn("is what runs there", done.stdout)
+        deployed = self.ran(sys.executable, "deploy", "--yes", folder)
+        self.assertEqual(deployed.returncode, 0, deployed.stdout + deployed.stderr)
+        for python in pythons():
+            with self.subTest(python):
+                for words in (("status", "--strict"), ("diff", "--live", "--strict")):
+                    done = self.ran(python, *words, folder)
+                    self.assertEqual(done.returncode, 0, done.stdout + done.stderr)
+                self.assertIn("is what runs there", done.stdout)
         self.assertEqual(self.listed(), {("urn:p", "1"): True})
 
     def test_the_same_bytes(self) -> None:
