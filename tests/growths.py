@@ -68,6 +68,18 @@ def compiled(code, library, level="-O1"):
     return library
 
 
+def messages_in(held):
+    """The bytes of each message of a piece, which is whole messages."""
+    stream = Stream()
+    stream.held = held
+    while stream.held:
+        before = stream.held
+        stream.next()
+        if stream.held == before:
+            raise ValueError(f"a piece ends within a message: {before[-80:]}")
+        yield before[:len(before) - len(stream.held)]
+
+
 def script_of(fields):
     """The messages of a script, each with its moment."""
     moment = 0
@@ -76,7 +88,8 @@ def script_of(fields):
         if word == "moment":
             moment = int(text)
         else:
-            yield moment, decoded(as_input(text))
+            for held in messages_in(decoded(as_input(text))):
+                yield moment, held
 
 
 def script():

@@ -14,9 +14,8 @@ import subprocess
 import tarfile
 import time
 
-from checks import OneOf
-
 from .booting import ROOT, SLIM
+from .kubelet import LIVENESS, READINESS, STARTUP, Kubelet
 from .machine import PATIENCE, TOP, sh, wait_until
 from .systemd import LIMITS
 
@@ -209,7 +208,7 @@ def composed(podman, checks, archive, folder):
     listed = '{"Domain":["acme"]}'
     for shard in ("pdpd0", "pdpd1"):
         confined(podman, checks, shard)
-        checks.expect(f"{shard} is healthy", podman.ended("healthcheck", "run", shard).returncode, 0)
+        checks.expect(f"{shard} is healthy", is_healthy(podman, shard), True)
         killed = podman.process(shard, "pdpd")
         sh(f"kill -KILL {killed}")
         wait_until(lambda: is_another(podman, shard, killed), lambda: logs(podman))
@@ -222,11 +221,21 @@ def composed(podman, checks, archive, folder):
     wait_for(listed, "after a reload")
     stopped = podman.process("pdpd1", "pdpd")
     sh(f"kill -STOP {stopped}")
-    # (125 where podman's time for it is over before the script's own)
-    found = podman.ended("healthcheck", "run", "pdpd1").returncode
-    checks.expect("a stopped one isn't healthy", found, OneOf((1, 125)))
+    checks.expect("a stopped one isn't healthy", is_healthy(podman, "pdpd1"), False)
     sh(f"kill -CONT {stopped}")
     wait_for(listed, "it goes on")
+
+
+def is_healthy(podman, name):
+    """What the image's check finds of a container; an error where podman itself fails. Where podman's time for it is
+    over before the check's own, on a busy machine, it is made again."""
+    for _ in range(3):
+        ran = podman.ended("healthcheck", "run", name)
+        if ran.returncode in (0, 1):
+            return ran.returncode == 0
+        if "exceeded timeout" not in ran.stderr:
+            break
+    raise RuntimeError(f"the check of {name} ends with {ran.returncode}: {ran.stderr[-500:]}")
 
 
 def is_another(podman, name, process):
@@ -238,8 +247,9 @@ def is_another(podman, name, process):
 
 
 def confined(podman, checks, shard):
-    """What the kernel says of a shard's program (proc(5))."""
-    text = podman("exec", shard, "cat", "/proc/1/status")
+    """What the kernel says of a shard's program (proc(5)); the container's first process is the shell."""
+    of_process = pathlib.Path("/proc") / str(podman.process(shard, "pdpd"))
+    text = (of_process / "status").read_text()
     lines = dict(line.split(":", 1) for line in text.splitlines())
     found = {name: lines[name].split()[0] for name in ("Uid", "Gid", "CapEff", "CapBnd", "NoNewPrivs", "Seccomp")}
     wanted = {"Uid": str(SHARD_USER), "Gid": str(SHARD_USER), "CapEff": "0" * 16, "CapBnd": "0" * 16,
@@ -247,7 +257,7 @@ def confined(podman, checks, shard):
     checks.expect(f"{shard} is confined", found, wanted)
     checks.expect("it ignores SIGXFSZ", int(lines["SigIgn"], 16) >> signal.SIGXFSZ - 1 & 1, 1)
     checks.expect("its root can't be written to", podman.ended("exec", shard, "touch", "/x").returncode, 1)
-    limits = podman("exec", shard, "cat", "/proc/1/limits")
+    limits = (of_process / "limits").read_text()
     checks.expect("its limits", {name: re.search(rf"(?m)^Max {name} +(\d+)", limits)[1] for name in LIMITS}, LIMITS)
     checks.expect("its memory", podman.inspect(shard, ".HostConfig.Memory"), str(2 * 2 ** 30))
 
@@ -284,7 +294,8 @@ def as_pod(at, folder):
 
 
 def pod(podman, checks, archive, folder):
-    """A shard and its sidecar: messages by the sidecar alone, its probes, a kill, and a stopped program."""
+    """A shard and its sidecar: messages by the sidecar alone, the probes of the YAML, and a stopped program, which is
+    started again because its liveness probe fails."""
     (folder / "secret").mkdir(parents=True)
     token = folder / "secret" / "token"
     token.write_text("token-of-the-test-1\n")
@@ -294,22 +305,28 @@ def pod(podman, checks, archive, folder):
     podman("play", "kube", folder / "pod.yaml")
     infra = podman("pod", "inspect", "pdpd-0", "--format", "{{.InfraContainerID}}")
     address = podman.inspect(infra, "range .NetworkSettings.Networks}}{{.IPAddress}}{{end")
+    kubelet = Kubelet(podman, "pdpd-0", address, found[-1]["spec"]["containers"])
     code = 'curl --silent --max-time 6 --output /dev/null --write-out "%{http_code}" http://'
-
-    def probe(path):
-        return sh(f"{code}{address}:7001{path} || true")
-
-    wait_until(lambda: probe("/") == "200", lambda: f"the shard doesn't answer: {logs(podman)}")
+    if not kubelet.started("pdpd"):
+        raise RuntimeError(f"the shard's startup probe fails: {logs(podman)}")
     made = f"{code}{address}:7000/operator/domains/acme -X PUT -H 'Authorization: Bearer token-of-the-test-1' || true"
     checks.expect("a domain is made through the sidecar", sh(made), "201")
     checks.expect("the shard's own port, from outside", sh(f"{code}{address}:7100/ || true"), "000")
-    checks.expect("the sidecar's own probe", probe("/alive"), "200")
     confined = [podman.inspect("pdpd-0-haproxy", f".HostConfig.{name}") for name in ("ReadonlyRootfs", "Memory")]
     checks.expect("the sidecar is confined", confined, ["true", str(512 * 2 ** 20)])
-    process = podman.process("pdpd-0-pdpd", "pdpd")
-    sh(f"kill -STOP {process}")
-    checks.expect("probes of a stopped program: the shard's, and the sidecar's", (probe("/"), probe("/alive")),
-                  ("000", "200"))
-    sh(f"kill -KILL {process}")
-    wait_until(lambda: probe("/") == "200", lambda: f"it isn't started again: {logs(podman)}")
+    wanted = dict.fromkeys([("pdpd", STARTUP), ("pdpd", LIVENESS), ("haproxy", LIVENESS), ("haproxy", READINESS)], True)
+    checks.expect("the probes", kubelet.holding(), wanted)
+    checks.expect("failed probes, and what is started again, while all run", kubelet.watch(6), (set(), None))
+    restarted(podman, checks, kubelet)
     checks.expect("the domain is there", sh(made), "409")
+
+
+def restarted(podman, checks, kubelet):
+    """Stops a pod's program: the shard is started again for its liveness probe, and the sidecar isn't."""
+    name = "pdpd-0-pdpd"
+    process = podman.process(name, "pdpd")
+    sh(f"kill -STOP {process}")
+    checks.expect("failed probes, and what is started again, while pdpd is stopped", kubelet.watch(40),
+                  ({("pdpd", LIVENESS), ("haproxy", READINESS)}, "pdpd"))
+    wait_until(lambda: is_another(podman, name, process), lambda: f"it isn't started again: {logs(podman)}", 20)
+    checks.expect("its startup probe", kubelet.started("pdpd"), True)
