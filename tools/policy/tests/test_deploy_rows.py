@@ -60,8 +60,11 @@ class Weighed(DeployTest):
             self.assertEqual(status, 1)
             self.assertIn(f"refused, {code}", written)
             self.assertIn(f"answers this fault: {code}", written)
-            sent = self.running.sent(serving.message("PUT", f"/domains/{self.name}/pip", ADMIN, json.dumps(
-                json.loads(held), separators=(",", ":"))))[0]
+            head, between, body = serving.message("PUT", f"/domains/{self.name}/pip", ADMIN, json.dumps(
+                json.loads(held), separators=(",", ":"))).partition(b"\r\n\r\n")
+            if PDPD is not None and code == "BodyTooLarge":
+                body = b""  # (its length is refused, and the connection ends before the rest is read)
+            sent = self.running.sent(head + between + body)[0]
             if PDPD is not None:  # the model's server takes each body
                 self.assertIn(code.encode(), sent)
                 self.running.sent(serving.message("PUT", f"/domains/{self.name}/pip", ADMIN, '{"Row":[]}'))
