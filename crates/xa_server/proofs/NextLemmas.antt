@@ -80,9 +80,11 @@ pub none_handed : (custody : Custody) (before : World) (moment : ℤ) (line : Op
 none_handed custody before moment line = record {
   sound = λ sound. sound;
   clean = λ clean. clean;
-  stays = λ clean sound. sound;
+  stays = λ clean sound on. sound;
   crash = λ clean sound left may. inl may;
   counts = refl;
+  was_open = λ on. on;
+  stays_open = λ other on. on;
 }
 
 pub fault_handed : (fault : SessionFault) (custody : Custody) (before : World) (moment : ℤ) (line : Option Stream) (s t : Stream) (reply : Reply)
@@ -91,9 +93,11 @@ fault_handed fault custody before moment line s t reply (is, said) =
     subst (λ (r : Reply). IsHandedOn custody custody before moment line (Some r)) (sym said) (record {
       sound = λ sound. sound;
       clean = λ clean. clean;
-      stays = λ clean sound. sound;
+      stays = λ clean sound on. sound;
       crash = λ clean sound left may. inl may;
       counts = refl;
+      was_open = λ on. on;
+      stays_open = λ other on. on;
     })
 
 -- ---- what a connection of a front is answered

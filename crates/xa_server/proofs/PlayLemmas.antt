@@ -5,8 +5,7 @@ use Rattle.std.proofs.lemmas.List.{append_assoc}
 use Rattle.xa_http.specs.declared.session.Next.{Next}
 use Rattle.xa_http.specs.declared.session.Next.TheVariants as next
 use Rattle.xa_server.specs.Alone as messages
-use Rattle.xa_server.specs.Connection.{CountsReplyIf, IfReplySent, IsOneRun, ServesNext}
-use Rattle.xa_server.specs.Crash.{IfSent}
+use Rattle.xa_server.specs.Connection.{CountsReplyIf, IsOneRun, ServesNext}
 use Rattle.xa_server.specs.declared.event.Answer.{Answer}
 use Rattle.xa_server.specs.declared.event.Event.{Event}
 use Rattle.xa_server.specs.declared.event.Event.TheVariants as event
@@ -15,10 +14,11 @@ use Rattle.xa_server.specs.declared.event.Outcome.TheVariants as outcome
 use Rattle.xa_server.specs.declared.front_error.FrontError.{FrontError}
 use Rattle.xa_server.specs.declared.lines.Conn.{Conn}
 use Rattle.xa_server.specs.declared.replies.Reply.{Reply}
-use Rattle.xa_server.specs.declared.replies.Reply.TheVariants.{Sent, Refused}
+use Rattle.xa_records.specs.declared.refusal.Failure.TheVariants.{Store}
+use Rattle.xa_server.specs.declared.replies.Reply.TheVariants.{Refused}
 use Rattle.xa_server.specs.Front.{AnswersAt, AnswersLine, FrontState, IsPlayed, Plays, message_cut, messages_cut, replies_given, reply_given, reply_in_result}
 use Rattle.xa_server.specs.FrontLaws.{StepsArePlayed}
-use Rattle.xa_server.specs.Fronting.{CountsOutcomes, IfAllSent, reply_in_outcome}
+use Rattle.xa_server.specs.Fronting.{CountsOutcomes, NoneRefusedByStore, reply_in_outcome}
 use Rattle.xa_server.specs.Lines.{IsClosed, IsHeld, IsOpened, Lines}
 use Rattle.xa_server.proofs.ConnectionLemmas.{no_run, runs_on, serves_run}
 use Rattle.xa_server.proofs.FrontLawLemmas.{never_none}
@@ -114,17 +114,10 @@ steps_are sound = (
 
 -- ---- the keeper, over one event more
 
-sent_claim : (reply : Option Reply) (claim other : Type 0) → (claim → other) → IfReplySent reply claim → IfReplySent reply other
-sent_claim None claim other so if = so if
-sent_claim (Some (Sent bytes)) claim other so if = so if
-sent_claim (Some (Refused failure)) claim other so if = tt
-
--- what holds unless a message was refused holds so over the next event
-pub sent_more : (outcomes : List Outcome) (o : Outcome) (before after : Type 0) → IfAllSent outcomes before → (before → IfReplySent (reply_in_outcome o) after)
-    → IfAllSent (outcomes ++ o ∷ []) after
-sent_more [] o before after if so = so if
-sent_more (p ∷ outcomes) o before after if so =
-    sent_claim (reply_in_outcome p) (IfAllSent outcomes before) (IfAllSent (outcomes ++ o ∷ []) after) (λ rest. sent_more outcomes o before after rest so) if
+-- none was refused for want of storage, and so the last wasn't
+pub none_more : (outcomes : List Outcome) (o : Outcome) → NoneRefusedByStore (outcomes ++ o ∷ []) → NoneRefusedByStore outcomes × ¬ (reply_in_outcome o ≡ Some (Refused Store))
+none_more [] o none = (tt, none.0)
+none_more (p ∷ outcomes) o none = let rest = none_more outcomes o none.1 in ((none.0, rest.0), rest.1)
 
 pub counts_more : (outcomes : List Outcome) (o : Outcome) (old mid new : ℕ) → CountsOutcomes old mid outcomes → CountsReplyIf mid new (reply_in_outcome o)
     → CountsOutcomes old new (outcomes ++ o ∷ [])

@@ -12,10 +12,11 @@ ghost use Rattle.std.specs.Prelude.{◌≡◌, ◌<◌, ℕ, false, true, List, 
 ghost use Rattle.xa_http.specs.declared.session.Look.TheVariants as look;
 ghost use Rattle.xa_http.specs.Messages.{IsLook};
 ghost use Rattle.xa_server.specs.declared.drive_end.DriveEnd.TheVariants as drive_end;
-ghost use Rattle.xa_server.specs.Driven.{IsConnection, KeepsOpen, may_go_on, seen_by, situation};
+ghost use Rattle.xa_server.specs.Driven.{IsConnection, KeepsOpen, seen_by, situation};
 ghost use Rattle.xa_server.specs.Front.{front_state};
 ghost use Rattle.xa_server.specs.handling.Driving.{IsFaultSent, IsNextAnswered, IsReplySent, Reaches};
 ghost use Rattle.xa_server.specs.handling.Driving.{ReadsOnce};
+ghost use Rattle.xa_server.specs.Served.{may_go_on};
 ghost use Rattle.xa_server.specs.Transfers.{ReadEnd};
 
 use crate::clock::Clock;

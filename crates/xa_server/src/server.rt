@@ -1,6 +1,8 @@
 //! The server: a keeper of all domains, one message after another.
-ghost use Rattle.std.specs.Prelude.{◌≡◌, IfOk, OnErr, MatchResult};
+ghost use Rattle.std.specs.Prelude.{◌≡◌, IfOk, IsTrue, OnErr, MatchResult};
+ghost use Rattle.xa_records.specs.declared.refusal.Failure.TheVariants.{Store};
 ghost use Rattle.xa_server.specs.Isolation.{TwoWorldsAgree};
+ghost use Rattle.xa_server.specs.declared.replies.Reply.TheVariants.{Refused};
 ghost use Rattle.xa_server.specs.handling.Replying.{IsReplyOf};
 
 use crate::dispatch::reply_to_message;
@@ -47,7 +49,7 @@ impl<R: Records> Model for Server<R> {
 }
 
 impl<R: Records> Server<R> {
-    ghost use Rattle.xa_server.specs.Crash.{IfSent, LeavesStep};
+    ghost use Rattle.xa_server.specs.Crash.{LeavesStep};
     ghost use Rattle.xa_server.specs.Decisions.{nothing_cached};
     ghost use Rattle.xa_server.specs.Isolation.{IsIsolated, IsIsolatedBesideRefusals};
     ghost use Rattle.xa_server.specs.Served.{CountsReply, IsRun, IsServed};
@@ -80,15 +82,19 @@ impl<R: Records> Server<R> {
     /// Answers one message, by the machine of the domain that its path names. No other domain's state
     /// changes; after a refusal none has. It is refused for storage only if the keeper has counted a
     /// failure. If the keeper was sound before and the disk gave back what was written, a crash afterwards
-    /// leaves what a crash before could leave, or all with this one step made. After a reply the keeper is
-    /// then sound.
+    /// leaves what a crash before could leave, or all with this one step made; and the keeper is sound
+    /// still, unless it can't go on. Only a refusal for want of storage leaves it so.
     pub fn serve(&mut self, moment: Moment, message: &Message) -> Reply
         ensures served { (R.custody self.new.records).sound
             → IsServed (world R.custody self.old) (world R.custody self.new) moment message.now result }
         ensures sound { (R.custody self.new.records).sound → (R.custody self.old.records).sound }
         ensures clean { (R.custody self.new.records).clean → (R.custody self.old.records).clean }
         ensures stays { (R.custody self.new.records).clean → (R.custody self.old.records).sound
-            → IfSent result (R.custody self.new.records).sound }
+            → IsTrue (R.custody self.new.records).is_open → (R.custody self.new.records).sound }
+        ensures was_open { IsTrue (R.custody self.new.records).is_open
+            → IsTrue (R.custody self.old.records).is_open }
+        ensures stays_open { ¬ (result ≡ Refused Store) → IsTrue (R.custody self.old.records).is_open
+            → IsTrue (R.custody self.new.records).is_open }
         ensures crash { (R.custody self.new.records).clean → (R.custody self.old.records).sound
             → LeavesStep (R.custody self.old.records).may_leave (R.custody self.new.records).may_leave
             (world R.custody self.old) moment message.now }
