@@ -27,3 +27,4 @@ pub mod PlayLemmas
 pub mod NextLemmas
 pub mod FrontLawLemmas
 pub mod InterruptionLemmas
+pub mod ServingLemmas

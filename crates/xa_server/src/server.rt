@@ -53,6 +53,7 @@ impl<R: Records> Server<R> {
     ghost use Rattle.xa_server.specs.Decisions.{nothing_cached};
     ghost use Rattle.xa_server.specs.Isolation.{IsIsolated, IsIsolatedBesideRefusals};
     ghost use Rattle.xa_server.specs.Served.{CountsReply, IsRun, IsServed};
+    ghost use Rattle.xa_server.specs.Serving.{AreServed};
     ghost use Rattle.xa_server.specs.Work.{IsWork, IsWorkOfRun};
     ghost use Rattle.xa_server.specs.World.{world};
 
@@ -121,7 +122,9 @@ impl<R: Records> Server<R> {
 
     /// Answers the messages one after another, each at its moment. Whatever the other domains do, each
     /// domain's replies are those of its own machine, used by it alone; with refusals, as if the refused
-    /// messages had never come. Room for all replies is taken first, and without it nothing is answered.
+    /// messages had never come. If the keeper ends shut, this holds of the messages up to the one after
+    /// which it was, if it was sound before them and the disk gave back what was written. Room for all
+    /// replies is taken first, and without it nothing is answered.
     pub fn run(&mut self, events: &[(Moment, Message)]) -> Result<Vec<Reply>, AllocError>
         ensures headline { IfOk result (λ replies. (R.custody self.new.records).sound
             → IsIsolated (world R.custody self.old) (world R.custody self.new) events.now replies.items) }
@@ -134,6 +137,8 @@ impl<R: Records> Server<R> {
             → IsWorkOfRun (world R.custody self.old) self.old.decisions events.now replies.items
             (world R.custody self.new) self.new.decisions) }
         ensures sound { (R.custody self.new.records).sound → (R.custody self.old.records).sound }
+        ensures served { IfOk result (λ replies.
+            AreServed R.custody self.old self.new events.now replies.items) }
         ensures err { OnErr result (self.new ≡ self.old) }
     {
         let mut replies = Vec::with_capacity(self.alloc, events.len())?;
