@@ -236,7 +236,8 @@ fn close<D: Disk + Drop>(conn: Connection<FileStore<D>>) -> Result<ClosedStore<D
 }
 
 /// Closes the files of a keeper, and gives them back. One of other tables than the program's isn't closed,
-/// since no clause says what it holds; none is opened.
+/// since no clause says what it holds; none is opened. Nor is one that can't go on: its files are left as
+/// they are.
 pub fn close_records<D: Disk + Drop>(
     records: SqlRecords<FileStore<D>>,
 ) -> Result<ClosedStore<D>, Fault>
@@ -246,6 +247,9 @@ pub fn close_records<D: Disk + Drop>(
 {
     records.stays_sound_while_open();
     if !records.has_only_our_tables() {
+        return Err(Fault::Store(StoreFault::Unclosed));
+    }
+    if !records.is_open() {
         return Err(Fault::Store(StoreFault::Unclosed));
     }
     close(records.into_connection())

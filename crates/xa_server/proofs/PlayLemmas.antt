@@ -57,7 +57,7 @@ answered sound conn moment old new result (given, is, serves) =
 
 -- ---- events after others
 
-plays_on : (events others : List Event) (outcomes rest : List Outcome) (nexts more : List (Option Next)) (old mid new : Lines)
+pub plays_on : (events others : List Event) (outcomes rest : List Outcome) (nexts more : List (Option Next)) (old mid new : Lines)
     → Plays events outcomes nexts old mid → Plays others rest more mid new → Plays (events ++ others) (outcomes ++ rest) (nexts ++ more) old new
 plays_on [] others [] rest [] more old mid new same plays = subst (λ (l : Lines). Plays others rest more l new) same plays
 plays_on (e ∷ events) others (o ∷ outcomes) rest (given ∷ nexts) more old mid new (first, did, rest_of) plays =
@@ -67,7 +67,7 @@ plays_on [] others (o ∷ outcomes) rest nexts more old mid new none plays = abs
 plays_on (e ∷ events) others [] rest nexts more old mid new none plays = absurd none
 plays_on (e ∷ events) others (o ∷ outcomes) rest [] more old mid new none plays = absurd none
 
-cut_on : (events others : List Event) (outcomes : List Outcome) (nexts more : List (Option Next)) (old mid : Lines) → Plays events outcomes nexts old mid
+pub cut_on : (events others : List Event) (outcomes : List Outcome) (nexts more : List (Option Next)) (old mid : Lines) → Plays events outcomes nexts old mid
     → messages_cut (events ++ others) (nexts ++ more) ≡ messages_cut events nexts ++ messages_cut others more
 cut_on [] others [] [] more old mid plays = refl
 cut_on (e ∷ events) others (o ∷ outcomes) (given ∷ nexts) more old mid (first, did, rest_of) =
@@ -78,7 +78,7 @@ cut_on [] others (o ∷ outcomes) nexts more old mid none = absurd none
 cut_on (e ∷ events) others [] nexts more old mid none = absurd none
 cut_on (e ∷ events) others (o ∷ outcomes) [] more old mid none = absurd none
 
-given_on : (events : List Event) (outcomes rest : List Outcome) (nexts more : List (Option Next)) (old mid : Lines) → Plays events outcomes nexts old mid
+pub given_on : (events : List Event) (outcomes rest : List Outcome) (nexts more : List (Option Next)) (old mid : Lines) → Plays events outcomes nexts old mid
     → replies_given (nexts ++ more) (outcomes ++ rest) ≡ replies_given nexts outcomes ++ replies_given more rest
 given_on [] [] rest [] more old mid plays = refl
 given_on (e ∷ events) (o ∷ outcomes) rest (given ∷ nexts) more old mid (first, did, rest_of) =

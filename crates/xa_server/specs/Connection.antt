@@ -127,6 +127,10 @@ abbrev pub IsFirstOf : Option Stream → Message → Type 0
 IsFirstOf None message = ⊥
 IsFirstOf (Some stream) message = (rest : Stream) × IsFirst stream message rest
 
+-- no message is whole at the front of a stream that may not be there
+abbrev pub HasNoFirst : Option Stream → Type 0
+HasNoFirst line = (message : Message) → ¬ IsFirstOf line message
+
 -- what a crash after an answer may leave: what it might have left before, or all with the step made that the first
 -- message of the stream makes
 abbrev pub LeavesNext : (Kept → Type 0) → (Kept → Type 0) → World → ℤ → Option Stream → Type 0

@@ -5,11 +5,12 @@
 //! borrows it (`lines`), and makes the same calls, as `drive` does. `play` makes a list of calls, by `step`.
 ghost use Rattle.std.specs.Prelude.{◌≡◌, [], ◌∷◌, IfOk, IsTrue, OnErr, MatchResult, Some};
 ghost use Rattle.xa_records.specs.declared.refusal.Failure.TheVariants.{Store};
-ghost use Rattle.xa_server.specs.Connection.{CountsReplyIf, HandsOn};
+ghost use Rattle.xa_server.specs.Connection.{CountsReplyIf, HandsOn, HasNoFirst};
 ghost use Rattle.xa_server.specs.Front.{AnswersLine, IsPlayed, front_is_clean, front_is_open, front_is_sound};
 ghost use Rattle.xa_server.specs.Front.{front_state, reply_in_result};
 ghost use Rattle.xa_server.specs.Fronting.{CountsOutcomes, NoneRefusedByStore, reply_in_outcome};
 ghost use Rattle.xa_server.specs.FrontLaws.{LinesAreStreams, StepsArePlayed};
+ghost use Rattle.xa_server.specs.Serving.{PlaysServed};
 ghost use Rattle.xa_server.specs.Lines.{IsClosed, IsHeld, IsOpened, all_open, line_at, none_open};
 ghost use Rattle.xa_server.specs.declared.replies.Reply.TheVariants.{Refused};
 
@@ -104,6 +105,7 @@ impl<R: Records> Front<R> {
         ensures answered { AnswersLine (front_is_sound R.custody self.new) conn moment
             (front_state R.custody self.old) result (front_state R.custody self.new) }
         ensures err { OnErr result (self.new ≡ self.old) }
+        ensures untouched { HasNoFirst (line_at conn self.old.lines) → self.new.server ≡ self.old.server }
         ensures handed { HandsOn R.custody self.old.server self.new.server moment
             (line_at conn self.old.lines) (reply_in_result result) }
     {
@@ -129,6 +131,7 @@ impl<R: Records> Front<R> {
     pub fn step(&mut self, event: &Event<'_>) -> Outcome
         ensures played { IsPlayed (front_is_sound R.custody self.new) (front_state R.custody self.old)
             (front_state R.custody self.new) (event.now ∷ []) (result ∷ []) }
+        ensures served { PlaysServed R.custody self.old self.new (event.now ∷ []) (result ∷ []) }
         ensures sound { front_is_sound R.custody self.new → front_is_sound R.custody self.old }
         ensures clean { front_is_clean R.custody self.new → front_is_clean R.custody self.old }
         ensures stays { front_is_clean R.custody self.new → front_is_sound R.custody self.old
@@ -154,6 +157,8 @@ impl<R: Records> Front<R> {
     pub fn play(&mut self, events: &[Event<'_>]) -> Result<Vec<Outcome>, AllocError>
         ensures played { IfOk result (λ outcomes. IsPlayed (front_is_sound R.custody self.new)
             (front_state R.custody self.old) (front_state R.custody self.new) events.now outcomes.items) }
+        ensures served { IfOk result (λ outcomes.
+            PlaysServed R.custody self.old self.new events.now outcomes.items) }
         ensures sound { front_is_sound R.custody self.new → front_is_sound R.custody self.old }
         ensures clean { front_is_clean R.custody self.new → front_is_clean R.custody self.old }
         ensures stays { front_is_clean R.custody self.new → front_is_sound R.custody self.old

@@ -1,6 +1,8 @@
 use Rattle.std.proofs.Common.{rules, ◌≡◌, ◌+◌, [], ◌∷◌, ◌++◌, take, ap, refl, sym, ◌∙◌}
+use Rattle.std.proofs.lemmas.Grind.{common_steps}
 use Rattle.std.proofs.lemmas.List.{take_more}
 use Rattle.xa_server.proofs.PlayLemmas.{counts_more, none_more, none_played, played_on}
+use Rattle.xa_server.proofs.PlayedLemmas.{none_played_served, played_more, played_of}
 use Rattle.xa_server.proofs.front.Front.play.Goals as goal
 
 pub loop-event-init : goal.loop-event-init
@@ -8,6 +10,7 @@ loop-event-init g c =
     let none : c.in_ok-outcomes.outcomes.items ≡ [] = search rules in
     record {
       played = rw none (none_played _ _);
+      served = rw none (none_played_served _ _);
       sound = λ sound. sound;
       clean = λ clean. clean;
       stays = λ clean sound on. sound;
@@ -25,6 +28,7 @@ loop-event-preserved g c =
     let pushed : c.push.new.self.items ≡ c.loop-event.outcomes.items ++ c.step-outcome.result ∷ [] = search rules in
     record {
       played = rw (more, pushed) (played_on _ _ _ _ _ _ _ _ _ c.step-outcome.ensures.sound c.loop-event.invariant.played c.step-outcome.ensures.played);
+      served = rw (more, pushed) (played_more _ _ _ _ _ _ _ _ c.loop-event.invariant.served c.step-outcome.ensures.served);
       sound = λ sound. c.loop-event.invariant.sound (c.step-outcome.ensures.sound sound);
       clean = λ clean. c.loop-event.invariant.clean (c.step-outcome.ensures.clean clean);
       stays = λ clean sound on. c.step-outcome.ensures.stays clean (c.loop-event.invariant.stays (c.step-outcome.ensures.clean clean) sound (c.step-outcome.ensures.was_open on)) on;
@@ -36,3 +40,8 @@ loop-event-preserved g c =
       told = search rules;
       room = search rules;
     }
+
+pub returns-clause-served : goal.returns-clause-served
+returns-clause-served g c =
+    let all : take c.loop-event.event-index c.args.events.now ≡ c.args.events.now = search (rules, common_steps) in
+    played_of g.R.Records.custody g.met.R.Records.open_if_sound c.args.self.now c.loop-event.self c.args.events.now c.loop-event.outcomes.items (rw all at c.loop-event.invariant.served)

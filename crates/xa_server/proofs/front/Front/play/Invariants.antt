@@ -1,6 +1,7 @@
 use Rattle.std.proofs.Common.{◌≡◌, ◌≤◌, length, take, vec_capacity, vec_len, IsTrue}
 use Rattle.xa_server.specs.Front.{IsPlayed, front_state}
 use Rattle.xa_server.specs.Fronting.{CountsOutcomes, NoneRefusedByStore}
+use Rattle.xa_server.proofs.PlayedLemmas.{HavePlayed}
 use Rattle.xa_server.proofs.front.Front.play.Given as goal
 
 -- what was played so far, and room for the outcomes that are left
@@ -8,6 +9,7 @@ abbrev pub invariant-loop-event : goal.invariant-loop-event
 invariant-loop-event g l = record {
   played : IsPlayed (g.R.Records.custody l.self.server.records).sound (front_state g.R.Records.custody l.fn.self) (front_state g.R.Records.custody l.self)
       (take l.event-index l.events) l.outcomes.items;
+  served : HavePlayed g.R.Records.custody l.fn.self l.self (take l.event-index l.events) l.outcomes.items;
   sound : (g.R.Records.custody l.self.server.records).sound → (g.R.Records.custody l.fn.self.server.records).sound;
   clean : (g.R.Records.custody l.self.server.records).clean → (g.R.Records.custody l.fn.self.server.records).clean;
   stays : (g.R.Records.custody l.self.server.records).clean → (g.R.Records.custody l.fn.self.server.records).sound →
