@@ -129,7 +129,7 @@ impl Connection {
     /// which its stream ends; nothing if there is neither. The reply to a fault is the same at every
     /// moment. Without memory before the message is cut off, or for the reply to the fault, nothing has
     /// changed. If no message is whole the server isn't asked.
-    #[tactic(auto, using(crate::proofs::NextLemmas::first_answered, crate::proofs::NextLemmas::fault_answered, crate::proofs::NextLemmas::none_answered, crate::proofs::NextLemmas::waits_answered, crate::proofs::NextLemmas::ended_answered, crate::proofs::NextLemmas::first_handed, crate::proofs::NextLemmas::fault_handed, crate::proofs::NextLemmas::none_handed))]
+    #[tactic(auto, using(crate::proofs::NextLemmas::first_answered, crate::proofs::NextLemmas::fault_answered, crate::proofs::NextLemmas::none_answered, crate::proofs::NextLemmas::waits_answered, crate::proofs::NextLemmas::ended_answered, crate::proofs::NextLemmas::first_handed, crate::proofs::NextLemmas::fault_handed, crate::proofs::NextLemmas::none_handed, crate::proofs::NextLemmas::message_first))]
     pub fn answer<R: Records>(
         &mut self,
         server: &mut Server<R>,

@@ -1,7 +1,7 @@
 //! The server: a keeper of all domains, one message after another.
 ghost use Rattle.std.specs.Prelude.{◌≡◌, IfOk, IsTrue, OnErr, MatchResult};
 ghost use Rattle.xa_records.specs.declared.refusal.Failure.TheVariants.{Store};
-ghost use Rattle.xa_server.specs.Isolation.{TwoWorldsAgree};
+ghost use Rattle.xa_server.specs.Isolation.{TwoWorldsAgree, TwoWorldsAgreeBesideRefusals};
 ghost use Rattle.xa_server.specs.declared.replies.Reply.TheVariants.{Refused};
 ghost use Rattle.xa_server.specs.handling.Replying.{IsReplyOf};
 
@@ -278,7 +278,9 @@ fn reply_of(alloc: Global, answered: Result<Items<u8>, HandlingError>) -> Reply
 }
 
 /// The headline in two worlds: two runs with one operator, one beginning state of a domain and the same
-/// messages of its own give it the same replies, however the other domains differ.
+/// messages of its own give it the same replies, however the other domains differ. With refusals, that is so
+/// of the messages that were answered.
 pub fn two_worlds_agree()
-    ensures { TwoWorldsAgree }
+    ensures all_sent { TwoWorldsAgree }
+    ensures beside_refusals { TwoWorldsAgreeBesideRefusals }
 {}
