@@ -30,8 +30,8 @@ module _ {R : Type 0} (custody : R → Custody) where
         → LeavesStep (custody old.records).may_leave (custody new.records).may_leave (world custody old)
         (moment_of event) (message_of event)
 
-  -- messages were served one after another, and after each of them the keeper could go on: that is asked after a refusal
-  -- for want of storage, and is so after any other reply
+  -- messages were served one after another, and after each of them the keeper could go on: that is asked after a
+  -- refusal for want of storage, and is so after any other reply
   abbrev pub ServesAll : ServerModel R → List Event → List Reply → ServerModel R → Type 0
   ServesAll old [] [] new = new ≡ old
   ServesAll old (event ∷ events) (reply ∷ replies) new =

@@ -66,7 +66,7 @@ TwoWorldsAgree =
     → (replies_to domain first_events first_replies ≡ replies_to domain second_events second_replies)
     × (state domain first_after ≡ state domain second_after)
 
--- the same of two runs with refusals: it is the messages that were answered on which they agree, and whose replies are
+-- the consequence for runs with refusals: they agree on the messages that were answered, and the replies to these are
 -- the same
 abbrev pub TwoWorldsAgreeBesideRefusals : Type 0
 TwoWorldsAgreeBesideRefusals =

@@ -30,7 +30,8 @@ pub record IsIsolatedRun (old : World) (events : List messages.Event) (replies :
 
 module _ {R : Type 0} (custody : R → Custody) where
   -- messages were served one after another, and these are the servers after each
-  abbrev pub ServesEach : ServerModel R → List messages.Event → List Reply → List (ServerModel R) → ServerModel R → Type 0
+  abbrev pub ServesEach : ServerModel R → List messages.Event → List Reply → List (ServerModel R) → ServerModel R
+      → Type 0
   ServesEach old [] [] [] new = new ≡ old
   ServesEach old (event ∷ events) (reply ∷ replies) (mid ∷ servers) new =
       Serves custody old mid event reply × ServesEach mid events replies servers new

@@ -12,8 +12,8 @@ abbrev pub are_only_ours : Tables → Bool
 are_only_ours OnlyOurs = true
 are_only_ours WithOthers = false
 
--- The keeper: its connection; whether that was found to have our tables and no others when it was opened; whether it can
--- go on: no look at its store has failed; and how many calls failed with `Store`.
+-- The keeper: its connection; whether that was found to have our tables and no others when it was opened; whether it
+-- can go on: no look at its store has failed; and how many calls failed with `Store`.
 pub record Keeper (S : Type 0) : Type 0 where
   pub conn : Held S
   pub had_only_our_tables : Bool

@@ -1,5 +1,6 @@
 -- How a message is answered, and what is told of the keeper after a part of it.
-use Rattle.std.specs.Prelude.{◌≡◌, ◌⊎◌, ℕ, List, IsErrOf, IsTrue, OnErr, Option, Some, None, option_and_then, Result, Ok, Err}
+use Rattle.std.specs.Prelude.{◌≡◌, ◌⊎◌, ℕ, List, OnErr, Option, Some, None, option_and_then, Result, Ok, Err}
+use Rattle.std.specs.Prelude.{IsErrOf, IsTrue}
 use Rattle.xa_http.specs.declared.route.Route.{Route}
 use Rattle.xa_http.specs.Routes.{named_by}
 use Rattle.xa_records.specs.declared.refusal.Failure.TheVariants.{Memory, Store}

@@ -1,6 +1,6 @@
 -- The statements, but those of the check (`Check`), of which `meta_rows` alone stands here. Contracts cite those
--- that make and migrate tables, `show_document` and `no_statement`; proofs cite the others. A number that a statement has
--- first is the domain's.
+-- that make and migrate tables, `show_document` and `no_statement`; proofs cite the others. A number that a statement
+-- has first is the domain's.
 use Rattle.std.specs.Prelude.{ℕ, List, codes}
 
 -- ---- the tables are made
