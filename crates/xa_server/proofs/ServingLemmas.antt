@@ -1,5 +1,5 @@
 -- Messages that were served one after another, from the first on.
-use Rattle.std.proofs.Common.{◌≡◌, ℤ, List, [], ◌∷◌, ◌++◌, Bool, true, false, Option, Some, None, Result, Ok, Err, IsTrue, refl, ap, sym, ◌∙◌, subst, false≢true}
+use Rattle.std.proofs.Common.{◌≡◌, ℤ, List, [], ◌∷◌, ◌++◌, Bool, true, false, Option, Some, None, Result, Ok, Err, IsTrue, refl, subst}
 use Rattle.xa_http.specs.declared.message.Message.{Message}
 use Rattle.xa_records.specs.declared.refusal.Failure.TheVariants.{Memory, Store}
 use Rattle.xa_records.specs.Keeper.{Custody}
@@ -15,8 +15,8 @@ use Rattle.xa_server.proofs.IsolationLemmas.{isolated}
 -- after a reply after which nothing may go on, nothing has changed
 refused_last : (reply : Reply) (is_open : Bool) → may_go_on reply is_open ≡ false → (old : World) (event : Event) → IsRun old (event ∷ []) (reply ∷ []) old
 refused_last (Refused Store) is_open shut old event = (old, refl, refl)
-refused_last (Refused Memory) is_open shut old event = absurd (false≢true (sym shut))
-refused_last (Sent bytes) is_open shut old event = absurd (false≢true (sym shut))
+refused_last (Refused Memory) is_open shut old event = absurd cc
+refused_last (Sent bytes) is_open shut old event = absurd cc
 
 module _ {R : Type 0} (custody : R → Custody) (is_open : (s : R) → (custody s).sound → IsTrue (custody s).is_open) where
   open_next : (old new : ServerModel R) (event : Event) (reply : Reply) → Serves custody old new event reply → may_go_on reply (custody new.records).is_open ≡ true → (custody old.records).sound
@@ -38,15 +38,17 @@ module _ {R : Type 0} (custody : R → Custody) (is_open : (s : R) → (custody 
   run_until : (old new : ServerModel R) (events : List Event) (replies : List Reply) (servers : List (ServerModel R)) → ServesEach custody old events replies servers new → (custody new.records).clean
       → (custody old.records).sound → (last : World) × IsRun (world custody old) (until_shut replies (opens_in custody servers) events) (until_shut replies (opens_in custody servers) replies) last
   run_until old new [] [] [] same clean sound = (world custody old, refl)
-  run_until old new (event ∷ events) (reply ∷ replies) (mid ∷ servers) each clean sound = by_reply (may_go_on reply (custody mid.records).is_open) refl
+  run_until old new (event ∷ events) (reply ∷ replies) (mid ∷ servers) each clean sound =
+      by_reply (may_go_on reply (custody mid.records).is_open) refl (λ on_mid. run_until mid new events replies servers each.1 clean on_mid)
     where
       by_reply : (b : Bool) → may_go_on reply (custody mid.records).is_open ≡ b
+          → ((custody mid.records).sound → (last : World) × IsRun (world custody mid) (until_shut replies (opens_in custody servers) events) (until_shut replies (opens_in custody servers) replies) last)
           → (last : World) × IsRun (world custody old) (until_shut (reply ∷ replies) (opens_in custody (mid ∷ servers)) (event ∷ events)) (until_shut (reply ∷ replies) (opens_in custody (mid ∷ servers)) (reply ∷ replies)) last
-      by_reply true on =
+      by_reply true on rest_of =
           let on_mid : (custody mid.records).sound = each.0.stays (clean_each mid new events replies servers each.1 clean) sound (open_next old mid event reply each.0 on sound) in
-          let rest = run_until mid new events replies servers each.1 clean on_mid in
-          rw on (rest.0, world custody mid, each.0.served on_mid, rest.1)
-      by_reply false shut = rw shut (world custody old, refused_last reply (custody mid.records).is_open shut (world custody old) event)
+          let rest = rest_of on_mid in
+          rw on (rest.0, (world custody mid, each.0.served on_mid, rest.1))
+      by_reply false shut rest_of = rw shut (world custody old, refused_last reply (custody mid.records).is_open shut (world custody old) event)
   run_until old new [] [] (mid ∷ servers) none clean sound = absurd none
   run_until old new [] (reply ∷ replies) servers none clean sound = absurd none
   run_until old new (event ∷ events) [] servers none clean sound = absurd none

@@ -10,7 +10,7 @@ loop-event-init g c =
     let none : c.in_ok-outcomes.outcomes.items ≡ [] = search rules in
     record {
       played = rw none (none_played _ _);
-      served = rw none (none_played_served _ _);
+      served = rw none (none_played_served g.R.Records.custody _);
       sound = λ sound. sound;
       clean = λ clean. clean;
       stays = λ clean sound on. sound;
@@ -28,7 +28,7 @@ loop-event-preserved g c =
     let pushed : c.push.new.self.items ≡ c.loop-event.outcomes.items ++ c.step-outcome.result ∷ [] = search rules in
     record {
       played = rw (more, pushed) (played_on _ _ _ _ _ _ _ _ _ c.step-outcome.ensures.sound c.loop-event.invariant.played c.step-outcome.ensures.played);
-      served = rw (more, pushed) (played_more _ _ _ _ _ _ _ _ c.loop-event.invariant.served c.step-outcome.ensures.served);
+      served = rw (more, pushed) (played_more g.R.Records.custody _ _ _ _ _ _ _ c.loop-event.invariant.served c.step-outcome.ensures.served);
       sound = λ sound. c.loop-event.invariant.sound (c.step-outcome.ensures.sound sound);
       clean = λ clean. c.loop-event.invariant.clean (c.step-outcome.ensures.clean clean);
       stays = λ clean sound on. c.step-outcome.ensures.stays clean (c.loop-event.invariant.stays (c.step-outcome.ensures.clean clean) sound (c.step-outcome.ensures.was_open on)) on;

@@ -16,7 +16,7 @@ loop-moment-init g c =
       run = λ sound. rw none refl;
       work = λ sound. rw none (refl, refl);
       sound = λ sound. sound;
-      each = rw none (none_served _ _);
+      each = rw none (none_served g.R.Records.custody _);
       told = search rules;
       room = search rules;
     }
@@ -30,7 +30,7 @@ loop-moment-preserved g c =
       run = λ sound. rw (more, pushed) (run_more _ _ _ _ _ _ _ (c.loop-moment.invariant.run (c.serve-reply.ensures.sound sound)) (c.serve-reply.ensures.served sound));
       work = λ sound. rw (more, pushed) (worked_more _ _ _ _ _ _ _ _ _ _ (c.loop-moment.invariant.work (c.serve-reply.ensures.sound sound)) (c.serve-reply.ensures.served sound) (c.serve-reply.ensures.work sound));
       sound = λ sound. c.loop-moment.invariant.sound (c.serve-reply.ensures.sound sound);
-      each = rw (more, pushed) (each_more _ _ _ _ _ _ _ _ c.loop-moment.invariant.each (record {
+      each = rw (more, pushed) (each_more g.R.Records.custody _ _ _ _ _ _ _ c.loop-moment.invariant.each (record {
         served = c.serve-reply.ensures.served;
         clean = c.serve-reply.ensures.clean;
         stays = c.serve-reply.ensures.stays;
