@@ -31,6 +31,7 @@ use sqlite_disk::Disk;
 use std::alloc::Global;
 use std::fs::{self, OpenOptions};
 use std::os::unix::fs::{OpenOptionsExt, PermissionsExt};
+use xa_records::Records;
 use xa_store::{OpenError, SqlRecords};
 
 /// What keeps domains in two files that held what `S` says.
