@@ -124,15 +124,15 @@ left_in closed k sound copied =
       left = copied.left;
     }
 
-pub all_left_in : {D : Type 0} {g : disk.Ghosts D} (k : Keeper (FileStore D g)) (conn : Held (FileStore D g)) (r : Result (ClosedStore D g) Fault) → conn ≡ k.conn → IsTrue k.had_only_our_tables
-    → (IsTrue k.had_only_our_tables → IsTrue (file_state k.conn).is_open → IsSound over_files k)
+pub all_left_in : {D : Type 0} {g : disk.Ghosts D} (k : Keeper (FileStore D g)) (conn : Held (FileStore D g)) (r : Result (ClosedStore D g) Fault) → conn ≡ k.conn → IsTrue k.had_only_our_tables → IsTrue k.is_open
+    → (IsTrue k.had_only_our_tables → IsTrue (file_state k.conn).is_open → IsTrue k.is_open → IsSound over_files k)
     → IfOk r (λ closed. HasCleanFiles closed → IsCopied conn closed.files)
     → IfOk r (λ closed. HasCleanFiles closed → IsSound over_files k × IsLeftIn closed (kept_by over_files k))
-all_left_in {D} {g} k conn (Ok closed) same own stays copies = λ clean.
+all_left_in {D} {g} k conn (Ok closed) same own on stays copies = λ clean.
     let copied = subst (λ (c : Held (FileStore D g)). IsCopied c closed.files) same (copies clean) in
-    let sound = stays own copied.was_open in
+    let sound = stays own copied.was_open on in
     (sound, left_in closed k sound copied)
-all_left_in k conn (Err e) same own stays copies = tt
+all_left_in k conn (Err e) same own on stays copies = tt
 
 -- ---- the front of the files
 

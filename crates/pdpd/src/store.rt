@@ -31,6 +31,7 @@ use sqlite_disk::Disk;
 use std::alloc::Global;
 use std::fs::{self, OpenOptions};
 use std::os::unix::fs::{OpenOptionsExt, PermissionsExt};
+use xa_records::Records;
 use xa_store::{OpenError, SqlRecords};
 
 /// What keeps domains in two files that held what `S` says.
@@ -236,7 +237,8 @@ fn close<D: Disk + Drop>(conn: Connection<FileStore<D>>) -> Result<ClosedStore<D
 }
 
 /// Closes the files of a keeper, and gives them back. One of other tables than the program's isn't closed,
-/// since no clause says what it holds; none is opened.
+/// since no clause says what it holds; none is opened. Nor is one that can't go on: its files are left as
+/// they are.
 pub fn close_records<D: Disk + Drop>(
     records: SqlRecords<FileStore<D>>,
 ) -> Result<ClosedStore<D>, Fault>
@@ -246,6 +248,9 @@ pub fn close_records<D: Disk + Drop>(
 {
     records.stays_sound_while_open();
     if !records.has_only_our_tables() {
+        return Err(Fault::Store(StoreFault::Unclosed));
+    }
+    if !records.is_open() {
         return Err(Fault::Store(StoreFault::Unclosed));
     }
     close(records.into_connection())

@@ -1,5 +1,5 @@
 -- What a call of a keeper did.
-use Rattle.std.specs.Prelude.{◌≡◌, ◌+◌, ◌^◌, ◌⊎◌, ℕ, Bool, true, List, Result, Ok, Err, IsErrOf, IsTrue, OnOk}
+use Rattle.std.specs.Prelude.{◌≡◌, ◌+◌, ◌^◌, ◌⊎◌, ℕ, Bool, true, List, Result, Ok, Err, IsErrOf, IsTrue}
 use Rattle.xa_value.specs.declared.or_memory.OrMemory.{OrMemory}
 use Rattle.xa_value.specs.declared.or_memory.OrMemory.TheVariants as or_memory
 use Rattle.xa_value.specs.declared.read_error.ReadError.{ReadError}
@@ -66,7 +66,7 @@ pub record Custody : Type 1 where
   pub may_leave : Kept → Type 0
   -- how many calls have failed for want of storage
   pub faults : ℕ
-  -- whether it can go on: in memory always, in tables until its store was found to be shut
+  -- whether it can go on: in memory always, in tables until its store was found to be shut, or couldn't be looked at
   pub is_open : Bool
 
 -- a call reads what is there
@@ -74,14 +74,13 @@ pub record Reading {X : Type 0} (old new : Custody) (result : Result X Failure) 
   pub reads : new.sound → Reads old.kept new.kept result there
   pub sound : new.sound → old.sound
   pub clean : new.clean → old.clean
-  pub stays : new.clean → old.sound → OnOk result new.sound
+  -- one that can go on is sound still, whatever the call has answered
+  pub stays : new.clean → old.sound → IsTrue new.is_open → new.sound
   pub leaves : new.clean → old.sound → (left : Kept) → new.may_leave left → old.may_leave left
   pub faults : CountsReading old.faults new.faults result
   -- only a call that answers Store shuts it; and once it is shut, each call answers Store
   pub was_open : IsTrue new.is_open → IsTrue old.is_open
   pub stays_open : ¬ IsErrOf result Store → IsTrue new.is_open
-  -- if it is open still after such a call, it goes on
-  pub goes_on : new.clean → old.sound → IsErrOf result Store → IsTrue new.is_open → new.sound
 
 -- a call makes a change of the domain of that name
 pub record Changing {X : Type 0} (old new : Custody) (result : Result X ChangeError) (name : List ℕ) (change : Change)
@@ -89,12 +88,11 @@ pub record Changing {X : Type 0} (old new : Custody) (result : Result X ChangeEr
   pub does : new.sound → Changes old.kept new.kept result name change
   pub sound : new.sound → old.sound
   pub clean : new.clean → old.clean
-  pub stays : new.clean → old.sound → IfAnswered result new.sound
+  pub stays : new.clean → old.sound → IsTrue new.is_open → new.sound
   pub leaves : new.clean → old.sound → Leaves old.may_leave new.may_leave old.kept name change
   pub faults : CountsChange old.faults new.faults result
   pub was_open : IsTrue new.is_open → IsTrue old.is_open
   pub stays_open : ¬ IsErrOf result (Failed Store) → IsTrue new.is_open
-  pub goes_on : new.clean → old.sound → IsErrOf result (Failed Store) → IsTrue new.is_open → new.sound
 
 -- the keeper in memory: always sound and open, and a crash leaves nothing
 abbrev pub in_memory : Kept → ℕ → Custody

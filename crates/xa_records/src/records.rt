@@ -27,7 +27,9 @@ use xa_value::{Items, Text};
 /// Each method reads that map or makes one change of it, for the domain named and no other. After a
 /// refusal or a failure nothing has changed. After `Store` one exception holds: if the storage is opened
 /// again, after an orderly end or a crash, the change may be there, as a whole. The clauses speak of the
-/// map only if the keeper is `sound` after the call, and then it was sound before.
+/// map only if the keeper is `sound` after the call, and then it was sound before. A keeper that was sound
+/// stays so, whatever the call answers, while it can go on (`is_open`) and the disk gives back what was
+/// written.
 pub trait Records {
     /// What is told of the keeper: what it keeps, and whether it is sound.
     ghost custody: { Self → Custody };
@@ -39,8 +41,7 @@ pub trait Records {
     /// Whether the keeper can go on. One that is shut answers `Store` to each call, now and for ever: its
     /// storage has to be opened again. It is found shut only after a call that answered `Store`.
     fn is_open(&self) -> bool
-        ensures told { result ≡ (custody self.now).is_open }
-        ensures sound { (custody self.now).sound → IsTrue result };
+        ensures { result ≡ (custody self.now).is_open };
 
     /// The domain's number, its epoch and its tokens; nothing, if there is no such domain.
     fn gate(&mut self, alloc: Global, name: &Text) -> Result<Option<Gate>, Failure>
@@ -157,6 +158,9 @@ pub trait Records {
     /// Law: no two domains have one number, every number is below the next, and that and all epochs are
     /// at most 2^63 - 1.
     ghost numbered: { (s : Self) → (custody s).sound → IsNumbered (custody s).kept };
+
+    /// Law: a sound keeper can go on.
+    ghost open_if_sound: { (s : Self) → (custody s).sound → IsTrue (custody s).is_open };
 
     /// Law: a crash leaves what is kept, and nothing else.
     ghost settled: { (s : Self) → (custody s).sound → (left : Kept) → (custody s).may_leave left

@@ -144,9 +144,9 @@ told_same old new (Err (Failed failure)) meant same = same
 
 -- the keeper isn't asked, and the views are as they were
 pub keeper_left : (custody : Custody) (view : Viewed) (body : List ℕ) (moment : ℤ) (result : Result (List ℕ) HandlingError) → IsResponseReply (response_of view body moment) result → OnlyReads custody custody result
-keeper_left custody view body moment (Ok bytes) meant = record { sound = λ sound. sound; clean = λ clean. clean; stays = λ clean sound. sound; leaves = λ clean sound left is. is; counts = refl }
-keeper_left custody view body moment (Err (Error code)) meant = record { sound = λ sound. sound; clean = λ clean. clean; stays = λ clean sound. sound; leaves = λ clean sound left is. is; counts = refl }
-keeper_left custody view body moment (Err (Failed Memory)) meant = record { sound = λ sound. sound; clean = λ clean. clean; stays = λ clean sound. tt; leaves = λ clean sound left is. is; counts = refl }
+keeper_left custody view body moment (Ok bytes) meant = record { sound = λ sound. sound; clean = λ clean. clean; stays = λ clean sound on. sound; leaves = λ clean sound left is. is; counts = refl; was_open = λ on. on; stays_open = λ other on. on }
+keeper_left custody view body moment (Err (Error code)) meant = record { sound = λ sound. sound; clean = λ clean. clean; stays = λ clean sound on. sound; leaves = λ clean sound left is. is; counts = refl; was_open = λ on. on; stays_open = λ other on. on }
+keeper_left custody view body moment (Err (Failed Memory)) meant = record { sound = λ sound. sound; clean = λ clean. clean; stays = λ clean sound on. sound; leaves = λ clean sound left is. is; counts = refl; was_open = λ on. on; stays_open = λ other on. on }
 keeper_left custody view body moment (Err (Failed Store)) meant = let none : Store ≡ Memory = meant in absurd cc
 
 pub views_left : (result : Result (List ℕ) HandlingError) (claim : Type 0) → claim → OnErr result claim

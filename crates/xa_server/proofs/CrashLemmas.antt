@@ -1,19 +1,21 @@
 -- What a crash may leave, from what a message asks for to the message itself.
 use Rattle.std.proofs.Common.{◌≡◌, ℕ, ℤ, List, Option, Some, None, Result, Ok, Err, inl, inr, refl, ap, sym, subst}
-use Rattle.std.specs.Prelude.{◌⊎◌}
+use Rattle.std.specs.Prelude.{◌⊎◌, IsErrOf}
 use Rattle.xa_value.specs.declared.or_memory.OrMemory.{OrMemory}
 use Rattle.xa_value.specs.declared.or_memory.OrMemory.TheVariants as or_memory
 use Rattle.xa_http.specs.declared.message.Message.{Message}
 use Rattle.xa_http.specs.declared.route.Route.{Route}
 use Rattle.xa_http.specs.declared.route.RouteFault.{RouteFault}
 use Rattle.xa_http.specs.Routes.{route_of}
+use Rattle.xa_records.specs.declared.refusal.Failure.TheVariants.{Memory, Store}
 use Rattle.xa_records.specs.Kept.{IsChanged, Kept}
-use Rattle.xa_server.specs.Crash.{IfSent, IsStepMade}
+use Rattle.xa_server.specs.Crash.{IsStepMade}
 use Rattle.xa_server.specs.declared.received_message.ReceivedMessage.{ReceivedMessage}
 use Rattle.xa_server.specs.declared.replies.Reply.{Reply}
+use Rattle.xa_server.specs.declared.replies.Reply.TheVariants.{Refused}
 use Rattle.xa_server.specs.declared.handling_error.HandlingError.{HandlingError}
 use Rattle.xa_server.specs.declared.handling_error.HandlingError.TheVariants.{Error, Failed}
-use Rattle.xa_server.specs.handling.Replying.{Counts, IfTold, IsAnswerMade, IsReplyOf, LeavesMessage, LeavesNoMore, LeavesRoute}
+use Rattle.xa_server.specs.handling.Replying.{Counts, IsAnswerMade, IsReplyOf, LeavesMessage, LeavesNoMore, LeavesRoute}
 use Rattle.xa_server.specs.Machine.{MachineAnswer, answer, reply_and_state, step}
 use Rattle.xa_server.specs.Served.{state}
 use Rattle.xa_server.specs.handling.HandlingError.{error_of_route}
@@ -55,18 +57,14 @@ step_left before after received kept (Some name) leaves left may = elim (leaves 
       (answer received.operator (state name (world_of received kept)) received.message.now received.moment) refl made)
 ]
 
--- a message that didn't fail is the only one whose reply is sent
-pub if_sent : (claim : Type 0) (result : Result (List ℕ) HandlingError) (reply : Reply) → IfTold result claim → IsReplyOf result reply → IfSent reply claim
-if_sent claim (Ok bytes) reply told is = subst (λ r. IfSent r claim) (sym is) told
-if_sent claim (Err (Failed failure)) reply told is = subst (λ r. IfSent r claim) (sym is) tt
-if_sent claim (Err (Error code)) reply told (inl is) = subst (λ r. IfSent r claim) (sym is) told
-if_sent claim (Err (Error code)) reply told (inr is) = subst (λ r. IfSent r claim) (sym is) tt
+-- only a message that failed for want of storage is refused so
+pub refused_so : (result : Result (List ℕ) HandlingError) (reply : Reply) → IsReplyOf result reply → ¬ (reply ≡ Refused Store) → ¬ IsErrOf result (Failed Store)
+refused_so (Ok bytes) reply is other failed = absurd cc
+refused_so (Err (Failed Memory)) reply is other failed = absurd cc
+refused_so (Err (Failed Store)) reply is other failed = other is
+refused_so (Err (Error code)) reply is other failed = absurd cc
 
--- a message that asks for nothing that is served, or of which that wasn't found out, was told so, and nothing is counted
-pub unasked_told : (error : OrMemory RouteFault) (claim : Type 0) → claim → IfTold {X = List ℕ} (Err (error_of_route error)) claim
-unasked_told or_memory.Memory claim is = tt
-unasked_told (or_memory.Error fault) claim is = is
-
+-- a message that asks for nothing that is served, or of which that wasn't found out, isn't counted
 pub unasked_counts : (error : OrMemory RouteFault) (faults : ℕ) → Counts {X = List ℕ} faults faults (Err (error_of_route error))
 unasked_counts or_memory.Memory faults = refl
 unasked_counts (or_memory.Error fault) faults = refl

@@ -18,7 +18,8 @@ use Rattle.xa_server.specs.declared.replies.Reply.{Reply}
 use Rattle.xa_server.specs.declared.replies.Reply.TheVariants.{Refused, Sent}
 use Rattle.xa_server.specs.Alone.{Event, message_of, moment_of}
 use Rattle.xa_server.specs.Connection.{AreAnswered, ServesFirst}
-use Rattle.xa_server.specs.Driven.{HasAnswered, IsDrivenWithin, IsWaiting, MessageLast, Situation, TellsLast, may_go_on}
+use Rattle.xa_server.specs.Driven.{HasAnswered, IsDrivenWithin, IsWaiting, MessageLast, Situation, TellsLast}
+use Rattle.xa_server.specs.Served.{may_go_on}
 use Rattle.xa_server.specs.handling.Driving.{IsFaultSent, IsReplySent}
 use Rattle.xa_server.specs.Replies.{bytes_of}
 use Rattle.xa_server.specs.Transfers.{Grows, IsReadOn, IsWritten, ReadEnd, WriteEnd}

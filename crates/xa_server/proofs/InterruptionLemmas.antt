@@ -1,11 +1,12 @@
 -- What a crash leaves of a list of messages, from the clauses of one message after another.
-use Rattle.std.proofs.Common.{◌≡◌, ◌≢◌, ◌≤◌, ◌+◌, ℕ, ℤ, List, [], ◌∷◌, ◌++◌, length, length-append, take, Bool, true, false, Option, Some, None, inl, inr, refl, ap, sym, ◌∙◌, subst, arith}
+use Rattle.std.proofs.Common.{◌≡◌, ◌≢◌, ◌≤◌, ◌+◌, ℕ, ℤ, List, [], ◌∷◌, ◌++◌, length, length-append, take, Bool, true, false, Option, Some, None, IsTrue, inl, inr, refl, ap, sym, ◌∙◌, subst, arith}
 use Rattle.std.specs.FinMap.{get}
 use Rattle.std.specs.Prelude.{bytes_eq, option_map}
 use Rattle.std.proofs.lemmas.Bool.Decides.{not_from_Decides}
 use Rattle.std.proofs.lemmas.Slice.Eq.{bytes_eq-Decides}
 use Rattle.std.proofs.Math.Seq.{take-append_seam, take-append-add}
 use Rattle.xa_http.specs.declared.message.Message.{Message}
+use Rattle.xa_records.specs.declared.refusal.Failure.TheVariants.{Memory, Store}
 use Rattle.xa_records.specs.DomainState.{DomainState}
 use Rattle.xa_records.specs.Keeper.{Custody}
 use Rattle.xa_records.specs.Kept.{Domain, IsNextNumber, Kept, state_of}
@@ -13,11 +14,11 @@ use Rattle.xa_server.specs.Alone.{Event, is_owner, is_own, own_events, state_aft
 use Rattle.xa_server.specs.Crash.{IsStepMade}
 use Rattle.xa_server.specs.declared.replies.Reply.{Reply}
 use Rattle.xa_server.specs.declared.replies.Reply.TheVariants.{Sent, Refused}
-use Rattle.xa_server.specs.Interruption.{AreStatesAfter, IsInterrupted, KeepsAnswered, LeavesFirst, Serves, ServesAll, StaysSound}
+use Rattle.xa_server.specs.Interruption.{AreStatesAfter, IsInterrupted, KeepsAnswered, LeavesFirst, Serves, ServesAll}
 use Rattle.xa_server.specs.Isolation.{answered_events}
 use Rattle.xa_server.specs.Machine.{step}
 use Rattle.xa_server.specs.Owner.{owner}
-use Rattle.xa_server.specs.Served.{IsRun, IsSent, IsServed, state}
+use Rattle.xa_server.specs.Served.{IsRun, IsSent, IsServed, may_go_on, state}
 use Rattle.xa_server.specs.World.{ServerModel, World, world}
 use Rattle.xa_server.proofs.GrowthLemmas.{changed_state}
 use Rattle.xa_server.proofs.IsolationLemmas.{isolated}
@@ -89,7 +90,8 @@ not_made : (old : World) (moment : ℤ) (message : Message) (named : Option (Lis
 not_made old moment message None made = made
 not_made old moment message (Some domain) made = no_further old.kept.next (get old.kept.domains domain) _ made.next
 
-module _ {R : Type 0} (custody : R → Custody) (settled : (s : R) → (custody s).sound → (left : Kept) → (custody s).may_leave left → left ≡ (custody s).kept) where
+module _ {R : Type 0} (custody : R → Custody) (is_open : (s : R) → (custody s).sound → IsTrue (custody s).is_open)
+    (settled : (s : R) → (custody s).sound → (left : Kept) → (custody s).may_leave left → left ≡ (custody s).kept) where
   -- ---- the messages before the crash
 
   clean_before : (old new : ServerModel R) (events : List Event) (replies : List Reply) → ServesAll custody old events replies new → (custody new.records).clean → (custody old.records).clean
@@ -98,10 +100,16 @@ module _ {R : Type 0} (custody : R → Custody) (settled : (s : R) → (custody 
   clean_before old new [] (reply ∷ replies) all clean = absurd all
   clean_before old new (event ∷ events) [] all clean = absurd all
 
-  goes_on : (old new : ServerModel R) (event : Event) (reply : Reply) → Serves custody old new event reply → StaysSound custody new reply → (custody new.records).clean → (custody old.records).sound
-      → (custody new.records).sound
-  goes_on old new event (Sent bytes) serves on clean sound = serves.stays clean sound
-  goes_on old new event (Refused failure) serves on clean sound = on
+  -- the keeper is open after a message after which it may go on
+  open_after : (old new : ServerModel R) (event : Event) (reply : Reply) → Serves custody old new event reply → may_go_on reply (custody new.records).is_open ≡ true → (custody old.records).sound
+      → IsTrue (custody new.records).is_open
+  open_after old new event (Sent bytes) serves on sound = serves.stays_open (λ is. absurd cc) (is_open old.records sound)
+  open_after old new event (Refused Memory) serves on sound = serves.stays_open (λ is. absurd cc) (is_open old.records sound)
+  open_after old new event (Refused Store) serves on sound = on
+
+  goes_on : (old new : ServerModel R) (event : Event) (reply : Reply) → Serves custody old new event reply → may_go_on reply (custody new.records).is_open ≡ true → (custody new.records).clean
+      → (custody old.records).sound → (custody new.records).sound
+  goes_on old new event reply serves on clean sound = serves.stays clean sound (open_after old new event reply serves on sound)
 
   sound_after : (old new : ServerModel R) (events : List Event) (replies : List Reply) → ServesAll custody old events replies new → (custody new.records).clean → (custody old.records).sound
       → (custody new.records).sound
@@ -157,7 +165,7 @@ module _ {R : Type 0} (custody : R → Custody) (settled : (s : R) → (custody 
     -- the states after the last one too, if it was answered
     with_answered : (bytes : List ℕ) → reply ≡ Sent bytes → (left : Kept) → (custody new.records).may_leave left → AreStatesAfter (world custody old) (take (length answered + 1) (answered ++ last ∷ [])) left
     with_answered bytes is left may =
-        let on : (custody new.records).sound = goes_on it.mid new last (Sent bytes) (subst (Serves custody it.mid new last) is it.stopped) tt it.clean sound in
+        let on : (custody new.records).sound = goes_on it.mid new last (Sent bytes) (subst (Serves custody it.mid new last) is it.stopped) refl it.clean sound in
         let all : IsRun (world custody old) (events ++ last ∷ []) (replies ++ Sent bytes ∷ []) (world custody new) =
         run_more _ _ _ events replies last (Sent bytes) run (subst (λ r. IsServed before (world custody new) last.0 last.1 r) is (it.stopped.served on)) in
         subst (λ es. AreStatesAfter (world custody old) es left) (answered_more (world custody old) before events replies last (Sent bytes) run ∙ sym (take-append-add answered (last ∷ []) 1))

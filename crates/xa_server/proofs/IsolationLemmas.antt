@@ -6,7 +6,7 @@ use Rattle.std.proofs.lemmas.Slice.Eq.{bytes_eq-Decides}
 use Rattle.xa_server.specs.declared.replies.Reply.{Reply}
 use Rattle.xa_server.specs.declared.replies.Reply.TheVariants.{Sent, Refused}
 use Rattle.xa_server.specs.Alone.{Event, is_owner, is_own, own_events, replies_alone, state_after}
-use Rattle.xa_server.specs.Isolation.{AllSent, IsAlone, IsIsolated, TwoWorldsAgree, answered_events, replies_to, sent_replies}
+use Rattle.xa_server.specs.Isolation.{AgreeOn, AllSent, IsAlone, IsIsolated, TwoWorldsAgree, TwoWorldsAgreeBesideRefusals, answered_events, replies_to, sent_replies}
 use Rattle.xa_server.specs.Machine.{step}
 use Rattle.xa_server.specs.Owner.{owner}
 use Rattle.xa_server.specs.Served.{IsRun, IsSent, state}
@@ -91,18 +91,28 @@ headline old new events replies run = λ all domain.
     (subst (λ rs. IsAlone old new (answered_events events replies) rs domain) (all_sent replies all) (isolated domain old new events replies run))
 
 -- one operator, one state and the same messages have one machine's replies
+agree_alone : (first first_after second second_after : World) (first_events second_events : List Event) (first_replies second_replies : List Reply) (domain : List ℕ)
+    → IsAlone first first_after first_events first_replies domain → IsAlone second second_after second_events second_replies domain → AgreeOn domain first second first_events second_events
+    → (replies_to domain first_events first_replies ≡ replies_to domain second_events second_replies) × (state domain first_after ≡ state domain second_after)
+agree_alone first first_after second second_after first_events second_events first_replies second_replies domain here there agree = (
+  here.told
+      ∙ ap (λ op. map Sent (replies_alone op (state domain first) (own_events domain first_events))) agree.operator
+      ∙ ap (λ s. map Sent (replies_alone second.operator s (own_events domain first_events))) agree.state
+      ∙ ap (λ es. map Sent (replies_alone second.operator (state domain second) es)) agree.messages
+      ∙ sym there.told,
+  here.left
+      ∙ ap (λ op. state_after op (state domain first) (own_events domain first_events)) agree.operator
+      ∙ ap (λ s. state_after second.operator s (own_events domain first_events)) agree.state
+      ∙ ap (λ es. state_after second.operator (state domain second) es) agree.messages
+      ∙ sym there.left,
+)
+
 pub two_worlds : TwoWorldsAgree
 two_worlds first first_after second second_after first_events second_events first_replies second_replies domain one all_one other all_other agree =
-    let here : IsAlone first first_after first_events first_replies domain = headline first first_after first_events first_replies one all_one domain in
-    let there : IsAlone second second_after second_events second_replies domain = headline second second_after second_events second_replies other all_other domain in (
-      here.told
-          ∙ ap (λ op. map Sent (replies_alone op (state domain first) (own_events domain first_events))) agree.operator
-          ∙ ap (λ s. map Sent (replies_alone second.operator s (own_events domain first_events))) agree.state
-          ∙ ap (λ es. map Sent (replies_alone second.operator (state domain second) es)) agree.messages
-          ∙ sym there.told,
-      here.left
-          ∙ ap (λ op. state_after op (state domain first) (own_events domain first_events)) agree.operator
-          ∙ ap (λ s. state_after second.operator s (own_events domain first_events)) agree.state
-          ∙ ap (λ es. state_after second.operator (state domain second) es) agree.messages
-          ∙ sym there.left,
-    )
+    agree_alone first first_after second second_after first_events second_events first_replies second_replies domain (headline first first_after first_events first_replies one all_one domain)
+    (headline second second_after second_events second_replies other all_other domain) agree
+
+pub two_worlds_beside : TwoWorldsAgreeBesideRefusals
+two_worlds_beside first first_after second second_after first_events second_events first_replies second_replies domain one other agree =
+    agree_alone first first_after second second_after (answered_events first_events first_replies) (answered_events second_events second_replies) (sent_replies first_replies) (sent_replies second_replies)
+    domain (isolated domain first first_after first_events first_replies one) (isolated domain second second_after second_events second_replies other) agree

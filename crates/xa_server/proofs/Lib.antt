@@ -27,3 +27,5 @@ pub mod PlayLemmas
 pub mod NextLemmas
 pub mod FrontLawLemmas
 pub mod InterruptionLemmas
+pub mod ServingLemmas
+pub mod PlayedLemmas

@@ -9,7 +9,7 @@ use Rattle.xa_http.specs.Messages.{IsFirst, IsLook, IsNext}
 use Rattle.xa_http.specs.Stream.{Stream}
 use Rattle.xa_http.proofs.LawLemmas.{answers_messages}
 use Rattle.xa_records.specs.Keeper.{Custody}
-use Rattle.xa_server.specs.Connection.{AnswersNext, EndsBy, IsGiven, IsHandedOn, ServesFirst, ServesNext, answer_of, answered_by, reply_in, reply_of}
+use Rattle.xa_server.specs.Connection.{AnswersNext, EndsBy, HasNoFirst, IsGiven, IsHandedOn, ServesFirst, ServesNext, answer_of, answered_by, reply_in, reply_of}
 use Rattle.xa_server.specs.declared.connection.Answered.{Answered}
 use Rattle.xa_server.specs.declared.connection.Answered.TheVariants as answered
 use Rattle.xa_server.specs.declared.front_error.FrontError.TheVariants.{Memory}
@@ -26,6 +26,9 @@ pub only_message : (old new : Stream) (given : Next) → IsLook old look.Message
     → (message : Message) × (given ≡ next.Message message)
 only_message old new given (on, (message, rest, begins)) is =
     (message, (answers_messages old message (record { held = rest; ended = message.close }) given new (on, begins, refl) is).0)
+
+pub message_first : (s : Stream) → IsLook s look.Message → ¬ HasNoFirst (Some s)
+message_first s (on, (message, rest, begins)) none = none message (record { held = rest; ended = message.close }, (on, begins, refl))
 
 -- ---- what a connection is answered
 
@@ -80,9 +83,11 @@ pub none_handed : (custody : Custody) (before : World) (moment : ℤ) (line : Op
 none_handed custody before moment line = record {
   sound = λ sound. sound;
   clean = λ clean. clean;
-  stays = λ clean sound. sound;
+  stays = λ clean sound on. sound;
   crash = λ clean sound left may. inl may;
   counts = refl;
+  was_open = λ on. on;
+  stays_open = λ other on. on;
 }
 
 pub fault_handed : (fault : SessionFault) (custody : Custody) (before : World) (moment : ℤ) (line : Option Stream) (s t : Stream) (reply : Reply)
@@ -91,9 +96,11 @@ fault_handed fault custody before moment line s t reply (is, said) =
     subst (λ (r : Reply). IsHandedOn custody custody before moment line (Some r)) (sym said) (record {
       sound = λ sound. sound;
       clean = λ clean. clean;
-      stays = λ clean sound. sound;
+      stays = λ clean sound on. sound;
       crash = λ clean sound left may. inl may;
       counts = refl;
+      was_open = λ on. on;
+      stays_open = λ other on. on;
     })
 
 -- ---- what a connection of a front is answered

@@ -5,8 +5,7 @@ use Rattle.std.proofs.lemmas.List.{append_assoc}
 use Rattle.xa_http.specs.declared.session.Next.{Next}
 use Rattle.xa_http.specs.declared.session.Next.TheVariants as next
 use Rattle.xa_server.specs.Alone as messages
-use Rattle.xa_server.specs.Connection.{CountsReplyIf, IfReplySent, IsOneRun, ServesNext}
-use Rattle.xa_server.specs.Crash.{IfSent}
+use Rattle.xa_server.specs.Connection.{CountsReplyIf, IsOneRun, ServesNext}
 use Rattle.xa_server.specs.declared.event.Answer.{Answer}
 use Rattle.xa_server.specs.declared.event.Event.{Event}
 use Rattle.xa_server.specs.declared.event.Event.TheVariants as event
@@ -15,10 +14,11 @@ use Rattle.xa_server.specs.declared.event.Outcome.TheVariants as outcome
 use Rattle.xa_server.specs.declared.front_error.FrontError.{FrontError}
 use Rattle.xa_server.specs.declared.lines.Conn.{Conn}
 use Rattle.xa_server.specs.declared.replies.Reply.{Reply}
-use Rattle.xa_server.specs.declared.replies.Reply.TheVariants.{Sent, Refused}
+use Rattle.xa_records.specs.declared.refusal.Failure.TheVariants.{Store}
+use Rattle.xa_server.specs.declared.replies.Reply.TheVariants.{Refused}
 use Rattle.xa_server.specs.Front.{AnswersAt, AnswersLine, FrontState, IsPlayed, Plays, message_cut, messages_cut, replies_given, reply_given, reply_in_result}
 use Rattle.xa_server.specs.FrontLaws.{StepsArePlayed}
-use Rattle.xa_server.specs.Fronting.{CountsOutcomes, IfAllSent, reply_in_outcome}
+use Rattle.xa_server.specs.Fronting.{CountsOutcomes, NoneRefusedByStore, reply_in_outcome}
 use Rattle.xa_server.specs.Lines.{IsClosed, IsHeld, IsOpened, Lines}
 use Rattle.xa_server.proofs.ConnectionLemmas.{no_run, runs_on, serves_run}
 use Rattle.xa_server.proofs.FrontLawLemmas.{never_none}
@@ -57,7 +57,7 @@ answered sound conn moment old new result (given, is, serves) =
 
 -- ---- events after others
 
-plays_on : (events others : List Event) (outcomes rest : List Outcome) (nexts more : List (Option Next)) (old mid new : Lines)
+pub plays_on : (events others : List Event) (outcomes rest : List Outcome) (nexts more : List (Option Next)) (old mid new : Lines)
     → Plays events outcomes nexts old mid → Plays others rest more mid new → Plays (events ++ others) (outcomes ++ rest) (nexts ++ more) old new
 plays_on [] others [] rest [] more old mid new same plays = subst (λ (l : Lines). Plays others rest more l new) same plays
 plays_on (e ∷ events) others (o ∷ outcomes) rest (given ∷ nexts) more old mid new (first, did, rest_of) plays =
@@ -67,7 +67,7 @@ plays_on [] others (o ∷ outcomes) rest nexts more old mid new none plays = abs
 plays_on (e ∷ events) others [] rest nexts more old mid new none plays = absurd none
 plays_on (e ∷ events) others (o ∷ outcomes) rest [] more old mid new none plays = absurd none
 
-cut_on : (events others : List Event) (outcomes : List Outcome) (nexts more : List (Option Next)) (old mid : Lines) → Plays events outcomes nexts old mid
+pub cut_on : (events others : List Event) (outcomes : List Outcome) (nexts more : List (Option Next)) (old mid : Lines) → Plays events outcomes nexts old mid
     → messages_cut (events ++ others) (nexts ++ more) ≡ messages_cut events nexts ++ messages_cut others more
 cut_on [] others [] [] more old mid plays = refl
 cut_on (e ∷ events) others (o ∷ outcomes) (given ∷ nexts) more old mid (first, did, rest_of) =
@@ -78,7 +78,7 @@ cut_on [] others (o ∷ outcomes) nexts more old mid none = absurd none
 cut_on (e ∷ events) others [] nexts more old mid none = absurd none
 cut_on (e ∷ events) others (o ∷ outcomes) [] more old mid none = absurd none
 
-given_on : (events : List Event) (outcomes rest : List Outcome) (nexts more : List (Option Next)) (old mid : Lines) → Plays events outcomes nexts old mid
+pub given_on : (events : List Event) (outcomes rest : List Outcome) (nexts more : List (Option Next)) (old mid : Lines) → Plays events outcomes nexts old mid
     → replies_given (nexts ++ more) (outcomes ++ rest) ≡ replies_given nexts outcomes ++ replies_given more rest
 given_on [] [] rest [] more old mid plays = refl
 given_on (e ∷ events) (o ∷ outcomes) rest (given ∷ nexts) more old mid (first, did, rest_of) =
@@ -114,17 +114,10 @@ steps_are sound = (
 
 -- ---- the keeper, over one event more
 
-sent_claim : (reply : Option Reply) (claim other : Type 0) → (claim → other) → IfReplySent reply claim → IfReplySent reply other
-sent_claim None claim other so if = so if
-sent_claim (Some (Sent bytes)) claim other so if = so if
-sent_claim (Some (Refused failure)) claim other so if = tt
-
--- what holds unless a message was refused holds so over the next event
-pub sent_more : (outcomes : List Outcome) (o : Outcome) (before after : Type 0) → IfAllSent outcomes before → (before → IfReplySent (reply_in_outcome o) after)
-    → IfAllSent (outcomes ++ o ∷ []) after
-sent_more [] o before after if so = so if
-sent_more (p ∷ outcomes) o before after if so =
-    sent_claim (reply_in_outcome p) (IfAllSent outcomes before) (IfAllSent (outcomes ++ o ∷ []) after) (λ rest. sent_more outcomes o before after rest so) if
+-- none was refused for want of storage, and so the last wasn't
+pub none_more : (outcomes : List Outcome) (o : Outcome) → NoneRefusedByStore (outcomes ++ o ∷ []) → NoneRefusedByStore outcomes × ¬ (reply_in_outcome o ≡ Some (Refused Store))
+none_more [] o none = (tt, none.0)
+none_more (p ∷ outcomes) o none = let rest = none_more outcomes o none.1 in ((none.0, rest.0), rest.1)
 
 pub counts_more : (outcomes : List Outcome) (o : Outcome) (old mid new : ℕ) → CountsOutcomes old mid outcomes → CountsReplyIf mid new (reply_in_outcome o)
     → CountsOutcomes old new (outcomes ++ o ∷ [])

@@ -1,23 +1,24 @@
 -- A connection: what it takes and what it is answered, once and several times.
 use Rattle.std.specs.Prelude.{◌≡◌, ◌+◌, ◌<◌, ◌≤◌, ◌⊎◌, ℕ, ℤ, Bool, true, false, List, [], ◌∷◌, ◌++◌, length, map}
-use Rattle.std.specs.Prelude.{Option, Some, None, Result, Ok, Err}
+use Rattle.std.specs.Prelude.{Option, Some, None, Result, Ok, Err, IsTrue}
 use Rattle.xa_http.specs.declared.fault.SessionFault.{SessionFault}
 use Rattle.xa_http.specs.declared.message.Message.{Message}
 use Rattle.xa_http.specs.declared.session.Next.{Next}
 use Rattle.xa_http.specs.declared.session.Next.TheVariants as next
 use Rattle.xa_http.specs.Messages.{Cuts, IsFirst, IsNext}
 use Rattle.xa_http.specs.Stream.{Stream, fed}
+use Rattle.xa_records.specs.declared.refusal.Failure.TheVariants.{Store}
 use Rattle.xa_records.specs.Keeper.{Custody}
 use Rattle.xa_records.specs.Kept.{Kept}
 use Rattle.xa_server.specs.Alone.{Event, message_of, moment_of}
-use Rattle.xa_server.specs.Crash.{IfSent, IsStepMade}
+use Rattle.xa_server.specs.Crash.{IsStepMade}
 use Rattle.xa_server.specs.declared.connection.Answered.{Answered}
 use Rattle.xa_server.specs.declared.connection.Answered.TheVariants as answered
 use Rattle.xa_server.specs.declared.event.Answer.{Answer}
 use Rattle.xa_server.specs.declared.front_error.FrontError.{FrontError}
 use Rattle.xa_server.specs.declared.front_error.FrontError.TheVariants.{Memory, Full}
 use Rattle.xa_server.specs.declared.replies.Reply.{Reply}
-use Rattle.xa_server.specs.declared.replies.Reply.TheVariants.{Sent}
+use Rattle.xa_server.specs.declared.replies.Reply.TheVariants.{Sent, Refused}
 use Rattle.xa_server.specs.ErrorCode.{code_of_session_fault, error_reply}
 use Rattle.xa_server.specs.Isolation.{IsIsolated, IsIsolatedBesideRefusals}
 use Rattle.xa_server.specs.Owner.{owner}
@@ -116,11 +117,6 @@ reply_in (Err _) = None
 
 -- ---- what the keeper is told by an answer
 
--- the claim holds, unless there is a reply and it is a refusal
-abbrev pub IfReplySent : Option Reply → Type 0 → Type 0
-IfReplySent (Some reply) claim = IfSent reply claim
-IfReplySent None claim = claim
-
 -- how often the keeper has failed by a call: once more if a message was refused for want of storage, and else no more
 abbrev pub CountsReplyIf : ℕ → ℕ → Option Reply → Type 0
 CountsReplyIf old new (Some reply) = CountsReply old new reply
@@ -130,6 +126,10 @@ CountsReplyIf old new None = new ≡ old
 abbrev pub IsFirstOf : Option Stream → Message → Type 0
 IsFirstOf None message = ⊥
 IsFirstOf (Some stream) message = (rest : Stream) × IsFirst stream message rest
+
+-- no message is whole at the front of a stream that may not be there
+abbrev pub HasNoFirst : Option Stream → Type 0
+HasNoFirst line = (message : Message) → ¬ IsFirstOf line message
 
 -- what a crash after an answer may leave: what it might have left before, or all with the step made that the first
 -- message of the stream makes
@@ -144,12 +144,15 @@ pub record IsHandedOn (old new : Custody) (before : World) (moment : ℤ) (line 
   -- if the keeper is sound, it was; if the disk has given back what was written, it had before
   pub sound : new.sound → old.sound
   pub clean : new.clean → old.clean
-  -- the keeper stays sound, unless a message was refused, and a crash may leave this, if it was sound and the disk has
-  -- given back what was written
-  pub stays : new.clean → old.sound → IfReplySent reply new.sound
+  -- the keeper stays sound while it can go on, and a crash may leave this, if it was sound and the disk has given back
+  -- what was written
+  pub stays : new.clean → old.sound → IsTrue new.is_open → new.sound
   pub crash : new.clean → old.sound → LeavesNext old.may_leave new.may_leave before moment line
   -- the keeper's calls that failed for want of storage are counted
   pub counts : CountsReplyIf old.faults new.faults reply
+  -- only a message that was refused for want of storage leaves it so that it can't go on
+  pub was_open : IsTrue new.is_open → IsTrue old.is_open
+  pub stays_open : ¬ (reply ≡ Some (Refused Store)) → IsTrue old.is_open → IsTrue new.is_open
 
 -- `IsHandedOn` of the keeper of a server
 abbrev pub HandsOn : {R : Type 0} → (R → Custody) → ServerModel R → ServerModel R → ℤ → Option Stream → Option Reply

@@ -2,8 +2,6 @@
 use Rattle.std.specs.Prelude.{◌⊎◌, ℕ, ℤ, List, Option, Some, None}
 use Rattle.xa_http.specs.declared.message.Message.{Message}
 use Rattle.xa_records.specs.Kept.{IsChanged, Kept}
-use Rattle.xa_server.specs.declared.replies.Reply.{Reply}
-use Rattle.xa_server.specs.declared.replies.Reply.TheVariants.{Sent, Refused}
 use Rattle.xa_server.specs.Machine.{next_state, step}
 use Rattle.xa_server.specs.Owner.{owner}
 use Rattle.xa_server.specs.Served.{state}
@@ -21,8 +19,3 @@ IsStepMade old left moment message (Some domain) =
 abbrev pub LeavesStep : (Kept → Type 0) → (Kept → Type 0) → World → ℤ → Message → Type 0
 LeavesStep before after old moment message =
     (left : Kept) → after left → before left ⊎ IsStepMade old left moment message (owner message)
-
--- the claim holds, unless the message was refused
-abbrev pub IfSent : Reply → Type 0 → Type 0
-IfSent (Sent bytes) claim = claim
-IfSent (Refused failure) claim = Unit {0}

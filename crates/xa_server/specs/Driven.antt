@@ -26,6 +26,7 @@ use Rattle.xa_server.specs.ErrorCode.{code_of_session_fault, error_reply}
 use Rattle.xa_server.specs.Front.{FrontState}
 use Rattle.xa_server.specs.Lines.{IsOpen, Lines, line_at, with_line}
 use Rattle.xa_server.specs.Replies.{bytes_of}
+use Rattle.xa_server.specs.Served.{may_go_on}
 use Rattle.xa_server.specs.Transfers.{Grows, IsReadOn, IsWritten, IsWrittenWhole, ReadEnd, WriteEnd, bytes_read}
 use Rattle.xa_server.specs.Transfers.{bytes_taken, gave, unread}
 use Rattle.xa_server.specs.World.{ServerModel, ServerState, server_state}
@@ -93,11 +94,6 @@ abbrev pub AreSent : List (List ℕ) → List WriteEnd → Type 0
 AreSent [] writes = writes ≡ []
 AreSent (reply ∷ replies) writes =
     (first rest : List WriteEnd) × IsWrittenWhole reply first × AreSent replies rest × (writes ≡ first ++ rest)
-
--- whether a connection goes on after a reply, by whether the keeper is open then
-abbrev pub may_go_on : Reply → Bool → Bool
-may_go_on (Refused Store) is_open = is_open
-may_go_on _ is_open = true
 
 -- the connection could go on after each of the replies: after each refusal for want of storage the keeper was open;
 -- `old` and `new` say whether it is before the first and after the last

@@ -1,5 +1,5 @@
 -- Many connections over one server: what an answer is, and what one event after another does.
-use Rattle.std.specs.Prelude.{◌≡◌, ℤ, false, List, [], ◌∷◌, ◌++◌, Option, Some, None, Result, Ok, Err}
+use Rattle.std.specs.Prelude.{◌≡◌, ℤ, false, List, [], ◌∷◌, ◌++◌, Option, Some, None, Result, Ok, Err, IsTrue}
 use Rattle.xa_http.specs.declared.session.Next.{Next}
 use Rattle.xa_http.specs.declared.session.Next.TheVariants as next
 use Rattle.xa_http.specs.Messages.{IsNext}
@@ -37,6 +37,10 @@ front_is_sound custody front = (custody front.server.records).sound
 -- a front is clean if its keeper is: if the disk has given back what was written
 abbrev pub front_is_clean : {R : Type 0} → (R → Custody) → Front R → Type 0
 front_is_clean custody front = (custody front.server.records).clean
+
+-- a front can go on if its keeper can
+abbrev pub front_is_open : {R : Type 0} → (R → Custody) → Front R → Type 0
+front_is_open custody front = IsTrue (custody front.server.records).is_open
 
 -- the reply in the result of an answer, if there is one
 abbrev pub reply_in_result : Result (Option Answer) FrontError → Option Reply

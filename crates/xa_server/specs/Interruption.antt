@@ -1,13 +1,14 @@
 -- A list of messages that a crash interrupts: what of it is found when the server begins again.
-use Rattle.std.specs.Prelude.{◌≡◌, ◌≤◌, ℕ, List, [], ◌∷◌, ◌++◌, length, take}
+use Rattle.std.specs.Prelude.{◌≡◌, ◌≤◌, ℕ, true, List, [], ◌∷◌, ◌++◌, length, take, IsTrue}
+use Rattle.xa_records.specs.declared.refusal.Failure.TheVariants.{Store}
 use Rattle.xa_records.specs.Keeper.{Custody}
 use Rattle.xa_records.specs.Kept.{Kept, state_of}
 use Rattle.xa_server.specs.Alone.{Event, message_of, moment_of, own_events, state_after}
-use Rattle.xa_server.specs.Crash.{IfSent, LeavesStep}
+use Rattle.xa_server.specs.Crash.{LeavesStep}
 use Rattle.xa_server.specs.declared.replies.Reply.{Reply}
-use Rattle.xa_server.specs.declared.replies.Reply.TheVariants.{Sent, Refused}
+use Rattle.xa_server.specs.declared.replies.Reply.TheVariants.{Refused}
 use Rattle.xa_server.specs.Isolation.{answered_events}
-use Rattle.xa_server.specs.Served.{IsServed, state}
+use Rattle.xa_server.specs.Served.{IsServed, may_go_on, state}
 use Rattle.xa_server.specs.World.{ServerModel, World, world}
 
 -- each domain is in the state in which its own machine, used by it alone, leaves it after these messages
@@ -21,21 +22,21 @@ module _ {R : Type 0} (custody : R → Custody) where
     pub served : (custody new.records).sound
         → IsServed (world custody old) (world custody new) (moment_of event) (message_of event) reply
     pub clean : (custody new.records).clean → (custody old.records).clean
-    pub stays : (custody new.records).clean → (custody old.records).sound → IfSent reply (custody new.records).sound
+    pub stays : (custody new.records).clean → (custody old.records).sound → IsTrue (custody new.records).is_open
+        → (custody new.records).sound
+    pub stays_open : ¬ (reply ≡ Refused Store) → IsTrue (custody old.records).is_open
+        → IsTrue (custody new.records).is_open
     pub crash : (custody new.records).clean → (custody old.records).sound
         → LeavesStep (custody old.records).may_leave (custody new.records).may_leave (world custody old)
         (moment_of event) (message_of event)
 
-  -- the keeper stays sound after a message: that is asked after a refusal, and follows after any other reply
-  abbrev pub StaysSound : ServerModel R → Reply → Type 0
-  StaysSound new (Sent bytes) = Unit {0}
-  StaysSound new (Refused failure) = (custody new.records).sound
-
-  -- messages were served one after another, and after each of them the keeper stayed sound
+  -- messages were served one after another, and after each of them the keeper could go on: that is asked after a
+  -- refusal for want of storage, and is so after any other reply
   abbrev pub ServesAll : ServerModel R → List Event → List Reply → ServerModel R → Type 0
   ServesAll old [] [] new = new ≡ old
   ServesAll old (event ∷ events) (reply ∷ replies) new =
-      (mid : ServerModel R) × Serves old mid event reply × StaysSound mid reply × ServesAll mid events replies new
+      (mid : ServerModel R) × Serves old mid event reply × (may_go_on reply (custody mid.records).is_open ≡ true)
+      × ServesAll mid events replies new
   ServesAll old [] (_ ∷ _) new = ⊥
   ServesAll old (_ ∷ _) [] new = ⊥
 

@@ -65,3 +65,16 @@ TwoWorldsAgree =
     → AgreeOn domain first second first_events second_events
     → (replies_to domain first_events first_replies ≡ replies_to domain second_events second_replies)
     × (state domain first_after ≡ state domain second_after)
+
+-- the consequence for runs with refusals: they agree on the messages that were answered, and the replies to these are
+-- the same
+abbrev pub TwoWorldsAgreeBesideRefusals : Type 0
+TwoWorldsAgreeBesideRefusals =
+    (first first_after second second_after : World) (first_events second_events : List Event)
+    (first_replies second_replies : List Reply) (domain : List ℕ)
+    → IsRun first first_events first_replies first_after → IsRun second second_events second_replies second_after
+    → AgreeOn domain first second (answered_events first_events first_replies)
+    (answered_events second_events second_replies)
+    → (replies_to domain (answered_events first_events first_replies) (sent_replies first_replies)
+    ≡ replies_to domain (answered_events second_events second_replies) (sent_replies second_replies))
+    × (state domain first_after ≡ state domain second_after)

@@ -20,6 +20,7 @@ pub mod Connection
 pub mod Lines
 pub mod Front
 pub mod Fronting
+pub mod Serving
 pub mod FrontLaws
 pub mod Transfers
 pub mod Driven

@@ -1,5 +1,5 @@
 -- What serving does to a world: one message, and one after another.
-use Rattle.std.specs.Prelude.{◌≡◌, ℕ, ℤ, List, [], ◌∷◌, OnErr, Option, Some, None}
+use Rattle.std.specs.Prelude.{◌≡◌, ℕ, ℤ, Bool, true, List, [], ◌∷◌, OnErr, Option, Some, None}
 use Rattle.xa_http.specs.declared.message.Message.{Message}
 use Rattle.xa_records.specs.DomainState.{DomainState}
 use Rattle.xa_records.specs.declared.refusal.Failure.TheVariants.{Memory, Store}
@@ -46,6 +46,12 @@ abbrev pub CountsReply : ℕ → ℕ → Reply → Type 0
 CountsReply old new (Sent bytes) = new ≡ old
 CountsReply old new (Refused Memory) = new ≡ old
 CountsReply old new (Refused Store) = IsOneMore old new
+
+-- whether what follows a reply can go on: after any but a refusal for want of storage, and after that if the keeper is
+-- open then
+abbrev pub may_go_on : Reply → Bool → Bool
+may_go_on (Refused Store) is_open = is_open
+may_go_on _ is_open = true
 
 -- the server did these things with the messages of these events, one after another
 abbrev pub IsRun : World → List Event → List Reply → World → Type 0

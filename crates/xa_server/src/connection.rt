@@ -8,7 +8,8 @@
 ghost use Rattle.std.specs.Prelude.{◌≡◌, true, IfOk, OnErr, MatchResult, Ok, Some};
 ghost use Rattle.xa_http.specs.declared.session.Look.TheVariants as look;
 ghost use Rattle.xa_http.specs.Messages.{IsLook};
-ghost use Rattle.xa_server.specs.Connection.{AnswersNext, EndsBy, HandsOn, ServesFirst, TakesPiece};
+ghost use Rattle.xa_server.specs.Connection.{AnswersNext, EndsBy, HandsOn, HasNoFirst, ServesFirst};
+ghost use Rattle.xa_server.specs.Connection.{TakesPiece};
 ghost use Rattle.xa_server.specs.Connection.{answer_of, answered_by, empty_stream, reply_if, reply_in};
 ghost use Rattle.xa_server.specs.World.{server_state};
 
@@ -127,8 +128,8 @@ impl Connection {
     /// Has the first whole message that it holds answered by the server, at that moment, or the fault by
     /// which its stream ends; nothing if there is neither. The reply to a fault is the same at every
     /// moment. Without memory before the message is cut off, or for the reply to the fault, nothing has
-    /// changed.
-    #[tactic(auto, using(crate::proofs::NextLemmas::first_answered, crate::proofs::NextLemmas::fault_answered, crate::proofs::NextLemmas::none_answered, crate::proofs::NextLemmas::waits_answered, crate::proofs::NextLemmas::ended_answered, crate::proofs::NextLemmas::first_handed, crate::proofs::NextLemmas::fault_handed, crate::proofs::NextLemmas::none_handed))]
+    /// changed. If no message is whole the server isn't asked.
+    #[tactic(auto, using(crate::proofs::NextLemmas::first_answered, crate::proofs::NextLemmas::fault_answered, crate::proofs::NextLemmas::none_answered, crate::proofs::NextLemmas::waits_answered, crate::proofs::NextLemmas::ended_answered, crate::proofs::NextLemmas::first_handed, crate::proofs::NextLemmas::fault_handed, crate::proofs::NextLemmas::none_handed, crate::proofs::NextLemmas::message_first))]
     pub fn answer<R: Records>(
         &mut self,
         server: &mut Server<R>,
@@ -138,6 +139,7 @@ impl Connection {
             (server_state R.custody server.old) self.old result
             (server_state R.custody server.new) self.new }
         ensures err { OnErr result ((server.new ≡ server.old) × (self.new ≡ self.old)) }
+        ensures untouched { HasNoFirst (Some self.old) → server.new ≡ server.old }
         ensures handed { HandsOn R.custody server.old server.new moment (Some self.old) (reply_in result) }
     {
         match self.session.look()? {

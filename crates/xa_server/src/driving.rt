@@ -8,14 +8,15 @@
 //! 5. `answer_next`: what stands at the front of the stream? By a look, without a clock. A message is
 //!    answered at the clock's moment, a fault at any (`IsNextAnswered`).
 //! 6. `send_reply`: is the reply sent whole, and does the connection go on? (`IsReplySent`)
-ghost use Rattle.std.specs.Prelude.{◌≡◌, ◌<◌, ℕ, false, true, List, length, Option, Ok, Err};
+ghost use Rattle.std.specs.Prelude.{◌≡◌, ◌<◌, ℕ, false, true, IsTrue, List, length, Option, Ok, Err};
 ghost use Rattle.xa_http.specs.declared.session.Look.TheVariants as look;
 ghost use Rattle.xa_http.specs.Messages.{IsLook};
 ghost use Rattle.xa_server.specs.declared.drive_end.DriveEnd.TheVariants as drive_end;
-ghost use Rattle.xa_server.specs.Driven.{IsConnection, KeepsOpen, may_go_on, seen_by, situation};
-ghost use Rattle.xa_server.specs.Front.{front_state};
+ghost use Rattle.xa_server.specs.Driven.{IsConnection, KeepsOpen, seen_by, situation};
+ghost use Rattle.xa_server.specs.Front.{front_is_clean, front_is_open, front_is_sound, front_state};
 ghost use Rattle.xa_server.specs.handling.Driving.{IsFaultSent, IsNextAnswered, IsReplySent, Reaches};
 ghost use Rattle.xa_server.specs.handling.Driving.{ReadsOnce};
+ghost use Rattle.xa_server.specs.Served.{may_go_on};
 ghost use Rattle.xa_server.specs.Transfers.{ReadEnd};
 
 use crate::clock::Clock;
@@ -109,6 +110,11 @@ fn answer_next<R: Records, W: Writer, C: Clock>(
     ensures fewer { result ≡ Ok true → length connection.new.held < length connection.old.held }
     ensures shut { result ≡ Err drive_end.Shut → (R.custody server.new.records).is_open ≡ false }
     ensures sound { (R.custody server.new.records).sound → (R.custody server.old.records).sound }
+    ensures clean { (R.custody server.new.records).clean → (R.custody server.old.records).clean }
+    ensures stays { (R.custody server.new.records).clean → (R.custody server.old.records).sound
+        → IsTrue (R.custody server.new.records).is_open → (R.custody server.new.records).sound }
+    ensures was_open { IsTrue (R.custody server.new.records).is_open
+        → IsTrue (R.custody server.old.records).is_open }
 {
     match connection.look()? {
         Look::Message => {}
@@ -141,6 +147,11 @@ fn answer_held<R: Records, W: Writer, C: Clock>(
         (at server.new connection.new writer.new clock.new) }
     ensures shut { result ≡ Err drive_end.Shut → (R.custody server.new.records).is_open ≡ false }
     ensures sound { (R.custody server.new.records).sound → (R.custody server.old.records).sound }
+    ensures clean { (R.custody server.new.records).clean → (R.custody server.old.records).clean }
+    ensures stays { (R.custody server.new.records).clean → (R.custody server.old.records).sound
+        → IsTrue (R.custody server.new.records).is_open → (R.custody server.new.records).sound }
+    ensures was_open { IsTrue (R.custody server.new.records).is_open
+        → IsTrue (R.custody server.old.records).is_open }
 {
     while answer_next(server, connection, writer, clock)? {}
     Ok(())
@@ -185,6 +196,11 @@ fn drive_open<R: Records, I: Reader, W: Writer, C: Clock>(
         (at (I.remaining reader.new) (I.reads reader.new) server.new connection.new writer.new clock.new) }
     ensures shut { result ≡ Err drive_end.Shut → (R.custody server.new.records).is_open ≡ false }
     ensures sound { (R.custody server.new.records).sound → (R.custody server.old.records).sound }
+    ensures clean { (R.custody server.new.records).clean → (R.custody server.old.records).clean }
+    ensures stays { (R.custody server.new.records).clean → (R.custody server.old.records).sound
+        → IsTrue (R.custody server.new.records).is_open → (R.custody server.new.records).sound }
+    ensures was_open { IsTrue (R.custody server.new.records).is_open
+        → IsTrue (R.custody server.old.records).is_open }
 {
     let mut piece = [0; PIECE_BYTES];
     for _read in 0..MAX_READS {
@@ -215,8 +231,11 @@ pub fn drive<R: Records, I: Reader, W: Writer, C: Clock>(
         (seen (I.remaining reader.new) (I.reads reader.new) front.new.server writer.new clock.new) }
     ensures stays_open { KeepsOpen conn front.old.lines front.new.lines }
     ensures shut { result ≡ drive_end.Shut → (R.custody front.new.server.records).is_open ≡ false }
-    ensures sound { (R.custody front.new.server.records).sound
-        → (R.custody front.old.server.records).sound }
+    ensures sound { front_is_sound R.custody front.new → front_is_sound R.custody front.old }
+    ensures clean { front_is_clean R.custody front.new → front_is_clean R.custody front.old }
+    ensures stays { front_is_clean R.custody front.new → front_is_sound R.custody front.old
+        → front_is_open R.custody front.new → front_is_sound R.custody front.new }
+    ensures was_open { front_is_open R.custody front.new → front_is_open R.custody front.old }
 {
     let Some(connection) = front.lines.get_mut(conn) else {
         return DriveEnd::Ended;

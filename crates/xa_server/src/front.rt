@@ -3,13 +3,16 @@
 //! A front is a server beside its connections, and each of its calls is one of theirs: `Connection` has what
 //! is proved of it, and a front says that no other connection has changed. Who serves one connection alone
 //! borrows it (`lines`), and makes the same calls, as `drive` does. `play` makes a list of calls, by `step`.
-ghost use Rattle.std.specs.Prelude.{◌≡◌, [], ◌∷◌, IfOk, OnErr, MatchResult};
-ghost use Rattle.xa_server.specs.Connection.{CountsReplyIf, HandsOn, IfReplySent};
-ghost use Rattle.xa_server.specs.Front.{AnswersLine, IsPlayed, front_is_clean, front_is_sound, front_state};
-ghost use Rattle.xa_server.specs.Front.{reply_in_result};
-ghost use Rattle.xa_server.specs.Fronting.{CountsOutcomes, IfAllSent, reply_in_outcome};
+ghost use Rattle.std.specs.Prelude.{◌≡◌, [], ◌∷◌, IfOk, IsTrue, OnErr, MatchResult, Some};
+ghost use Rattle.xa_records.specs.declared.refusal.Failure.TheVariants.{Store};
+ghost use Rattle.xa_server.specs.Connection.{CountsReplyIf, HandsOn, HasNoFirst};
+ghost use Rattle.xa_server.specs.Front.{AnswersLine, IsPlayed, front_is_clean, front_is_open, front_is_sound};
+ghost use Rattle.xa_server.specs.Front.{front_state, reply_in_result};
+ghost use Rattle.xa_server.specs.Fronting.{CountsOutcomes, NoneRefusedByStore, reply_in_outcome};
 ghost use Rattle.xa_server.specs.FrontLaws.{LinesAreStreams, StepsArePlayed};
+ghost use Rattle.xa_server.specs.Serving.{PlaysServed};
 ghost use Rattle.xa_server.specs.Lines.{IsClosed, IsHeld, IsOpened, all_open, line_at, none_open};
+ghost use Rattle.xa_server.specs.declared.replies.Reply.TheVariants.{Refused};
 
 use crate::event::{Answer, Event, Outcome};
 use crate::front_error::FrontError;
@@ -102,6 +105,7 @@ impl<R: Records> Front<R> {
         ensures answered { AnswersLine (front_is_sound R.custody self.new) conn moment
             (front_state R.custody self.old) result (front_state R.custody self.new) }
         ensures err { OnErr result (self.new ≡ self.old) }
+        ensures untouched { HasNoFirst (line_at conn self.old.lines) → self.new.server ≡ self.old.server }
         ensures handed { HandsOn R.custody self.old.server self.new.server moment
             (line_at conn self.old.lines) (reply_in_result result) }
     {
@@ -127,10 +131,14 @@ impl<R: Records> Front<R> {
     pub fn step(&mut self, event: &Event<'_>) -> Outcome
         ensures played { IsPlayed (front_is_sound R.custody self.new) (front_state R.custody self.old)
             (front_state R.custody self.new) (event.now ∷ []) (result ∷ []) }
+        ensures served { PlaysServed R.custody self.old self.new (event.now ∷ []) (result ∷ []) }
         ensures sound { front_is_sound R.custody self.new → front_is_sound R.custody self.old }
         ensures clean { front_is_clean R.custody self.new → front_is_clean R.custody self.old }
         ensures stays { front_is_clean R.custody self.new → front_is_sound R.custody self.old
-            → IfReplySent (reply_in_outcome result) (front_is_sound R.custody self.new) }
+            → front_is_open R.custody self.new → front_is_sound R.custody self.new }
+        ensures was_open { front_is_open R.custody self.new → front_is_open R.custody self.old }
+        ensures stays_open { ¬ (reply_in_outcome result ≡ Some (Refused Store))
+            → front_is_open R.custody self.old → front_is_open R.custody self.new }
         ensures counts { CountsReplyIf (R.custody self.old.server.records).faults
             (R.custody self.new.server.records).faults (reply_in_outcome result) }
     {
@@ -149,11 +157,15 @@ impl<R: Records> Front<R> {
     pub fn play(&mut self, events: &[Event<'_>]) -> Result<Vec<Outcome>, AllocError>
         ensures played { IfOk result (λ outcomes. IsPlayed (front_is_sound R.custody self.new)
             (front_state R.custody self.old) (front_state R.custody self.new) events.now outcomes.items) }
+        ensures served { IfOk result (λ outcomes.
+            PlaysServed R.custody self.old self.new events.now outcomes.items) }
         ensures sound { front_is_sound R.custody self.new → front_is_sound R.custody self.old }
         ensures clean { front_is_clean R.custody self.new → front_is_clean R.custody self.old }
-        ensures stays { IfOk result (λ outcomes.
-            front_is_clean R.custody self.new → front_is_sound R.custody self.old
-            → IfAllSent outcomes.items (front_is_sound R.custody self.new)) }
+        ensures stays { front_is_clean R.custody self.new → front_is_sound R.custody self.old
+            → front_is_open R.custody self.new → front_is_sound R.custody self.new }
+        ensures was_open { front_is_open R.custody self.new → front_is_open R.custody self.old }
+        ensures stays_open { IfOk result (λ outcomes. NoneRefusedByStore outcomes.items
+            → front_is_open R.custody self.old → front_is_open R.custody self.new) }
         ensures counts { IfOk result (λ outcomes. CountsOutcomes (R.custody self.old.server.records).faults
             (R.custody self.new.server.records).faults outcomes.items) }
         ensures err { OnErr result (self.new ≡ self.old) }

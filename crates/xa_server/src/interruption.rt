@@ -8,7 +8,8 @@ impl<R: Records> Server<R> {
     /// Law: a crash in one of a list of messages, or after it, leaves for some k the states after the first
     /// k messages, once the keeper's storage is opened again. All that were answered are among these k.
     /// The message that the crash has met may be; those that were refused before it are as if they had
-    /// never come. The law rests on the clauses of `serve` alone.
+    /// never come. After each message before the last the keeper could go on, as `is_open` tells: after any
+    /// but a refusal for want of storage it always can. The law rests on the clauses of `serve` alone.
     pub fn keeps_what_was_answered(&self)
         ensures { KeepsAnswered R.custody self.now }
     {}

@@ -1,6 +1,8 @@
 //! The server: a keeper of all domains, one message after another.
-ghost use Rattle.std.specs.Prelude.{◌≡◌, IfOk, OnErr, MatchResult};
-ghost use Rattle.xa_server.specs.Isolation.{TwoWorldsAgree};
+ghost use Rattle.std.specs.Prelude.{◌≡◌, IfOk, IsTrue, OnErr, MatchResult};
+ghost use Rattle.xa_records.specs.declared.refusal.Failure.TheVariants.{Store};
+ghost use Rattle.xa_server.specs.Isolation.{TwoWorldsAgree, TwoWorldsAgreeBesideRefusals};
+ghost use Rattle.xa_server.specs.declared.replies.Reply.TheVariants.{Refused};
 ghost use Rattle.xa_server.specs.handling.Replying.{IsReplyOf};
 
 use crate::dispatch::reply_to_message;
@@ -47,10 +49,11 @@ impl<R: Records> Model for Server<R> {
 }
 
 impl<R: Records> Server<R> {
-    ghost use Rattle.xa_server.specs.Crash.{IfSent, LeavesStep};
+    ghost use Rattle.xa_server.specs.Crash.{LeavesStep};
     ghost use Rattle.xa_server.specs.Decisions.{nothing_cached};
     ghost use Rattle.xa_server.specs.Isolation.{IsIsolated, IsIsolatedBesideRefusals};
     ghost use Rattle.xa_server.specs.Served.{CountsReply, IsRun, IsServed};
+    ghost use Rattle.xa_server.specs.Serving.{AreServed};
     ghost use Rattle.xa_server.specs.Work.{IsWork, IsWorkOfRun};
     ghost use Rattle.xa_server.specs.World.{world};
 
@@ -80,15 +83,19 @@ impl<R: Records> Server<R> {
     /// Answers one message, by the machine of the domain that its path names. No other domain's state
     /// changes; after a refusal none has. It is refused for storage only if the keeper has counted a
     /// failure. If the keeper was sound before and the disk gave back what was written, a crash afterwards
-    /// leaves what a crash before could leave, or all with this one step made. After a reply the keeper is
-    /// then sound.
+    /// leaves what a crash before could leave, or all with this one step made; and the keeper is sound
+    /// still, unless it can't go on. Only a refusal for want of storage leaves it so.
     pub fn serve(&mut self, moment: Moment, message: &Message) -> Reply
         ensures served { (R.custody self.new.records).sound
             → IsServed (world R.custody self.old) (world R.custody self.new) moment message.now result }
         ensures sound { (R.custody self.new.records).sound → (R.custody self.old.records).sound }
         ensures clean { (R.custody self.new.records).clean → (R.custody self.old.records).clean }
         ensures stays { (R.custody self.new.records).clean → (R.custody self.old.records).sound
-            → IfSent result (R.custody self.new.records).sound }
+            → IsTrue (R.custody self.new.records).is_open → (R.custody self.new.records).sound }
+        ensures was_open { IsTrue (R.custody self.new.records).is_open
+            → IsTrue (R.custody self.old.records).is_open }
+        ensures stays_open { ¬ (result ≡ Refused Store) → IsTrue (R.custody self.old.records).is_open
+            → IsTrue (R.custody self.new.records).is_open }
         ensures crash { (R.custody self.new.records).clean → (R.custody self.old.records).sound
             → LeavesStep (R.custody self.old.records).may_leave (R.custody self.new.records).may_leave
             (world R.custody self.old) moment message.now }
@@ -115,7 +122,9 @@ impl<R: Records> Server<R> {
 
     /// Answers the messages one after another, each at its moment. Whatever the other domains do, each
     /// domain's replies are those of its own machine, used by it alone; with refusals, as if the refused
-    /// messages had never come. Room for all replies is taken first, and without it nothing is answered.
+    /// messages had never come. If the keeper ends shut, this holds of the messages up to the one after
+    /// which it was, if it was sound before them and the disk gave back what was written. Room for all
+    /// replies is taken first, and without it nothing is answered.
     pub fn run(&mut self, events: &[(Moment, Message)]) -> Result<Vec<Reply>, AllocError>
         ensures headline { IfOk result (λ replies. (R.custody self.new.records).sound
             → IsIsolated (world R.custody self.old) (world R.custody self.new) events.now replies.items) }
@@ -128,6 +137,8 @@ impl<R: Records> Server<R> {
             → IsWorkOfRun (world R.custody self.old) self.old.decisions events.now replies.items
             (world R.custody self.new) self.new.decisions) }
         ensures sound { (R.custody self.new.records).sound → (R.custody self.old.records).sound }
+        ensures served { IfOk result (λ replies.
+            AreServed R.custody self.old self.new events.now replies.items) }
         ensures err { OnErr result (self.new ≡ self.old) }
     {
         let mut replies = Vec::with_capacity(self.alloc, events.len())?;
@@ -267,7 +278,9 @@ fn reply_of(alloc: Global, answered: Result<Items<u8>, HandlingError>) -> Reply
 }
 
 /// The headline in two worlds: two runs with one operator, one beginning state of a domain and the same
-/// messages of its own give it the same replies, however the other domains differ.
+/// messages of its own give it the same replies, however the other domains differ. With refusals, that is so
+/// of the messages that were answered.
 pub fn two_worlds_agree()
-    ensures { TwoWorldsAgree }
+    ensures all_sent { TwoWorldsAgree }
+    ensures beside_refusals { TwoWorldsAgreeBesideRefusals }
 {}

@@ -1,11 +1,13 @@
 -- From what a change does to a connection to what it does to the keeper.
-use Rattle.std.proofs.Common.{◌≡◌, inl, inr, ℕ, Bool, false, List, Result, Ok, Err, IfOk, IsTrue, sym, subst}
+use Rattle.std.proofs.Common.{◌≡◌, inl, inr, ℕ, Bool, true, false, List, Result, Ok, Err, IfOk, IsTrue, refl, sym, ap, subst, ◌∙◌}
+use Rattle.std.specs.Prelude.{if◌then◌else◌, IsErrOf}
 use Rattle.xa_store.proofs.Common.{Database, Held, state, HasCleanDisk, Ghosts, Trees, clean_if_open, ChangeError, Change, Changes, IfAnswered, Leaves, Kept, IsMade, IsSoundStore, LeavesKept, IsKeepersStore, SameNow, kept_in}
-use Rattle.xa_records.specs.declared.refusal.ChangeError.TheVariants.{Failed, Refused}
+use Rattle.xa_records.specs.declared.refusal.ChangeError.TheVariants.{Failed}
+use Rattle.xa_records.specs.declared.refusal.Failure.TheVariants.{Store}
 use Rattle.xa_records.specs.Keeper.{Changing}
 use Rattle.xa_store.specs.Keeper.{Keeper, IsKeeper, IsSound}
 use Rattle.xa_store.specs.KeeperReading.{custody_by, kept_by}
-use Rattle.xa_store.specs.keeping.Health.{AnswersAs, TellsChange}
+use Rattle.xa_store.specs.keeping.Health.{TellsChange}
 use Rattle.xa_store.specs.keeping.Turns.{Turns}
 use Rattle.xa_store.proofs.KeeperReadingLemmas.{sound_store}
 use Rattle.xa_store.proofs.QuietLemmas.{ours_after}
@@ -13,22 +15,6 @@ use Rattle.xa_store.proofs.QuietLemmas.{ours_after}
 -- the trait's word of a change, if this is to be made of the domain of that name
 abbrev pub IsChanging : {S X : Type 0} → Ghosts S → Keeper S → Keeper S → Result X ChangeError → List ℕ → Change → Type 0
 IsChanging g old new r name change = Changing (custody_by g old) (custody_by g new) r name change
-
--- what is told is the change's answer
-answered_ok : {X : Type 0} (P : X → Type 0) (before : Bool) (done told : Result X ChangeError) → AnswersAs before done told → IfOk done P → IfOk told P
-answered_ok P before done (Ok x) is p = subst (λ r. IfOk r P) is p
-answered_ok P before done (Err e) is p = tt
-
-answered_stays : {X : Type 0} (P Q R : Type 0) (before : Bool) (done told : Result X ChangeError) → AnswersAs before done told → IfAnswered done P → IfAnswered told (P → Q) → (Q → R) → IfAnswered told R
-answered_stays P Q R before done (Ok x) is p stays last = last (stays (subst (λ r. IfAnswered r P) is p))
-answered_stays P Q R before done (Err (Refused e)) is p stays last = last (stays (subst (λ r. IfAnswered r P) is p))
-answered_stays P Q R before done (Err (Failed failure)) is p stays last = tt
-
-answered_changes : {X : Type 0} (old new : Kept) (name : List ℕ) (change : Change) (before : Bool) (done told : Result X ChangeError) → IsTrue before → AnswersAs before done told
-    → Changes old new done name change → Changes old new told name change
-answered_changes old new name change before done (Ok x) was is does = subst (λ r. Changes old new r name change) is does
-answered_changes old new name change before done (Err (Refused e)) was is does = subst (λ r. Changes old new r name change) is does
-answered_changes old new name change before done (Err (Failed failure)) was is does = subst (λ r. Changes old new r name change) (is was).1 does
 
 -- the change leaves the connection in the middle, and the look at its store after it
 module _ {S : Type 0} (g : Ghosts S) (shut : (s : S) → (g.view s).is_clean ≡ false → (g.view s).is_open ≡ false)
@@ -45,7 +31,7 @@ module _ {S : Type 0} (g : Ghosts S) (shut : (s : S) → (g.view s).is_clean ≡
   open_before up = turns.was_open (clean_middle up) (tells.looks.was_open up)
 
   ours_before : IsTrue ours → IsTrue (state g new).is_open → IsKeepersStore (state g old)
-  ours_before own up = was.0 own (open_before up)
+  ours_before own up = was own (open_before up)
 
   ours_middle : IsTrue ours → IsTrue (state g new).is_open → IsKeepersStore (state g middle)
   ours_middle own up = turns.ours (clean_middle up) (ours_before own up) (tells.looks.was_open up)
@@ -57,7 +43,7 @@ module _ {S : Type 0} (g : Ghosts S) (shut : (s : S) → (g.view s).is_clean ≡
   ours_new own up = ours_after (state g middle) (state g new) (ours_middle own up) (same_after own up)
 
   pub keeper_after : IsKeeper g (record { conn = new; had_only_our_tables = ours; is_open = after; faults = next })
-  keeper_after = (ours_new, λ up. tells.not_shut (was.1 (open_before up)) up)
+  keeper_after = ours_new
 
   sound_before : IsTrue ours → IsTrue (state g new).is_open → IsSoundStore (state g old)
   sound_before own up = let first = open_before up in sound_store (state g old) first (ours_before own up) (λ db may. settled old.store db first may)
@@ -65,10 +51,21 @@ module _ {S : Type 0} (g : Ghosts S) (shut : (s : S) → (g.view s).is_clean ≡
   sound_after : IsTrue ours → IsTrue (state g new).is_open → IsSoundStore (state g new)
   sound_after own up = sound_store (state g new) up (ours_new own up) (λ db may. settled new.store db up may)
 
-  does_so : IsTrue ours → IsTrue (state g new).is_open → Changes (kept_in (state g old).now.trees) (kept_in (state g new).now.trees) told name change
-  does_so own up =
+  -- while the keeper is open, what is told is the change's answer; once it is shut, it tells that its store failed
+  told_done : IsTrue after → told ≡ done
+  told_done on = tells.answers ∙ ap (λ (b : Bool). if b then done else Err (Failed Store)) on
+
+  open_unless_store : (b : Bool) → after ≡ b → ¬ IsErrOf told (Failed Store) → IsTrue after
+  open_unless_store true on other = on
+  open_unless_store false off other = absurd (other (tells.answers ∙ ap (λ (b : Bool). if b then done else Err (Failed Store)) off))
+
+  open_after : IsKeepersStore (state g old) → HasCleanDisk (state g new) → IsTrue after → IsTrue (state g new).is_open
+  open_after own clean on = tells.stays clean on (subst (λ (r : Result X ChangeError). IfAnswered r (IsTrue (state g middle).is_open)) (sym (told_done on)) (turns.stays (tells.looks.clean clean) own))
+
+  does_so : IsTrue ours → IsTrue after → IsTrue (state g new).is_open → Changes (kept_in (state g old).now.trees) (kept_in (state g new).now.trees) told name change
+  does_so own on up =
       subst (λ (d : Database). Changes (kept_in (state g old).now.trees) (kept_in d.trees) told name change) (sym (same_after own up).now)
-      (answered_changes (kept_in (state g old).now.trees) (kept_in (state g middle).now.trees) name change before done told (was.1 (open_before up)) tells.answers
+      (subst (λ (r : Result X ChangeError). Changes (kept_in (state g old).now.trees) (kept_in (state g middle).now.trees) r name change) (sym (told_done on))
       (turns.does (clean_middle up) (ours_before own up) (tells.looks.was_open up)))
 
   leaves_made : HasCleanDisk (state g new) → IsSoundStore (state g old) → Leaves (LeavesKept (state g old)) (LeavesKept (state g new)) (kept_in (state g old).now.trees) name change
@@ -79,17 +76,14 @@ module _ {S : Type 0} (g : Ghosts S) (shut : (s : S) → (g.view s).is_clean ≡
 
   pub is_changing : IsChanging g (record { conn = old; had_only_our_tables = ours; is_open = before; faults = faults }) (record { conn = new; had_only_our_tables = ours; is_open = after; faults = next }) told name change
   is_changing = record {
-    does = λ sound. does_so sound.0 sound.1.is_open;
-    sound = λ sound. (sound.0, sound_before sound.0 sound.1.is_open);
+    does = λ sound. does_so sound.0 sound.2 sound.1.is_open;
+    sound = λ sound. (sound.0, sound_before sound.0 sound.1.is_open, tells.was_open sound.2);
     clean = λ clean. turns.clean (tells.looks.clean clean);
-    stays = λ clean sound.
-        answered_stays (IsTrue (state g middle).is_open) (IsTrue (state g new).is_open) _ before done told tells.answers (turns.stays (tells.looks.clean clean) sound.1.ours) tells.stays
-        (λ up. (sound.0, sound_after sound.0 up));
+    stays = λ clean sound on. (sound.0, sound_after sound.0 (open_after sound.1.ours clean on), on);
     leaves = λ clean sound. leaves_made clean sound.1;
     faults = tells.counts;
     was_open = tells.was_open;
-    stays_open = tells.stays_open;
-    goes_on = λ clean sound failed is. (sound.0, sound_after sound.0 (tells.goes_on clean failed is));
+    stays_open = open_unless_store after refl;
   }
 
   -- of a keeper that is this one
@@ -103,4 +97,5 @@ module _ {S : Type 0} (g : Ghosts S) (shut : (s : S) → (g.view s).is_clean ≡
       → IsSound g (record { conn = new; had_only_our_tables = ours; is_open = after; faults = next }) → IfOk told (Says (kept_by g k))
   said_of k at Says says sound =
       subst (λ (k : Keeper S). IfOk told (Says (kept_by g k))) at
-      (let up = sound.1.is_open in answered_ok (Says (kept_in (state g old).now.trees)) before done told tells.answers (says (clean_middle up) (ours_before sound.0 up)))
+      (let up = sound.1.is_open in
+      subst (λ (r : Result X ChangeError). IfOk r (Says (kept_in (state g old).now.trees))) (sym (told_done sound.2)) (says (clean_middle up) (ours_before sound.0 up)))

@@ -1,6 +1,8 @@
 -- From what a query does to a connection to what a reading does to the keeper.
-use Rattle.std.proofs.Common.{◌≡◌, ℕ, Bool, false, Result, Ok, Err, IsTrue, IfOk, OnOk, sym, ap, subst, ◌∙◌}
+use Rattle.std.proofs.Common.{◌≡◌, ℕ, Bool, true, false, Result, Ok, Err, IsTrue, IfOk, OnOk, refl, sym, ap, subst, ◌∙◌}
+use Rattle.std.specs.Prelude.{if◌then◌else◌, IsErrOf}
 use Rattle.xa_store.proofs.Common.{Database, Held, state, State, HasCleanDisk, Ghosts, Trees, clean_if_open, Failure, Reads, Kept, OpensSoundly, IsSoundStore, IsKeepersStore, SameNow, kept_in}
+use Rattle.xa_records.specs.declared.refusal.Failure.TheVariants.{Store}
 use Rattle.xa_records.specs.Keeper.{Reading}
 use Rattle.xa_store.specs.Keeper.{Keeper, IsKeeper}
 use Rattle.xa_store.specs.KeeperReading.{custody_by, kept_by}
@@ -27,15 +29,6 @@ was_read : {X : Type 0} (old new : Kept) (r : Result X Failure) (there : X) → 
 was_read old new (Ok x) there is same = (is, same)
 was_read old new (Err e) there is same = same
 
--- what is told was read
-told_ok : {X : Type 0} (P : X → Type 0) (read told : Result X Failure) → IfOk told (λ x. read ≡ Ok x) → IfOk read P → IfOk told P
-told_ok P read (Ok x) is p = subst (λ r. IfOk r P) is p
-told_ok P read (Err e) is p = tt
-
-told_stays : {X : Type 0} (P Q R : Type 0) (read told : Result X Failure) → IfOk told (λ x. read ≡ Ok x) → OnOk read P → OnOk told (P → Q) → (Q → R) → OnOk told R
-told_stays P Q R read (Ok x) is p stays last = last (stays (subst (λ r. OnOk r P) is p))
-told_stays P Q R read (Err e) is p stays last = tt
-
 -- the reading leaves the connection in the middle, and the look at its store after it
 module _ {S : Type 0} (g : Ghosts S) (shut : (s : S) → (g.view s).is_clean ≡ false → (g.view s).is_open ≡ false)
     (settled : (s : S) (db : Trees) → IsTrue (g.view s).is_open → g.recovers s db → db ≡ (g.view s).committed) (old middle new : Held S) (ours before after : Bool) (faults next : ℕ)
@@ -48,10 +41,10 @@ module _ {S : Type 0} (g : Ghosts S) (shut : (s : S) → (g.view s).is_clean ≡
   open_before up = quiet.was_open (tells.looks.was_open up)
 
   same_middle : IsTrue ours → IsTrue (state g new).is_open → SameNow (state g old) (state g middle)
-  same_middle own up = quiet.same (tells.looks.clean (clean_up up)) (was.0 own (open_before up)).rests (tells.looks.was_open up)
+  same_middle own up = quiet.same (tells.looks.clean (clean_up up)) (was own (open_before up)).rests (tells.looks.was_open up)
 
   ours_middle : IsTrue ours → IsTrue (state g new).is_open → IsKeepersStore (state g middle)
-  ours_middle own up = ours_after (state g old) (state g middle) (was.0 own (open_before up)) (same_middle own up)
+  ours_middle own up = ours_after (state g old) (state g middle) (was own (open_before up)) (same_middle own up)
 
   same_after : IsTrue ours → IsTrue (state g new).is_open → SameNow (state g middle) (state g new)
   same_after own up = tells.looks.same (clean_up up) (ours_middle own up).rests up
@@ -60,13 +53,24 @@ module _ {S : Type 0} (g : Ghosts S) (shut : (s : S) → (g.view s).is_clean ≡
   ours_new own up = ours_after (state g middle) (state g new) (ours_middle own up) (same_after own up)
 
   pub keeper_after : IsKeeper g (record { conn = new; had_only_our_tables = ours; is_open = after; faults = next })
-  keeper_after = (ours_new, λ up. tells.not_shut (was.1 (open_before up)) up)
+  keeper_after = ours_new
 
   sound_before : IsTrue ours → IsTrue (state g new).is_open → IsSoundStore (state g old)
-  sound_before own up = let first = open_before up in sound_store (state g old) first (was.0 own first) (λ db may. settled old.store db first may)
+  sound_before own up = let first = open_before up in sound_store (state g old) first (was own first) (λ db may. settled old.store db first may)
 
   sound_after : IsTrue ours → IsTrue (state g new).is_open → IsSoundStore (state g new)
   sound_after own up = sound_store (state g new) up (ours_new own up) (λ db may. settled new.store db up may)
+
+  -- while the keeper is open, what is told was read; once it is shut, it tells that its store failed
+  told_read : IsTrue after → told ≡ read
+  told_read on = tells.answers ∙ ap (λ (b : Bool). if b then read else Err Store) on
+
+  open_unless_store : (b : Bool) → after ≡ b → ¬ IsErrOf told Store → IsTrue after
+  open_unless_store true on other = on
+  open_unless_store false off other = absurd (other (tells.answers ∙ ap (λ (b : Bool). if b then read else Err Store) off))
+
+  open_after : (HasCleanDisk (state g middle) → OnOk read (IsTrue (state g middle).is_open)) → HasCleanDisk (state g new) → IsTrue after → IsTrue (state g new).is_open
+  open_after opens clean on = tells.stays clean on (subst (λ (r : Result X Failure). OnOk r (IsTrue (state g middle).is_open)) (sym (told_read on)) (opens (tells.looks.clean clean)))
 
   pub is_reading : (there : Kept → X) → (HasCleanDisk (state g middle) → OnOk read (IsTrue (state g middle).is_open))
       → (HasCleanDisk (state g middle) → IsKeepersStore (state g old) → IfOk read (λ x. x ≡ there (kept_in (state g old).now.trees)))
@@ -76,17 +80,15 @@ module _ {S : Type 0} (g : Ghosts S) (shut : (s : S) → (g.view s).is_clean ≡
         let up = sound.1.is_open in
         let it = there (kept_in (state g old).now.trees) in
         was_read (kept_in (state g old).now.trees) (kept_in (state g new).now.trees) told it
-        (told_ok (λ x. x ≡ it) read told tells.answers (reads (tells.looks.clean (clean_up up)) (was.0 sound.0 (open_before up))))
+        (subst (λ (r : Result X Failure). IfOk r (λ x. x ≡ it)) (sym (told_read sound.2)) (reads (tells.looks.clean (clean_up up)) (was sound.0 (open_before up))))
         (ap (λ (d : Database). kept_in d.trees) ((same_after sound.0 up).now ∙ (same_middle sound.0 up).now));
-    sound = λ sound. (sound.0, sound_before sound.0 sound.1.is_open);
+    sound = λ sound. (sound.0, sound_before sound.0 sound.1.is_open, tells.was_open sound.2);
     clean = λ clean. quiet.clean (tells.looks.clean clean);
-    stays = λ clean sound.
-        told_stays (IsTrue (state g middle).is_open) (IsTrue (state g new).is_open) _ read told tells.answers (opens (tells.looks.clean clean)) tells.stays (λ up. (sound.0, sound_after sound.0 up));
+    stays = λ clean sound on. (sound.0, sound_after sound.0 (open_after opens clean on), on);
     leaves = λ clean sound left leaves. (leaves.0, quiet.crash (tells.looks.clean clean) sound.1.ours.rests leaves.0 (tells.looks.crash clean leaves.0 leaves.1), leaves.2);
     faults = tells.counts;
     was_open = tells.was_open;
-    stays_open = tells.stays_open;
-    goes_on = λ clean sound failed is. (sound.0, sound_after sound.0 (tells.goes_on clean failed is));
+    stays_open = open_unless_store after refl;
   }
 
   -- of a keeper that is this one

@@ -302,7 +302,7 @@ module _ {S : Type 0} (g : Ghosts S) (shut : (s : S) → (g.view s).is_clean ≡
   keeper tables = record { conn = last; had_only_our_tables = are_only_ours tables; is_open = true; faults = 0 }
 
   pub is_keeper : (tables : Tables) → Loads old (state g last) (Ok tables) → IsKeeper g (keeper tables)
-  is_keeper tables loads = (λ own up. loads.ours (clean_up up) own, λ up. refl)
+  is_keeper tables loads = λ own up. loads.ours (clean_up up) own
 
   pub opens_keeper : (tables : Tables) → Loads old (state g last) (Ok tables) → Rests old → Opens g old (Ok (keeper tables))
   opens_keeper tables loads rests clean =
@@ -321,7 +321,7 @@ module _ {S : Type 0} (g : Ghosts S) (shut : (s : S) → (g.view s).is_clean ≡
       (it.1, record { had_only_our_tables = it.0; is_open = refl; faults = refl }, made_nothing (state g last).now.trees it.1)
 
   pub sound_keeper : (tables : Tables) → Loads old (state g last) (Ok tables) → IsTrue (are_only_ours tables) → IsTrue (state g last).is_open → IsSound g (keeper tables)
-  sound_keeper tables loads own up = (own, sound_store (state g last) up (loads.ours (clean_up up) own) (λ db may. settled last.store db up may))
+  sound_keeper tables loads own up = (own, sound_store (state g last) up (loads.ours (clean_up up) own) (λ db may. settled last.store db up may), refl)
 
   pub settles_keeper : (tables : Tables) → Loads old (state g last) (Ok tables) → Settles g (keeper tables)
   settles_keeper tables loads own up = (sound_keeper tables loads own up).1.settled

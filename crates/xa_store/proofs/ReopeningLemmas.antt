@@ -1,9 +1,9 @@
 -- What a crash has left is our tables, if it doesn't leave just anything.
 use Rattle.std.proofs.Common.{◌≡◌, ◌↔◌, Bool, true, false, Result, Ok, Err, IsTrue, refl, sym, ap, ◌∙◌}
-use Rattle.xa_store.proofs.Common.{Database, state, State, IsLive, Ghosts, Trees, OpenError, Schema2, opened, OpensSoundly, schema_2, kept_in}
+use Rattle.xa_store.proofs.Common.{Database, state, State, IsLive, Ghosts, Trees, OpenError, Schema2, opened, OpensSoundly, IsSoundStore, schema_2, kept_in}
 use Rattle.sqlite_catalog.proofs.ReadLemmas.{lists_once}
 use Rattle.sqlite_trees.specs.Objects.{catalog_tree}
-use Rattle.xa_store.specs.Keeper.{Keeper, IsKeeper, IsSound}
+use Rattle.xa_store.specs.Keeper.{Keeper, IsKeeper}
 use Rattle.xa_store.specs.Reopening.{IsOverRest, LeavesNotAll, Reopens}
 use Rattle.xa_store.proofs.KeeperReadingLemmas.{sound_store}
 
@@ -36,6 +36,6 @@ reopens stopped new live is tells over limited = record {
   kept = (new.committed.trees, over.left, λ are. ap (λ (d : Database). kept_in d.trees) over.fresh.clean);
 }
 
-pub sound_while_open : {S : Type 0} (g : Ghosts S) → ((s : S) (db : Trees) → IsTrue (g.view s).is_open → g.recovers s db → db ≡ (g.view s).committed) → (k : Keeper S) → IsKeeper g k
-    → IsTrue k.had_only_our_tables → IsTrue (state g k.conn).is_open → IsSound g k
-sound_while_open g settled k was own up = (own, sound_store (state g k.conn) up (was.0 own up) (λ db may. settled k.conn.store db up may))
+pub store_while_open : {S : Type 0} (g : Ghosts S) → ((s : S) (db : Trees) → IsTrue (g.view s).is_open → g.recovers s db → db ≡ (g.view s).committed) → (k : Keeper S) → IsKeeper g k
+    → IsTrue k.had_only_our_tables → IsTrue (state g k.conn).is_open → IsSoundStore (state g k.conn)
+store_while_open g settled k was own up = sound_store (state g k.conn) up (was own up) (λ db may. settled k.conn.store db up may)

@@ -1,13 +1,18 @@
 -- Looking at a store, and what is told after that.
-use Rattle.std.proofs.Common.{◌≡◌, inl, inr, ⊎_elim, ℕ, [], List, Bool, true, false, Option, Some, None, Result, Ok, Err, IfErr, IfOk, IsOk, IsTrue, refl, sym, ap, subst, ◌∙◌, true≢false, arith}
-use Rattle.xa_store.proofs.Common.{Row, State, HasCause, HasCleanDisk, IsNoStatement, IsUnchanged, Survives, store_error, Error, Rests, SameNow}
+use Rattle.std.proofs.Common.{◌≡◌, inl, inr, ⊎_elim, ℕ, [], List, Bool, true, false, Result, Ok, Err, IfErr, IfOk, IsTrue, refl, ap, subst, ◌∙◌, arith}
+use Rattle.std.specs.Prelude.{if◌then◌else◌}
+use Rattle.xa_store.proofs.Common.{Row, State, HasCleanDisk, IsUnchanged, Survives, store_error, Error, ChangeError, Failure, Rests, SameNow}
 use Rattle.sqlite.specs.State.{IsNotRun}
 use Rattle.sqlite.specs.declared.error.Error.TheVariants.{SqliteFailure}
-use Rattle.sqlite.specs.declared.error.ErrorCode.TheVariants.{Closed}
+use Rattle.sqlite.specs.declared.error.ErrorCode.{ErrorCode}
+use Rattle.sqlite.specs.declared.error.ErrorCode.TheVariants as code
 use Rattle.sqlite_trees.specs.declared.error.StoreError.{StoreError}
 use Rattle.sqlite_trees.specs.declared.error.StoreError.TheVariants.{OutOfMemory, Io, Corrupt, Full, Broken, Unstorable}
-use Rattle.xa_store.specs.keeping.Health.{FailsToLook, Looks, Sees}
-use Rattle.xa_store.specs.keeping.Texts.{probe}
+use Rattle.xa_records.specs.declared.refusal.ChangeError.TheVariants.{Failed}
+use Rattle.xa_records.specs.declared.refusal.Failure.TheVariants.{Memory, Store}
+use Rattle.xa_records.specs.Keeper.{CountsChange, CountsReading}
+use Rattle.xa_store.specs.keeping.Health.{CountsFailure, FailsToLook, Looks, Sees, TellsChange, TellsFailure, TellsReading}
+use Rattle.xa_store.specs.keeping.Texts.{no_statement}
 use Rattle.xa_store.proofs.AskLemmas.{rolled_same, unchanged_same}
 
 -- ---- a statement that is prepared, or isn't
@@ -22,26 +27,20 @@ unfolding IsNotRun
 not_run_same old new sql params e rests (inl h) up = unchanged_same old new rests h.1
 not_run_same old new sql params e rests (inr h) up = rolled_same old new rests h.3 up
 
--- only a store that is shut is told to be
-broken_shut : (old new : State) (cause : StoreError) → SqliteFailure Closed ≡ store_error cause → HasCause old new ⊥ cause → old.is_open ≡ false
-broken_shut old new OutOfMemory is h = absurd cc
-broken_shut old new Io is h = absurd cc
-broken_shut old new Corrupt is h = absurd cc
-broken_shut old new Full is h = absurd cc
-broken_shut old new Broken is h = h
-broken_shut old new Unstorable is h = absurd cc
+-- the store's own errors are codes
+code_of : (cause : StoreError) → (code : ErrorCode) × (store_error cause ≡ SqliteFailure code)
+code_of OutOfMemory = (code.OutOfMemory, refl)
+code_of Io = (code.SystemIoFailure, refl)
+code_of Corrupt = (code.DatabaseCorrupt, refl)
+code_of Full = (code.DiskFull, refl)
+code_of Broken = (code.Closed, refl)
+code_of Unstorable = (code.TooBig, refl)
 
-closed_statement : (s : State) (sql : List ℕ) (params : Row) → ¬ IsNoStatement s sql params (SqliteFailure Closed)
-closed_statement s sql params (inl h) = absurd (let e = h.2 in cc)
-closed_statement s sql params (inr h) = elim h.2 [
-  | inl it ↦ absurd (let e = it.1 in cc)
-  | inr more ↦ elim more [ inl it ↦ absurd (let e = it.1 in cc) | inr it ↦ absurd (let e = it.1 in cc) ]
-]
-
-pub closed_shut : (old new : State) (sql : List ℕ) (params : Row) → IsNotRun old new sql params (SqliteFailure Closed) → ¬ IsTrue new.is_open
+-- a text that is refused for what it is leaves the store open
+refused_open : (old new : State) (sql : List ℕ) (params : Row) (e : Error) → ((code : ErrorCode) → ¬ (e ≡ SqliteFailure code)) → IsNotRun old new sql params e → IsTrue new.is_open
 unfolding IsNotRun
-closed_shut old new sql params (inl h) up = closed_statement old sql params h.0
-closed_shut old new sql params (inr h) up = true≢false (sym (h.3.was_open up) ∙ broken_shut old new h.0 h.1 h.2)
+refused_open old new sql params e other (inl h) = h.1.0.is_open
+refused_open old new sql params e other (inr h) = let at = code_of h.0 in absurd (other at.0 (h.1 ∙ at.1))
 
 module _ {X : Type 0} (P : X → Type 0) (old new : State) (sql : List ℕ) where
   prepared_open : (r : Result X Error) → IfOk r (λ x. P x × IsUnchanged old new) → IfErr r (λ e. (params : Row) → IsNotRun old new sql params e) → IsTrue new.is_open → IsTrue old.is_open
@@ -61,22 +60,63 @@ module _ {X : Type 0} (P : X → Type 0) (old new : State) (sql : List ℕ) wher
     crash = λ clean db may. ⊎_elim (λ was. was) (λ none. absurd none) (survives.crash clean db may);
   }
 
-  open_then : (r : Result X Error) → IsOk r → IfOk r (λ x. P x × IsUnchanged old new) → IsTrue new.is_open
-  open_then (Ok x) is fine = fine.1.0.is_open
-  open_then (Err e) is fine = absurd cc
+  answered_open : (r : Result X Error) → ((code : ErrorCode) → ¬ (r ≡ Err (SqliteFailure code))) → IfOk r (λ x. P x × IsUnchanged old new) → IfErr r (λ e. (params : Row) → IsNotRun old new sql params e)
+      → IsTrue new.is_open
+  answered_open (Ok x) other fine none = fine.1.0.is_open
+  answered_open (Err e) other none not = refused_open old new sql [] e (λ code is. other code (ap Err is)) (not [])
 
-  pub prepared_sees : (IsTrue new.is_open → HasCleanDisk new) → (r : Result X Error) → (HasCleanDisk new → IfOk r (λ x. P x × IsUnchanged old new))
-      → (HasCleanDisk new → IfErr r (λ e. (params : Row) → IsNotRun old new sql params e)) → (seen : Option Bool) → (seen ≡ Some true → IsOk r)
-      → (seen ≡ Some false → r ≡ Err (SqliteFailure Closed)) → Sees new seen
-  prepared_sees clean_up r ok err None opened shut = tt
-  prepared_sees clean_up r ok err (Some true) opened shut = (λ is clean. open_then r (opened refl) (ok clean), λ up. refl)
-  prepared_sees clean_up r ok err (Some false) opened shut = (
-    λ is. absurd cc,
-    λ up. absurd (closed_shut old new sql [] (subst (λ (r2 : Result X Error). IfErr r2 (λ e. (params : Row) → IsNotRun old new sql params e)) (shut refl) (err (clean_up up)) []) up),
-  )
+-- a look at the store, by what a text was answered that is no statement
+pub prepared_sees : {X : Type 0} (P : X → Type 0) (old new : State) (r : Result X Error) → (HasCleanDisk new → IfOk r (λ x. P x × IsUnchanged old new))
+    → (HasCleanDisk new → IfErr r (λ e. (params : Row) → IsNotRun old new no_statement params e)) → (is : Bool) → (IsTrue is → (code : ErrorCode) → ¬ (r ≡ Err (SqliteFailure code)))
+    → (is ≡ false → (code : ErrorCode) × (r ≡ Err (SqliteFailure code))) → Sees old new is
+prepared_sees P old new r ok err true opened failed = λ clean. answered_open P old new no_statement r (opened refl) (ok clean) (err clean)
+prepared_sees {X} P old new r ok err false opened failed = λ clean.
+    let at = failed refl in
+    (at.0, subst (λ (r2 : Result X Error). IfErr r2 (λ e. (params : Row) → IsNotRun old new no_statement params e)) at.1 (err clean))
 
--- a look that sees nothing has failed, otherwise than at a shut store
-pub prepared_unseen : {X : Type 0} (old new : State) (r : Result X Error) → IfErr r (λ e. (params : Row) → IsNotRun old new probe params e) → (seen : Option Bool)
-    → (IsOk r → seen ≡ Some true) → (r ≡ Err (SqliteFailure Closed) → seen ≡ Some false) → seen ≡ None → FailsToLook old new
-prepared_unseen old new (Ok x) err seen opened shut none = absurd (let there = sym none ∙ opened refl in cc)
-prepared_unseen old new (Err e) err seen opened shut none = (e, (λ closed. absurd (let there = sym none ∙ shut (ap Err closed) in cc)), err)
+-- ---- what is told of a failure
+
+seen_open : (old new : State) (after : Bool) → Sees old new after → HasCleanDisk new → IsTrue after → IsTrue new.is_open
+seen_open old new true sees clean on = sees clean
+seen_open old new false sees clean on = absurd cc
+
+seen_failed : (old new : State) (after : Bool) → Sees old new after → after ≡ false → HasCleanDisk new → FailsToLook old new
+seen_failed old new true sees off clean = absurd cc
+seen_failed old new false sees off clean = sees clean
+
+module _ (old new : State) (after : Bool) (faults next : ℕ) (met told : Failure) (looks : Looks old new) (tells : TellsFailure old new after faults next met told) where
+  reading_is : {X : Type 0} (b : Bool) → told ≡ (if b then met else Store) → ◌≡◌ {A = Result X Failure} (Err told) (if b then Err met else Err Store)
+  reading_is true is = ap Err is
+  reading_is false is = ap Err is
+
+  reading_counts : {X : Type 0} (f : Failure) → CountsFailure faults next f → CountsReading {X = X} faults next (Err f)
+  reading_counts Memory counts = counts
+  reading_counts Store counts = counts
+
+  pub failed_reading : {X : Type 0} → TellsReading {X = X} old new true after faults next (Err met) (Err told)
+  failed_reading = record {
+    looks = looks;
+    answers = reading_is after tells.answers;
+    counts = reading_counts told tells.counts;
+    was_open = λ on. refl;
+    stays = λ clean on none. seen_open old new after tells.sees clean on;
+    shuts = λ was off clean. seen_failed old new after tells.sees off clean;
+  }
+
+  change_is : {X : Type 0} (b : Bool) → told ≡ (if b then met else Store) → ◌≡◌ {A = Result X ChangeError} (Err (Failed told)) (if b then Err (Failed met) else Err (Failed Store))
+  change_is true is = ap (λ f. Err (Failed f)) is
+  change_is false is = ap (λ f. Err (Failed f)) is
+
+  change_counts : {X : Type 0} (f : Failure) → CountsFailure faults next f → CountsChange {X = X} faults next (Err (Failed f))
+  change_counts Memory counts = counts
+  change_counts Store counts = counts
+
+  pub failed_change : {X : Type 0} → TellsChange {X = X} old new true after faults next (Err (Failed met)) (Err (Failed told))
+  failed_change = record {
+    looks = looks;
+    answers = change_is after tells.answers;
+    counts = change_counts told tells.counts;
+    was_open = λ on. refl;
+    stays = λ clean on none. seen_open old new after tells.sees clean on;
+    shuts = λ was off clean. seen_failed old new after tells.sees off clean;
+  }

@@ -205,5 +205,5 @@ pub(crate) const ROLLBACK: &str = "ROLLBACK";
 
 // ---- The look at a store
 
-/// A statement that is prepared and never run: it tells whether the store is open.
-pub(crate) const PROBE: &str = "SELECT 1";
+/// A text that is no statement: an open store refuses it as such, and takes no memory to do so.
+pub(crate) const NO_STATEMENT: &str = "look";

@@ -254,6 +254,8 @@ impl<R: Records> Records for FailingRecords<R> {
 
     ghost numbered = { λ t. R.numbered t.inner };
 
+    ghost open_if_sound = { λ t. R.open_if_sound t.inner };
+
     ghost settled = { λ t. R.settled t.inner };
 }
 

@@ -1,5 +1,5 @@
 //! The keeper in memory.
-ghost use Rattle.std.specs.Prelude.{◌≡◌, ◌≤◌, ◌^◌, ◌⊎◌, IfOk, IsErrOf};
+ghost use Rattle.std.specs.Prelude.{◌≡◌, ◌≤◌, ◌^◌, ◌⊎◌, IfOk, IsErrOf, refl};
 ghost use Rattle.xa_records.specs.declared.refusal.ChangeError.TheVariants.{Failed};
 ghost use Rattle.xa_records.specs.declared.refusal.Failure.TheVariants.{Store};
 ghost use Rattle.xa_records.specs.Changes.{activity_set, created, deleted, removed, root_set, source_set};
@@ -256,6 +256,8 @@ impl Records for PlainRecords {
     fn keeps_documents(&self) {}
 
     ghost numbered = { λ r _. r.numbered };
+
+    ghost open_if_sound = { λ _ _. refl };
 
     ghost settled = { λ _ _ _ left. absurd left };
 }

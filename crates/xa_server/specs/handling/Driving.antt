@@ -10,9 +10,10 @@ use Rattle.xa_http.specs.Stream.{Stream, fed}
 use Rattle.xa_server.specs.declared.drive_end.DriveEnd.{DriveEnd}
 use Rattle.xa_server.specs.declared.drive_end.DriveEnd.TheVariants.{Ended, ReadFault, WriteFault, Memory, Shut}
 use Rattle.xa_server.specs.declared.replies.Reply.{Reply}
-use Rattle.xa_server.specs.Driven.{HasAnswered, IsDrivenWithin, IsWaiting, Situation, may_go_on}
+use Rattle.xa_server.specs.Driven.{HasAnswered, IsDrivenWithin, IsWaiting, Situation}
 use Rattle.xa_server.specs.ErrorCode.{code_of_session_fault, error_reply}
 use Rattle.xa_server.specs.Replies.{bytes_of}
+use Rattle.xa_server.specs.Served.{may_go_on}
 use Rattle.xa_server.specs.Transfers.{Grows, IsReadOn, IsWritten, ReadEnd, WriteEnd, bytes_read, gave, unread}
 
 -- ---- one read

@@ -1,5 +1,6 @@
 -- How a message is answered, and what is told of the keeper after a part of it.
 use Rattle.std.specs.Prelude.{◌≡◌, ◌⊎◌, ℕ, List, OnErr, Option, Some, None, option_and_then, Result, Ok, Err}
+use Rattle.std.specs.Prelude.{IsErrOf, IsTrue}
 use Rattle.xa_http.specs.declared.route.Route.{Route}
 use Rattle.xa_http.specs.Routes.{named_by}
 use Rattle.xa_records.specs.declared.refusal.Failure.TheVariants.{Memory, Store}
@@ -90,12 +91,6 @@ IsReplyOf (Err (Error code)) reply = (reply ≡ Sent (error_reply code)) ⊎ (re
 
 -- ---- what a crash may leave
 
--- the claim holds, unless the message failed
-abbrev pub IfTold : {X : Type 0} → Result X HandlingError → Type 0 → Type 0
-IfTold (Ok x) claim = claim
-IfTold (Err (Error code)) claim = claim
-IfTold (Err (Failed failure)) claim = Unit {0}
-
 -- a crash leaves nothing that it might not have left before
 abbrev pub LeavesNoMore : (Kept → Type 0) → (Kept → Type 0) → Type 0
 LeavesNoMore before after = (left : Kept) → after left → before left
@@ -133,11 +128,14 @@ pub record Keeping {X : Type 0} (old new : Custody) (result : Result X HandlingE
   -- if the keeper is sound, it was; if the disk has given back what was written, it had before
   pub sound : new.sound → old.sound
   pub clean : new.clean → old.clean
-  -- the keeper stays sound, unless the part failed, if it was sound and the disk has given back what was written
-  pub stays : new.clean → old.sound → IfTold result new.sound
+  -- the keeper stays sound while it can go on, if it was sound and the disk has given back what was written
+  pub stays : new.clean → old.sound → IsTrue new.is_open → new.sound
   pub leaves : new.clean → old.sound → leaves_so
   -- the keeper's calls that failed for want of storage are counted
   pub counts : Counts old.faults new.faults result
+  -- only a part that failed for want of storage leaves it so that it can't go on
+  pub was_open : IsTrue new.is_open → IsTrue old.is_open
+  pub stays_open : ¬ IsErrOf result (Failed Store) → IsTrue old.is_open → IsTrue new.is_open
 
 -- the keeper was asked to read, or wasn't asked: a crash leaves nothing that it might not have left before
 abbrev pub OnlyReads : {X : Type 0} → Custody → Custody → Result X HandlingError → Type 0

@@ -1,6 +1,6 @@
 -- The statements, but those of the check (`Check`), of which `meta_rows` alone stands here. Contracts cite those
--- that make and migrate tables, `show_document` and `probe`; proofs cite the others. A number that a statement has
--- first is the domain's.
+-- that make and migrate tables, `show_document` and `no_statement`; proofs cite the others. A number that a statement
+-- has first is the domain's.
 use Rattle.std.specs.Prelude.{ℕ, List, codes}
 
 -- ---- the tables are made
@@ -136,5 +136,5 @@ add_source_row =
 
 -- ---- a look at the store
 
-abbrev pub probe : List ℕ
-probe = codes "SELECT 1"
+abbrev pub no_statement : List ℕ
+no_statement = codes "look"

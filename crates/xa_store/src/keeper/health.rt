@@ -1,23 +1,21 @@
-//! Whether the keeper can go on. If a call fails with `Store`, the store is looked at, and the failure is
-//! counted, unless the look saw nothing.
-ghost use Rattle.std.specs.Prelude.{◌≡◌, ◌↔◌, true, false, Err, IsOk, IsTrue, None, Some};
+//! Whether the keeper can go on. If a call fails, the store is looked at: one that failed for want of memory
+//! may have shut the store, too. A look that fails shuts the keeper, whatever its store is.
+ghost use Rattle.std.specs.Prelude.{◌≡◌, true, false, Err, IsTrue};
 ghost use Rattle.sqlite.specs.Held.{state};
-ghost use Rattle.sqlite.specs.State.{HasCleanDisk};
 ghost use Rattle.sqlite.specs.declared.error.Error.TheVariants.{SqliteFailure};
-ghost use Rattle.sqlite.specs.declared.error.ErrorCode.TheVariants.{Closed};
-ghost use Rattle.xa_records.specs.declared.refusal.Failure.TheVariants.{Store};
+ghost use Rattle.sqlite.specs.declared.error.ErrorCode.{ErrorCode};
 ghost use Rattle.xa_records.specs.Keeper.{IsOneMore};
-ghost use Rattle.xa_store.specs.keeping.Health.{FailsToLook, Looks, Sees, TellsChange, TellsFailure};
+ghost use Rattle.xa_store.specs.keeping.Health.{CountsFailure, Looks, Sees, TellsChange, TellsFailure};
 ghost use Rattle.xa_store.specs.keeping.Health.{TellsReading};
 
 use crate::sql;
-use sqlite::{Alter, Connection, Error, ErrorCode, Statement};
+use sqlite::{Alter, Connection, Error, Statement};
 use xa_records::{ChangeError, Failure};
 
 /// What is known of a keeper's store.
 #[derive(Clone, Copy, Debug)]
 pub(crate) struct Health {
-    /// Whether it is open, as far as was seen.
+    /// Whether the keeper can go on: no look at the store has failed.
     pub(crate) is_open: bool,
     /// How many calls have failed with `Store`.
     pub(crate) faults: u64,
@@ -42,40 +40,40 @@ impl Health {
         self.faults = self.faults.saturating_add(1);
     }
 
-    /// Looks whether the store is open still, and counts the failure. If the look sees nothing, it answers
-    /// `Memory`, and counts nothing.
-    fn after_store_failure<S: Alter>(&mut self, conn: &mut Connection<S>) -> Failure
-        requires { IsTrue self.old.is_open }
-        ensures looks { Looks (state S.Store conn.old) (state S.Store conn.new) }
-        ensures tells { TellsFailure (state S.Store conn.old) (state S.Store conn.new) self.new.is_open
-            self.old.faults self.new.faults Store result }
+    /// Counts the failure if it is one of the store.
+    fn note(&mut self, failure: Failure) -> Failure
+        ensures same { result ≡ failure }
+        ensures counts { CountsFailure self.old.faults self.new.faults result }
+        ensures keeps { self.new.is_open ≡ self.old.is_open }
     {
-        match look(conn) {
-            Some(is_open) => {
+        match failure {
+            Failure::Memory => Failure::Memory,
+            Failure::Store => {
                 self.count_failure();
-                self.is_open = is_open;
                 Failure::Store
             }
-            None => Failure::Memory,
         }
     }
 
-    /// What is told of a failure.
+    /// What is told of a failure, once the store was looked at: what it was, if the store is open. If the
+    /// look fails, the keeper is shut, and the store is told to have failed.
     fn after_failure<S: Alter>(&mut self, conn: &mut Connection<S>, failure: Failure) -> Failure
         requires { IsTrue self.old.is_open }
         ensures looks { Looks (state S.Store conn.old) (state S.Store conn.new) }
         ensures tells { TellsFailure (state S.Store conn.old) (state S.Store conn.new) self.new.is_open
             self.old.faults self.new.faults failure result }
     {
-        match failure {
-            Failure::Memory => Failure::Memory,
-            Failure::Store => self.after_store_failure(conn),
+        if look(conn) {
+            return self.note(failure);
         }
+        self.is_open = false;
+        self.note(Failure::Store)
     }
 
-    /// What is told of a reading. If it failed with `Store`, the store is looked at first. Each call of a
-    /// shut keeper fails with `Store`, and is counted. The reading was made all the same: a shut store
-    /// answers its first query by `Closed`, at once, and does nothing.
+    /// What is told of a reading. If it failed, the store is looked at first. Each call of a shut keeper
+    /// fails with `Store`, and is counted. The reading was made all the same: a shut store answers its first
+    /// query by `Closed`, at once, and does nothing.
+    #[tactic(auto, using(crate::proofs::StandingLemmas::failed_reading))]
     pub(crate) fn after_reading<S: Alter, X: Drop>(
         &mut self,
         conn: &mut Connection<S>,
@@ -95,6 +93,7 @@ impl Health {
     }
 
     /// What is told of a change, as of a reading. A change of a shut keeper ends at its first query, too.
+    #[tactic(auto, using(crate::proofs::StandingLemmas::failed_change))]
     pub(crate) fn after_change<S: Alter, X: Drop>(
         &mut self,
         conn: &mut Connection<S>,
@@ -117,27 +116,25 @@ impl Health {
     }
 }
 
-/// Whether the store is open, by the answer to a statement that was to be prepared. Each call of a shut
-/// store is answered by `Closed`, before anything else is looked at. Any other error tells nothing.
-fn open_state_of(prepared: Result<Statement, Error>) -> Option<bool>
-    ensures opened { (result ≡ Some true) ↔ IsOk prepared }
-    ensures shut { (result ≡ Some false) ↔ (prepared ≡ Err (SqliteFailure Closed)) }
+/// Whether a store is open, by its answer to a text that was to be prepared. A shut one answers `Closed`,
+/// before it reads the text, and an open one tells what the text is.
+fn is_open_by(prepared: Result<Statement, Error>) -> bool
+    ensures opened { IsTrue result → (code : ErrorCode) → ¬ (prepared ≡ Err (SqliteFailure code)) }
+    ensures failed { result ≡ false → (code : ErrorCode) × (prepared ≡ Err (SqliteFailure code)) }
 {
     match prepared {
-        Ok(_) => Some(true),
-        Err(Error::SqliteFailure(ErrorCode::Closed)) => Some(false),
-        Err(_) => None,
+        Ok(_) => true,
+        Err(Error::SqliteFailure(_)) => false,
+        Err(_) => true,
     }
 }
 
-/// Whether the store is open. None if the look failed, but not because the store is shut: for want of
-/// memory, say.
-fn look<S: Alter>(conn: &mut Connection<S>) -> Option<bool>
+/// Looks whether the store is open. It isn't, or the look has failed, if the answer is no. The text is no
+/// statement, and so no memory is taken for it.
+fn look<S: Alter>(conn: &mut Connection<S>) -> bool
     ensures looks { Looks (state S.Store conn.old) (state S.Store conn.new) }
-    ensures sees { Sees (state S.Store conn.new) result }
-    ensures unseen { result ≡ None → HasCleanDisk (state S.Store conn.new)
-        → FailsToLook (state S.Store conn.old) (state S.Store conn.new) }
+    ensures sees { Sees (state S.Store conn.old) (state S.Store conn.new) result }
 {
-    let prepared = conn.prepare(sql::PROBE);
-    open_state_of(prepared)
+    let prepared = conn.prepare(sql::NO_STATEMENT);
+    is_open_by(prepared)
 }

@@ -5,6 +5,7 @@ ghost use Rattle.sqlite.specs.Held.{state};
 ghost use Rattle.xa_store.specs.Keeper.{IsSound};
 ghost use Rattle.xa_store.specs.Opened.{opened};
 ghost use Rattle.xa_store.specs.Reopening.{Reopens};
+ghost use Rattle.xa_store.specs.Sound.{IsSoundStore};
 ghost use Rattle.xa_store.specs.declared.schema.version.SchemaVersion.TheVariants.{Schema2};
 
 use crate::keeper::SqlRecords;
@@ -12,18 +13,22 @@ use crate::schema::shape::is_schema_2;
 use sqlite::{Alter, Connection};
 
 impl<S: Alter> SqlRecords<S> {
-    /// Law: while its store is open, a keeper whose store had a keeper's tables and no others is sound.
+    /// Law: while its store is open, the store of a keeper that had a keeper's tables and no others is
+    /// sound; and so is the keeper, if it can go on.
     pub fn stays_sound_while_open(&self)
-        ensures { IsTrue self.now.had_only_our_tables → IsTrue (state S.Store self.now.conn).is_open
-            → IsSound S.Store self.now }
+        ensures store { IsTrue self.now.had_only_our_tables → IsTrue (state S.Store self.now.conn).is_open
+            → IsSoundStore (state S.Store self.now.conn) }
+        ensures keeper { IsTrue self.now.had_only_our_tables → IsTrue (state S.Store self.now.conn).is_open
+            → IsTrue self.now.is_open → IsSound S.Store self.now }
     {
         // For the proof: what the invariant says of the fields.
         let _tables = self.tables;
     }
 
-    /// Law: the tables of a sound keeper open again.
+    /// Law: the tables of a keeper whose store is sound open again.
     pub fn opens_again(&self)
-        ensures { IsSound S.Store self.now → opened Schema2 (state S.Store self.now.conn).now.trees ≡ Ok tt }
+        ensures { IsSoundStore (state S.Store self.now.conn)
+            → opened Schema2 (state S.Store self.now.conn).now.trees ≡ Ok tt }
     {}
 
     /// Law: a connection that was just opened over what a crash of this keeper has left rests on a

@@ -20,6 +20,8 @@ impl<S: Alter> Records for SqlRecords<S> {
 
     ghost numbered = { λ r is. is.1.ours.domains.numbered };
 
+    ghost open_if_sound = { λ r is. is.2 };
+
     ghost settled = { λ r is left leaves.
         leaves.2 (is.1.settled leaves.0 leaves.1).0 ∙ (is.1.settled leaves.0 leaves.1).1 };
 

@@ -3,4 +3,4 @@ use Rattle.pdpd.proofs.BeginningLemmas.{all_left_in}
 use Rattle.pdpd.proofs.store.close_records.Goals as goal
 
 pub returns-clause-closed : goal.returns-clause-closed
-returns-clause-closed g c = all_left_in c.args.records c.into_connection.result c.close.result c.into_connection.ensures (search rules) c.stays_sound_while_open.ensures c.close.ensures.copied
+returns-clause-closed g c = all_left_in c.args.records c.into_connection.result c.close.result c.into_connection.ensures (search rules) (search rules) c.stays_sound_while_open.ensures.keeper c.close.ensures.copied

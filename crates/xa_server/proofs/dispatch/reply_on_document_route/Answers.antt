@@ -9,3 +9,24 @@ returns-clause-shared g c = record {
   decisions = search rules;
   views = search rules;
 }
+
+pub returns-clause-handled : goal.returns-clause-handled
+returns-clause-handled g c =
+    let admits = c.in_ok-admit.ensures.keeper in
+    let does = c.by_document_command.ensures.keeper in
+    record {
+      answers = λ sound. search rules;
+      keeper = record {
+        sound = λ sound. admits.sound (does.sound sound);
+        clean = λ clean. admits.clean (does.clean clean);
+        stays = λ clean sound on. does.stays clean (admits.stays (does.clean clean) sound (does.was_open on)) on;
+        leaves = λ clean sound.
+            let on = admits.stays_open (λ failed. absurd cc) (g.met.R.Records.open_if_sound c.args.records.now sound) in
+            let left = does.leaves clean (admits.stays (does.clean clean) sound on) in
+            let less = admits.leaves (does.clean clean) sound in
+            search (rules, left, less);
+        counts = search rules;
+        was_open = λ on. admits.was_open (does.was_open on);
+        stays_open = λ other on. does.stays_open other (admits.stays_open (λ failed. absurd cc) on);
+      };
+    }

@@ -2,11 +2,11 @@ use Rattle.std.proofs.Common.{rules, ◌≡◌, ℕ, List, Result, Err, refl, ap
 use Rattle.std.specs.Option.{option_and_then}
 use Rattle.xa_http.specs.Routes.{named_by}
 use Rattle.xa_server.specs.declared.handling_error.HandlingError.{HandlingError}
-use Rattle.xa_server.specs.handling.Replying.{AnswersMessage, Counts, IfTold, LeavesMessage}
+use Rattle.xa_server.specs.handling.Replying.{AnswersMessage, Counts, LeavesMessage}
 use Rattle.xa_server.specs.Owner.{name_if, owner}
 use Rattle.xa_server.specs.handling.HandlingError.{error_of_route}
 use Rattle.xa_server.proofs.AnswerLemmas.{asked, unasked}
-use Rattle.xa_server.proofs.CrashLemmas.{asked_left, no_more, unasked_counts, unasked_told}
+use Rattle.xa_server.proofs.CrashLemmas.{asked_left, no_more, unasked_counts}
 use Rattle.xa_server.proofs.WorkLemmas.{asked_work, unasked_work}
 use Rattle.xa_server.proofs.dispatch.reply_to_message.Goals as goal
 
@@ -53,9 +53,11 @@ returns-in_err-route-clause-keeper g c =
     record {
       sound = λ sound. sound;
       clean = λ clean. clean;
-      stays = λ clean sound. subst (λ (r : Result (List ℕ) HandlingError). IfTold r custody.sound) (sym stopped) (unasked_told error custody.sound sound);
+      stays = λ clean sound on. sound;
       leaves = λ clean sound. no_more custody.may_leave custody.may_leave c.args.received.now _ (owner c.args.received.now.message.now) (λ left is. is);
       counts = subst (λ (r : Result (List ℕ) HandlingError). Counts custody.faults custody.faults r) (sym stopped) (unasked_counts error custody.faults);
+      was_open = λ on. on;
+      stays_open = λ other on. on;
     }
 
 pub returns-clause-keeper : goal.returns-clause-keeper
@@ -75,4 +77,6 @@ returns-clause-keeper g c = record {
       (asked_left before after c.args.received.now old _ route c.in_ok-route.ensures.route
       (c.reply_to_route.ensures.keeper.leaves clean sound));
   counts = c.reply_to_route.ensures.keeper.counts;
+  was_open = c.reply_to_route.ensures.keeper.was_open;
+  stays_open = c.reply_to_route.ensures.keeper.stays_open;
 }

@@ -16,4 +16,6 @@ returns-in-Decide-clause-keeper g c = record {
       no_more_route before after c.args.received.now _ (option_and_then name_if (named_by c.args.route)) c.args.route
       (c.reply_on_decision_route.ensures.keeper.leaves clean sound);
   counts = c.reply_on_decision_route.ensures.keeper.counts;
+  was_open = c.reply_on_decision_route.ensures.keeper.was_open;
+  stays_open = c.reply_on_decision_route.ensures.keeper.stays_open;
 }

@@ -4,7 +4,7 @@ use Rattle.xa_server.proofs.DrivingLemmas.{none_gone}
 use Rattle.xa_server.proofs.driving.drive_open.Goals as goal
 
 pub loop-read-init : goal.loop-read-init
-loop-read-init g c = record { answered = λ sound. none_gone _; sound = λ sound. sound }
+loop-read-init g c = record { answered = λ sound. none_gone _; sound = λ sound. sound; clean = λ clean. clean; stays = λ clean sound on. sound; was_open = λ on. on }
 
 pub returns-in_err-answer_held-clause-answered : goal.returns-in_err-answer_held-clause-answered
 returns-in_err-answer_held-clause-answered g c = λ sound.
@@ -26,6 +26,9 @@ loop-read-preserved g c = record {
       read_more c.loop-read._read _ _ _ _ _ _ (c.loop-read.invariant.answered (c.answer_held.ensures.sound sound))
       (c.in_ok-answer_held.ensures.answered sound _ _) c.in_ok-read_piece.ensures;
   sound = λ sound. c.loop-read.invariant.sound (c.answer_held.ensures.sound sound);
+  clean = λ clean. c.loop-read.invariant.clean (c.answer_held.ensures.clean clean);
+  stays = λ clean sound on. c.answer_held.ensures.stays clean (c.loop-read.invariant.stays (c.answer_held.ensures.clean clean) sound (c.answer_held.ensures.was_open on)) on;
+  was_open = λ on. c.loop-read.invariant.was_open (c.answer_held.ensures.was_open on);
 }
 
 pub returns-clause-answered : goal.returns-clause-answered

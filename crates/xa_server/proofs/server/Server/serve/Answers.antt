@@ -1,7 +1,7 @@
 use Rattle.std.proofs.Common.{refl}
 use Rattle.xa_server.specs.declared.received_message.ReceivedMessage.{ReceivedMessage}
 use Rattle.xa_server.specs.Owner.{owner}
-use Rattle.xa_server.proofs.CrashLemmas.{if_sent, step_left}
+use Rattle.xa_server.proofs.CrashLemmas.{refused_so, step_left}
 use Rattle.xa_server.proofs.ServedLemmas.{counted, served}
 use Rattle.xa_server.proofs.WorkLemmas.{work_of}
 use Rattle.xa_server.proofs.server.Server.serve.Goals as goal
@@ -17,7 +17,10 @@ pub returns-clause-counts : goal.returns-clause-counts
 returns-clause-counts g c = rw (← c.self.view_is) (counted _ _ c.reply_to_message-answered.result _ c.reply_to_message-answered.ensures.keeper.counts c.reply_of.ensures)
 
 pub returns-clause-stays : goal.returns-clause-stays
-returns-clause-stays g c = rw (← c.self.view_is) (λ clean sound. if_sent _ c.reply_to_message-answered.result _ (c.reply_to_message-answered.ensures.keeper.stays clean sound) c.reply_of.ensures)
+returns-clause-stays g c = rw (← c.self.view_is) (λ clean sound on. c.reply_to_message-answered.ensures.keeper.stays clean sound on)
+
+pub returns-clause-stays_open : goal.returns-clause-stays_open
+returns-clause-stays_open g c = rw (← c.self.view_is) (λ other on. c.reply_to_message-answered.ensures.keeper.stays_open (refused_so c.reply_to_message-answered.result _ c.reply_of.ensures other) on)
 
 pub returns-clause-crash : goal.returns-clause-crash
 returns-clause-crash g c = rw (← c.self.view_is) (λ clean sound.

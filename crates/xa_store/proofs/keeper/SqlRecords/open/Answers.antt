@@ -6,7 +6,7 @@ use Rattle.xa_store.proofs.OpenLemmas.{is_keeper, leaves_alone, makes_keeper, ma
 use Rattle.xa_store.proofs.keeper.SqlRecords.open.Goals as goal
 
 pub over-requires : goal.over-requires
-over-requires g c = (is_keeper g.S.Store g.met.S.Store.shut_if_dirty g.met.S.Store.settled (state g.S.Store c.args.conn) c.make_or_check.new.conn c.in-Ok.tables c.in-Ok.ensures.loads).0
+over-requires g c = is_keeper g.S.Store g.met.S.Store.shut_if_dirty g.met.S.Store.settled (state g.S.Store c.args.conn) c.make_or_check.new.conn c.in-Ok.tables c.in-Ok.ensures.loads
 
 pub returns-in-Ok-clause-opens : goal.returns-in-Ok-clause-opens
 returns-in-Ok-clause-opens g c rests =
