@@ -111,7 +111,7 @@ module _ {R : Type 0} (custody : R → Custody) (is_open : (s : R) → (custody 
       new.server ∷ [],
       (
         serves_of moment old.server new.server is.0 is.1 message answer.reply is.4 (λ sound. (serves sound).0)
-        (subst (λ (l : Option Stream). HandsOn custody old.server new.server moment l (Some answer.reply)) is.3 handed),
+            (subst (λ (l : Option Stream). HandsOn custody old.server new.server moment l (Some answer.reply)) is.3 handed),
         refl,
       ),
     )
@@ -139,9 +139,11 @@ module _ {R : Type 0} (custody : R → Custody) where
     nexts ++ later.nexts,
     plays_on events (e ∷ []) outcomes (o ∷ []) nexts later.nexts old.lines mid.lines new.lines plays later.plays,
     subst (λ (ms : List messages.Event). HaveServed custody old.server ms (replies_given (nexts ++ later.nexts) (outcomes ++ o ∷ [])) new.server)
-    (sym (cut_on events (e ∷ []) outcomes nexts later.nexts old.lines mid.lines plays))
-    (subst (λ (rs : List Reply). HaveServed custody old.server (messages_cut events nexts ++ messages_cut (e ∷ []) later.nexts) rs new.server)
-    (sym (given_on events outcomes (o ∷ []) nexts later.nexts old.lines mid.lines plays))
-    (servers ++ later.served.servers, each_on custody old.server mid.server new.server (messages_cut events nexts) (messages_cut (e ∷ []) later.nexts) (replies_given nexts outcomes) (replies_given later.nexts (o ∷ []))
-    servers later.served.servers each later.served.each)),
+        (sym (cut_on events (e ∷ []) outcomes nexts later.nexts old.lines mid.lines plays))
+        (subst (λ (rs : List Reply). HaveServed custody old.server (messages_cut events nexts ++ messages_cut (e ∷ []) later.nexts) rs new.server)
+        (sym (given_on events outcomes (o ∷ []) nexts later.nexts old.lines mid.lines plays)) (
+          servers ++ later.served.servers,
+          each_on custody old.server mid.server new.server (messages_cut events nexts) (messages_cut (e ∷ []) later.nexts) (replies_given nexts outcomes) (replies_given later.nexts (o ∷ []))
+              servers later.served.servers each later.served.each,
+        )),
   )
