@@ -5,14 +5,20 @@ use Rattle.std.specs.Net.Grammar.{IsSocketText}
 use Rattle.std.specs.declared.net.socket_addr.SocketAddr.{SocketAddr}
 use Rattle.std.specs.declared.io.ErrorKind.{ErrorKind}
 use Rattle.std.specs.declared.io.ErrorKind.TheVariants as kind
+use Rattle.sqlite.specs.declared.error.Error.{Error}
+use Rattle.sqlite.specs.declared.error.Error.TheVariants.{SqliteFailure}
+use Rattle.sqlite.specs.declared.error.ErrorCode.TheVariants as code
 use Rattle.xa_server.specs.declared.drive_end.DriveEnd.{DriveEnd}
 use Rattle.xa_server.specs.declared.drive_end.DriveEnd.TheVariants as drive_end
+use Rattle.xa_store.specs.declared.error.OpenError.{OpenError}
+use Rattle.xa_store.specs.declared.error.OpenError.TheVariants as opening
 use Rattle.pdpd.specs.declared.exit.Exit.{Exit}
 use Rattle.pdpd.specs.declared.exit.Exit.TheVariants as exit
 use Rattle.pdpd.specs.declared.fault.Fault.{Fault}
 use Rattle.pdpd.specs.declared.fault.Fault.TheVariants as variant
 use Rattle.pdpd.specs.declared.fault.Fault.TheVariants.{Address, TokenUnread, TokenBad, Store, Shut}
 use Rattle.pdpd.specs.declared.fault.Fault.TheVariants.{Socket, Connection, Clock, Output, Memory}
+use Rattle.pdpd.specs.declared.fault.StoreFault.TheVariants as store
 use Rattle.pdpd.specs.declared.serve.setting.Setting.{Setting}
 
 -- how the program ends by a fault
@@ -43,6 +49,32 @@ abbrev pub IsOfStore : Fault → Type 0
 IsOfStore (Store _) = ⊤
 IsOfStore Memory = ⊤
 IsOfStore _ = ⊥
+
+-- why the token file isn't read, by the kind of the failure
+abbrev pub fault_of_reading : ErrorKind → Fault
+fault_of_reading kind.OutOfMemory = Memory
+fault_of_reading _ = TokenUnread
+
+-- why the file of a store can't be opened, by SQLite's error
+abbrev pub fault_of_file : Error → Fault
+fault_of_file (SqliteFailure code.OutOfMemory) = Memory
+fault_of_file (SqliteFailure code.DatabaseBusy) = Store store.Busy
+fault_of_file (SqliteFailure code.NotADatabase) = Store store.NoDatabase
+fault_of_file (SqliteFailure code.DatabaseCorrupt) = Store store.Corrupt
+fault_of_file (SqliteFailure code.DiskFull) = Store store.Full
+fault_of_file (SqliteFailure code.SystemIoFailure) = Store store.Disk
+fault_of_file _ = Store store.Unopened
+
+-- why a file can't be opened: by that fault, or because its folder isn't there
+abbrev pub IsFaultAt : Fault → Fault → Type 0
+IsFaultAt fault found = (found ≡ fault) ⊎ ((fault ≡ Store store.Unopened) × (found ≡ Store store.NoFolder))
+
+-- why the tables of a store can't be opened
+abbrev pub fault_of_tables : OpenError → Fault
+fault_of_tables opening.NotThisSchema = Store store.Schema
+fault_of_tables opening.Damaged = Store store.Row
+fault_of_tables opening.Store = Store store.Disk
+fault_of_tables opening.Memory = Memory
 
 -- a fault of the operator's token or of the store, or want of memory
 abbrev pub IsOfFiles : Fault → Type 0

@@ -1,6 +1,6 @@
 -- The settings that the environment gives by the variables PDPD_WORK, PDPD_REPLY, PDPD_READING, PDPD_VIEWS, PDPD_IDLE
 -- and PDPD_SUMS.
-use Rattle.std.specs.Prelude.{ℕ, List, Option, Some, None}
+use Rattle.std.specs.Prelude.{ℕ, nat_eq, if◌then◌else◌, List, Option, Some, None}
 use Rattle.xa_value.specs.Digits.{number_up_to}
 use Rattle.pdpd.specs.declared.serve.setting.Setting.{Setting}
 use Rattle.pdpd.specs.declared.serve.setting.Setting.TheVariants.{Work, Reply, Reading, Views, Idle, Sums}
@@ -26,3 +26,7 @@ most_of _ = 18_446_744_073_709_551_615
 abbrev pub value_of : Setting → Option (List ℕ) → Option ℕ
 value_of setting None = Some (default_of setting)
 value_of setting (Some text) = number_up_to (most_of setting) text
+
+-- the limit that a setting of 0 or more is: 0 is none, and stands for the greatest
+abbrev pub limit_of : ℕ → ℕ
+limit_of set = if nat_eq set 0 then 18_446_744_073_709_551_615 else set

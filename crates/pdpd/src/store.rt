@@ -13,7 +13,7 @@ ghost use Rattle.pdpd.specs.Beginning.{HasCleanFiles, IsLeftIn};
 ghost use Rattle.pdpd.specs.declared.exit.Exit.TheVariants.{Memory, Store, Usage};
 ghost use Rattle.pdpd.specs.declared.fault.Fault.TheVariants as fault;
 ghost use Rattle.pdpd.specs.declared.fault.StoreFault.TheVariants.{MadeOtherwise, Unclosed};
-ghost use Rattle.pdpd.specs.Fault.{IsOfStore};
+ghost use Rattle.pdpd.specs.Fault.{IsFaultAt, IsOfStore, fault_of_file, fault_of_tables};
 ghost use Rattle.pdpd.specs.running.Opening.{IsKeeperFrom, IsKeeperOver};
 
 pub(crate) mod closed;
@@ -42,7 +42,8 @@ pub type MemoryRecords = SqlRecords<MemStore>;
 
 /// Why the file can't be opened.
 fn fault_of_file(error: Error) -> Fault
-    ensures { IsOfStore result }
+    ensures fault { result ≡ fault_of_file error }
+    ensures store { IsOfStore result }
 {
     match error {
         Error::SqliteFailure(ErrorCode::OutOfMemory) => Fault::Memory,
@@ -65,7 +66,8 @@ fn has_no_folder(rt: &HostRuntime, path: &str) -> bool {
 
 /// Why the file can't be opened: by that fault, or because its folder isn't there.
 fn fault_at(rt: &HostRuntime, path: &str, fault: Fault) -> Fault
-    ensures { IsOfStore fault → IsOfStore result }
+    ensures fault { IsFaultAt fault result }
+    ensures store { IsOfStore fault → IsOfStore result }
 {
     if matches!(fault, Fault::Store(StoreFault::Unopened)) && has_no_folder(rt, path) {
         Fault::Store(StoreFault::NoFolder)
@@ -76,7 +78,8 @@ fn fault_at(rt: &HostRuntime, path: &str, fault: Fault) -> Fault
 
 /// Why a store's tables can't be opened.
 fn fault_of_tables(error: OpenError) -> Fault
-    ensures { IsOfStore result }
+    ensures fault { result ≡ fault_of_tables error }
+    ensures store { IsOfStore result }
 {
     match error {
         OpenError::NotThisSchema => Fault::Store(StoreFault::Schema),

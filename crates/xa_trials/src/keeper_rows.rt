@@ -3,7 +3,6 @@
 use crate::answer::Answer;
 use crate::connections::FrontTrial;
 use crate::driven::run_driven_events;
-use crate::failing_records::FailingRecords;
 use crate::field::{first_field_and_rest, number_of};
 use crate::front_calls::{FrontCalls, Renew};
 use crate::keeper::make_all;
@@ -12,6 +11,7 @@ use crate::no_answer::{NoAnswer, unless_answered};
 use crate::played::play_events;
 use crate::server::run_server_events;
 use crate::setup::{Setup, front_made, setup_and_events};
+use crate::tripping::Tripping;
 use xa_records::{PlainRecords, Records};
 use xa_value::Moment;
 
@@ -48,7 +48,7 @@ impl KeeperRow<'_> {
                 run_over(answer, records, manner, setup, events)
             }
             KeeperRow::FailingServer(left, setup, events) => {
-                let failing = FailingRecords::new(records, left);
+                let failing = Tripping::new(records, left);
                 run_over(answer, failing, Manner::Messages, setup, events)
             }
         })

@@ -44,7 +44,6 @@ mod versions;
 mod calls;
 mod clock;
 mod connections;
-mod failing_records;
 mod files;
 mod front_calls;
 mod keeper_rows;
@@ -52,6 +51,7 @@ mod keepers;
 mod peer;
 mod scripts;
 mod setup;
+mod tripping;
 
 use answer::Answer;
 use kinds::answer_row;

@@ -1,11 +1,11 @@
 //! Rows of a keeper that fails: a script of messages over keepers, each of which fails at another call.
 use crate::answer::Answer;
 use crate::calls::{CALLS, Call};
-use crate::failing_records::FailingRecords;
 use crate::front_calls::ServerCalls;
 use crate::keepers::tables;
 use crate::no_answer::NoAnswer;
 use crate::scripts::{messages_of, server_over};
+use crate::tripping::Tripping;
 use sqlite::MemStore;
 use std::alloc::Global;
 use xa_http::Message;
@@ -69,7 +69,7 @@ fn refusals<V: ServerCalls, W: ServerCalls>(
 /// What the messages show of a server over a keeper of which a call fails, beside one that is spared. As
 /// many messages have to be refused as calls have failed.
 fn verdict_of<R: Records + Drop, W: ServerCalls>(
-    mut server: Server<FailingRecords<R>>,
+    mut server: Server<Tripping<R>>,
     spared: &mut W,
     messages: &[(Moment, Message)],
 ) -> Verdict {
@@ -92,7 +92,7 @@ fn run_beside<R: Records + Drop, W: ServerCalls + Drop>(
     messages: &[(Moment, Message)],
     left: u64,
 ) -> Result<Verdict, NoAnswer> {
-    let server = server_over(alloc, FailingRecords::new(records, left))?;
+    let server = server_over(alloc, Tripping::new(records, left))?;
     Ok(verdict_of(server, &mut spared, messages))
 }
 

@@ -4,6 +4,7 @@ ghost use Rattle.xa_server.specs.Decisions.{nothing_cached};
 ghost use Rattle.xa_server.specs.Lines.{none_open};
 ghost use Rattle.pdpd.specs.declared.fault.Fault.TheVariants.{Memory};
 ghost use Rattle.pdpd.specs.running.Serving.{IsOfSettings};
+ghost use Rattle.pdpd.specs.Setting.{limit_of};
 
 use crate::fault::Fault;
 use crate::serve::setting::Setting;
@@ -48,7 +49,9 @@ impl Settings {
 }
 
 /// The limit that an operator has set: 0 is none.
-fn limit_of(set: usize) -> u64 {
+fn limit_of(set: usize) -> u64
+    ensures { result ≡ limit_of set }
+{
     match set {
         0 => u64::MAX,
         _ => set as u64,

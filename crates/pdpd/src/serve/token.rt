@@ -1,9 +1,10 @@
 //! The operator's token in a file.
 ghost use Rattle.std.specs.Prelude.{◌≡◌, IfErr, IfOk, IfSome, IsFalse, IsTrue, MatchResult, take};
+ghost use Rattle.std.specs.IoError.{error_kind};
 ghost use Rattle.sha2.specs.Sha256.{sha256};
 ghost use Rattle.xa_notation.specs.Tokens.{is_token};
 ghost use Rattle.pdpd.specs.declared.fault.Fault.TheVariants.{TokenBad};
-ghost use Rattle.pdpd.specs.Fault.{IsOfToken};
+ghost use Rattle.pdpd.specs.Fault.{IsOfToken, fault_of_reading};
 ghost use Rattle.pdpd.specs.Beginning.{known_text};
 ghost use Rattle.pdpd.specs.Token.{IsOperatorIn, first_line};
 
@@ -57,7 +58,8 @@ fn beginning_of<R: Read + Drop>(alloc: Global, reader: R) -> io::Result<Vec<u8>>
 
 /// Why there is no token: the file can't be read.
 fn fault_of_reading(error: io::Error) -> Fault
-    ensures { IsOfToken result }
+    ensures fault { result ≡ fault_of_reading (error_kind error) }
+    ensures token { IsOfToken result }
 {
     match error.kind() {
         ErrorKind::OutOfMemory => Fault::Memory,

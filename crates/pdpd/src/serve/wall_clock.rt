@@ -1,7 +1,9 @@
 //! The machine's clock.
+ghost use Rattle.std.specs.Prelude.{◌≡◌, ◌/◌, pos, IfSome};
+ghost use Rattle.std.specs.Duration.{as_nanos};
 
 use std::rt::HostRuntime;
-use std::time::Clock as Time;
+use std::time::{Clock as Time, Duration};
 use xa_server::Clock;
 use xa_value::Moment;
 
@@ -19,9 +21,15 @@ impl WallClock {
     }
 }
 
+/// The moment that is so long after the beginning of 1970, in whole seconds; none after the year 9999.
+fn moment_after(since: Duration) -> Option<Moment>
+    ensures { IfSome result (λ moment. moment ≡ pos (as_nanos since / 1_000_000_000)) }
+{
+    Moment::new(i64::try_from(since.as_secs()).ok()?)
+}
+
 impl Clock for WallClock {
     fn now(&mut self) -> Option<Moment> {
-        let since = self.rt.since_1970().ok()?;
-        Moment::new(i64::try_from(since.as_secs()).ok()?)
+        moment_after(self.rt.since_1970().ok()?)
     }
 }

@@ -1,10 +1,12 @@
 //! Which half of a store isn't there.
-ghost use Rattle.std.specs.Prelude.{◌≡◌};
+ghost use Rattle.std.specs.Prelude.{◌≡◌, ◌++◌, codes, string_bytes, IfOk, MatchResult};
+ghost use Rattle.std.specs.Path.{path_buf_bytes};
 ghost use Rattle.pdpd.specs.Halves.{halves_of};
 
 use std::alloc::{AllocError, Global};
 use std::fs;
 use std::io::{self, Read};
+use std::path::PathBuf;
 
 /// A shorter log has no room for a commit: 32 bytes of its header and 24 of a frame's (SQLite's file
 /// format, 4.1).
@@ -77,15 +79,33 @@ fn is_logged_at(rt: &HostRuntime, path: &str) -> bool {
     }
 }
 
+/// The file that is meant by the path: what it leads to if it is a link, and the path as it is if that can't
+/// be told.
+fn file_meant<'a>(path: &'a str, target: &'a io::Result<PathBuf>) -> &'a str
+    ensures { MatchResult target.now (λ found. result.now ≡ path_buf_bytes found)
+        (λ _. result.now ≡ path.now) }
+{
+    match target {
+        Ok(found) => found.as_str(),
+        Err(_) => path,
+    }
+}
+
+/// The path of the log beside a file, by the name that SQLite gives it.
+fn log_beside(alloc: Global, file: &str) -> Result<String, AllocError>
+    ensures { IfOk result (λ log. string_bytes log ≡ file.now ++ codes "-wal") }
+{
+    let mut log = String::from_str(alloc, file)?;
+    log.push_str("-wal")?;
+    Ok(log)
+}
+
 /// Which halves of the store at the path are there. If the path is a link, they are its target and the
 /// log beside that.
 pub fn halves_at(rt: &HostRuntime, path: &str) -> Result<Halves, AllocError> {
     let target = fs::canonicalize(rt, path);
-    let path = match &target {
-        Ok(target) => target.as_str(),
-        Err(_) => path,
-    };
-    let log = format!(in rt.alloc(); "{path}-wal")?;
+    let path = file_meant(path, &target);
+    let log = log_beside(rt.alloc(), path)?;
     let file = length_at(rt, path).unwrap_or(0);
     let is_logged = file > 0 && is_logged_at(rt, path);
     Ok(halves_of(file, length_at(rt, log.as_str()), is_logged))

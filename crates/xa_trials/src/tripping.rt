@@ -67,7 +67,7 @@ impl FailurePlan {
 /// A keeper around another. The call after so many others isn't made, but fails with `Store`; those after
 /// it are made. `faults` isn't counted as a call.
 #[derive(Drop)]
-pub struct FailingRecords<R: Records> {
+pub struct Tripping<R: Records> {
     /// The keeper that makes the calls.
     inner: R,
     /// Which call fails.
@@ -76,12 +76,12 @@ pub struct FailingRecords<R: Records> {
     faults: u64,
 }
 
-impl<R: Records> FailingRecords<R> {
+impl<R: Records> Tripping<R> {
     /// The keeper around that one.
-    pub fn new(inner: R, left: u64) -> FailingRecords<R> {
+    pub fn new(inner: R, left: u64) -> Tripping<R> {
         let plan = FailurePlan { left, failed: None };
         let faults = 0;
-        FailingRecords {
+        Tripping {
             inner,
             plan,
             faults,
@@ -94,7 +94,7 @@ impl<R: Records> FailingRecords<R> {
     }
 }
 
-impl<R: Records> Records for FailingRecords<R> {
+impl<R: Records> Records for Tripping<R> {
     ghost custody = { λ t. record {
       kept = (R.custody t.inner).kept;
       sound = (R.custody t.inner).sound;
@@ -259,15 +259,15 @@ impl<R: Records> Records for FailingRecords<R> {
     ghost settled = { λ t. R.settled t.inner };
 }
 
-impl<R: Reopen> Reopen for FailingRecords<R> {
-    fn keeper_after_stop(self, alloc: Global) -> Result<FailingRecords<R>, NoAnswer> {
-        let FailingRecords {
+impl<R: Reopen> Reopen for Tripping<R> {
+    fn keeper_after_stop(self, alloc: Global) -> Result<Tripping<R>, NoAnswer> {
+        let Tripping {
             inner,
             plan,
             faults,
         } = self;
         let inner = inner.keeper_after_stop(alloc)?;
-        Ok(FailingRecords {
+        Ok(Tripping {
             inner,
             plan,
             faults,
