@@ -4,7 +4,7 @@
 #![tactic(auto)]
 
 ghost use Rattle.std.specs.Prelude.{◌≡◌, ◌≢◌, ◌⊎◌, ◌↔◌, Err, IfOk, IsFalse, IsTrue, map, string_bytes};
-ghost use Rattle.std.specs.Prelude.{MatchOption, Option, List, ℕ};
+ghost use Rattle.std.specs.Prelude.{MatchOption};
 ghost use Rattle.sqlite.specs.WalFiles.{image_at};
 ghost use Rattle.xa_notation.specs.Tokens.{is_token};
 ghost use Rattle.pdpd.specs.Beginning.{HasCleanFiles, known_text};
@@ -97,20 +97,21 @@ fn serve_and_close<S: Start, F: OpenFile + Read + Drop>(
     close_records(front.into_server().into_records())
 }
 
-/// Serves connections, and says how that ended. A line on standard error tells of a fault.
+/// Serves connections, and says how that ended. A line on standard error tells of a fault. `token` is the
+/// token file as it was opened.
 #[tactic(auto, using(crate::proofs::ServingLemmas::fault_not_done))]
-fn serve_files<S: Start>(
+fn serve_files<S: Start, F: OpenFile + Read + Drop>(
     rt: &HostRuntime,
     serving: &ServeCommand<'_>,
+    token: io::Result<F>,
     start: S,
 ) -> Served<FileFrom<S>>
     ensures done { MatchOption result.closed (result.exit ≢ Done)
-        (λ closed. HasCleanFiles closed → (token : Option (List ℕ))
-        × ServesFiles (image_at S.Start) token serving.now.connections closed) }
+        (λ closed. HasCleanFiles closed
+        → ServesFiles (image_at S.Start) (known_text F.remaining token) serving.now.connections closed) }
     ensures serving { IsTrue (ends_serving result.exit) }
     ensures address { IsNoAddress serving.now.address → result.exit ≡ Usage }
 {
-    let token = File::open(rt, serving.token_file.as_str());
     match serve_and_close(rt, serving, token, start) {
         Ok(closed) => Served {
             exit: Exit::Done,
@@ -145,7 +146,10 @@ fn exit_of_words<S: Start>(rt: &HostRuntime, words: &[String], start: S) -> Exit
         Some(Command::Help) => print(rt, help::HELP),
         Some(Command::Version) => print(rt, help::VERSION),
         Some(Command::Replay(token)) => exit_of_replaying(rt, token.as_str()),
-        Some(Command::Serve(serving)) => serve_files(rt, &serving, start).exit,
+        Some(Command::Serve(serving)) => {
+            let token = File::open(rt, serving.token_file.as_str());
+            serve_files(rt, &serving, token, start).exit
+        }
         None => report(rt, Exit::Usage),
     }
 }
