@@ -1,15 +1,20 @@
 """Files of stores: those that are none, halves of one, and who may read them."""
+import shutil
 import sqlite3
 
-from said import BUSY, FILE_ALONE, LOG_ALONE, NO_DATABASE, NO_FOLDER, NO_LOG, OPEN_FILE, SCHEMA, UNOPENED, line
+from growths import FAILING, compiled
+from said import (
+    BUSY, FILE_ALONE, LOG_ALONE, NO_DATABASE, NO_FOLDER, NO_LOG, NO_MEMORY, NO_MEMORY_TO_SERVE, OPEN_FILE, SCHEMA,
+    UNOPENED, line)
 from serving import CREATED
 
 from .shared import (
-    ASK, LIST, PERMIT, chance, creates, ends_well, expect, expect_refusal, folder, listing, make_domain, names, serving,
-    words_to_serve)
+    ASK, LIST, PERMIT, chance, creates, ends_well, environment, expect, expect_refusal, folder, listing, make_domain,
+    names, serving, within, words_to_serve)
 
 PAGE = 4_096  # bytes of a new store's file, which has nothing in it yet
 CLOSED_LOG = 41  # bytes: the header of a log, and none of a commit
+LOOKED = 40  # allocations of a start, before whose last it has looked at both halves
 
 
 def no_databases():
@@ -91,6 +96,26 @@ def whole_by_link(path):
     expect("a whole store by a link: no line", served.said, b"")
 
 
+def without_memory(path, log):
+    """With one of the first allocations refused a start takes no half of a store for a whole one, nor a whole one for
+    a half: it says so, or does as it does otherwise."""
+    library = compiled(FAILING, str(folder / "failing.so"))
+    alone, link = folder / "alone.db", folder / "both-link.db"
+    link.symlink_to(folder / "both.db")
+    for started, wanted in ((link, (0, b"")), (alone, (4, line(alone, FILE_ALONE)))):
+        for place in range(1, LOOKED):
+            shutil.copy(path, alone)
+            shutil.copy(path, folder / "both.db")
+            shutil.copy(log, folder / "both.db-wal")
+            with serving(started.name, 1, env=environment(LD_PRELOAD=library, REFUSED_ALLOCATION=str(place))) as served:
+                if served.listens:
+                    served.client().close()
+                _, said, status = served.ended()
+            within(f"{started.name}, and allocation {place} is refused", (status, said),
+                   [wanted, (6, NO_MEMORY), (6, NO_MEMORY_TO_SERVE)])
+            alone.with_name("alone.db-wal").unlink(missing_ok=True)
+
+
 def half_stores():
     """A log without its file, and a file without its log: neither is written over, a line says what lies there, and
     with the other half all is there."""
@@ -101,6 +126,7 @@ def half_stores():
     log_alone(path, log, aside)
     file_alone(path, log, aside)
     whole_by_link(path)
+    without_memory(path, log)
     with serving("half.db", 1) as served:
         expect("with both all is there", served.once(LIST, ASK), [listing(["acme"]), PERMIT])
         ends_well("both halves", served)

@@ -89,15 +89,15 @@ module _ (old new : State) (after : Bool) (faults next : ℕ) (met told : Failur
   reading_is true is = ap Err is
   reading_is false is = ap Err is
 
-  reading_counts : {X : Type 0} (f : Failure) → CountsFailure faults next f → CountsReading {X = X} faults next (Err f)
-  reading_counts Memory counts = counts
-  reading_counts Store counts = counts
+  reading_counts : (X : Type 0) (f : Failure) → CountsFailure faults next f → CountsReading {X = X} faults next (Err f)
+  reading_counts X Memory counts = counts
+  reading_counts X Store counts = counts
 
   pub failed_reading : {X : Type 0} → TellsReading {X = X} old new true after faults next (Err met) (Err told)
-  failed_reading = record {
+  failed_reading {X} = record {
     looks = looks;
     answers = reading_is after tells.answers;
-    counts = reading_counts told tells.counts;
+    counts = reading_counts X told tells.counts;
     was_open = λ on. refl;
     stays = λ clean on none. seen_open old new after tells.sees clean on;
     shuts = λ was off clean. seen_failed old new after tells.sees off clean;
@@ -107,15 +107,15 @@ module _ (old new : State) (after : Bool) (faults next : ℕ) (met told : Failur
   change_is true is = ap (λ f. Err (Failed f)) is
   change_is false is = ap (λ f. Err (Failed f)) is
 
-  change_counts : {X : Type 0} (f : Failure) → CountsFailure faults next f → CountsChange {X = X} faults next (Err (Failed f))
-  change_counts Memory counts = counts
-  change_counts Store counts = counts
+  change_counts : (X : Type 0) (f : Failure) → CountsFailure faults next f → CountsChange {X = X} faults next (Err (Failed f))
+  change_counts X Memory counts = counts
+  change_counts X Store counts = counts
 
   pub failed_change : {X : Type 0} → TellsChange {X = X} old new true after faults next (Err (Failed met)) (Err (Failed told))
-  failed_change = record {
+  failed_change {X} = record {
     looks = looks;
     answers = change_is after tells.answers;
-    counts = change_counts told tells.counts;
+    counts = change_counts X told tells.counts;
     was_open = λ on. refl;
     stays = λ clean on none. seen_open old new after tells.sees clean on;
     shuts = λ was off clean. seen_failed old new after tells.sees off clean;
