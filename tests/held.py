@@ -124,11 +124,15 @@ def beginning():
     return [held for name in names for held, _ in making(name, f"{name}-token-1", telling_policy())]
 
 
+# Two roots that lead to one policy.
+ROOTS = '{"PolicyIdReference":{"Id":"urn:p"}}', '{"PolicyIdReference":{"Id":"urn:p","Version":"1.0"}}'
+
 # What is sent again and again, by name, each time with another number: it begins in the state in which it ends.
 CYCLES = {
     "domains and tokens": lambda _: [
         on_beta("PUT"), message("GET", "/operator/domains", OPERATOR),
         on_beta("POST", "/tokens", '{"Role":"ask","Token":"beta-token-1"}'),
+        message("POST", "/domains/beta/pdp", "beta-token-1", "{"),
         on_beta("DELETE", "/tokens", '{"Token":"beta-token-1"}'), on_beta("DELETE")],
     "documents": lambda _: [
         in_acme("POST pap/policies", policy("Deny", "urn:q")), in_acme("GET pap/policy/urn:q/1.0"),
@@ -141,8 +145,8 @@ CYCLES = {
     "a decision that is too long to be kept": lambda number: [asking("urn:n", "string", [f"{number:020}" * 900])],
     "refusals": lambda _: [in_acme("GET pap/policy/urn:q/1.0"), message("GET", "/", OPERATOR),
                            in_acme("GET pip", token="no-token"), in_acme("POST pdp", "{")],
-    "a change and an ask": lambda _: [in_acme("PUT pap/root", '{"PolicyIdReference":{"Id":"urn:p"}}'),
-                                      in_acme("POST pdp", '{"Request":{}}')],
+    "a change and an ask": lambda number: [in_acme("PUT pap/root", ROOTS[number % 2]),
+                                           in_acme("POST pdp", '{"Request":{}}')],
     "a view that is evicted": lambda number: [asking(*DATES, [day(number)], f"d{number % DOMAINS}")],
 }
 

@@ -29,7 +29,8 @@ PARTS = (
     command_line.usages, command_line.addresses, command_line.settings, command_line.token_files,
     command_line.shared_token, command_line.order_of_faults,
     stores.no_databases, stores.no_stores, stores.half_stores, stores.lost_logs, stores.modes,
-    sockets.sockets, sockets.taking, memory.memory, memory.stack, memory.address_space, disks.file_size, sockets.idle,
+    sockets.sockets, sockets.taking, memory.memory, memory.refused_at_start,
+    memory.connections_leave_nothing, memory.stack, memory.address_space, disks.file_size, sockets.idle,
     limits.long_replies, limits.limits, limits.work_unless_set, limits.reading_and_views,
     sizes.long_parts, sizes.many_domains, sizes.long_text, sizes.many_assignments, sizes.full_domain,
     costs.single, costs.kept, sockets.last)

@@ -1,15 +1,18 @@
-"""Want of memory and of stack."""
+"""Want of memory and of stack, and memory that connections leave."""
 import json
+import os
 import resource
 import signal
 import subprocess
 
 from checks import Between
+from growths import FAILING, compiled
+from held import COUNTING, MOST_MORE, Held
 from said import NO_MEMORY, NO_MEMORY_TO_SERVE
 from sent import rows_body
 from serving import DONE, UNAVAILABLE
 
-from .shared import ASK, MIB, PERMIT, expect, in_acme, make_domain, serving, within
+from .shared import ASK, LIST, MIB, PERMIT, environment, expect, folder, in_acme, make_domain, serving, within
 
 FUNCTIONS = "urn:oasis:names:tc:xacml:%s:function:"
 ALGORITHM = "urn:oasis:names:tc:xacml:3.0:rule-combining-algorithm:deny-overrides"
@@ -49,6 +52,62 @@ def memory():
     within("with enough memory all is answered", 0, ends)
     with serving("memory.db", 1) as served:
         expect("with all memory", served.once(ASK), [PERMIT])
+
+
+# Of a start each of the first allocations is refused, and one of so many behind them: until so many starts in a row
+# listen. A start takes some 7,000.
+FIRST_REFUSED, ONE_OF, LISTENING = 100, 79, 4
+
+
+def refused_at_start():
+    """With one allocation refused a start says so with status 6, or goes on without it: by no fault of another name."""
+    library = compiled(FAILING, str(folder / "failing.so"))
+    with serving("start.db", 1) as served:
+        make_domain(served)
+    place, listening = 1, 0
+    while listening < LISTENING:
+        surroundings = environment(LD_PRELOAD=library, REFUSED_ALLOCATION=str(place))
+        with serving("start.db", 1, env=surroundings) as served:
+            listening = listening + 1 if served.listens else 0
+            if served.listens:
+                within(f"allocation {place} of a start is refused", served.once(ASK), [[PERMIT], [UNAVAILABLE], [b""]])
+            _, said, status = served.ended()
+            within(f"allocation {place} of a start is refused: its end", (status, said),
+                   [(6, NO_MEMORY), (6, NO_MEMORY_TO_SERVE), (0, b"")])
+        place += 1 if place < FIRST_REFUSED else ONE_OF
+    within("allocations of a start", place, Between(2 * FIRST_REFUSED))
+
+
+# ---- what connections leave
+
+CONNECTIONS = 60
+
+
+def served_by(library, connections):
+    """What a run holds that serves so many connections, which end in different ways; and how many files it has open
+    before its last connection."""
+    with serving("left.db", connections, env=environment(LD_PRELOAD=library)) as served:
+        for number in range(connections - 1):
+            with served.client() as client:
+                client.send((ASK, LIST, ASK[:-5], ASK + LIST[:20], b"\x80", b"")[number % 6])
+                client.ends_writing()
+                client.all()
+        files = len(os.listdir(f"/proc/{served.process.pid}/fd"))
+        expect("the last connection", served.once(ASK), [PERMIT])
+        said = served.ended()[1]
+    return Held(*map(int, said.split())), files
+
+
+def connections_leave_nothing():
+    """However many connections were served, no more memory is held at once, none is left at the end, and no more files
+    are open."""
+    library = compiled(COUNTING, str(folder / "counting.so"))
+    with serving("left.db", 1) as served:
+        make_domain(served)
+    (few, few_files), (many, many_files) = (served_by(library, count) for count in (CONNECTIONS, 2 * CONNECTIONS))
+    expect("bytes that are left after connections", (few.left, many.left), (0, 0))
+    within("bytes that twice as many connections hold at once", many.most - few.most, range(-few.most, MOST_MORE))
+    expect("files that are open after twice as many connections", many_files, few_files)
 
 
 # ---- the stack
