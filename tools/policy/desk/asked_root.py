@@ -25,14 +25,19 @@ Roots = list[Optional[versions.Reference]]
 @dataclass
 class Root:
     """What the root may be now, the likely one first, none where it isn't known; whence that is known; whether
-    answers show it; whether they show another than is recorded; and, where one showed it, that case, and what it
-    named."""
+    answers show it; whether they show another than is recorded; where one showed it, that case, and what it named;
+    and whether it may be any other, too."""
     may_be: Roots
     whence: str
     is_shown: bool = False
     is_moved: bool = False
     case: dict | None = None
     named: str = ""
+    is_open: bool = False
+
+    def is_known(self) -> bool:
+        """Whether it is one of those that are named."""
+        return bool(self.may_be) and not self.is_open
 
     def told(self) -> str:
         """What the root is now, and whence that is known."""
@@ -175,7 +180,7 @@ def shown_root(asking: Asking, recorded: Roots, whence: str) -> Root:
         return Root(recorded, f"{whence}; no case that is asked gives Permit or Deny")
     is_none = set(asking.found) == {"NotApplicable"}
     why = "none, or one that applies to no case" if is_none else "one that leads nowhere, or fails"
-    return Root([None] if is_none else [], f"by answers{but}", True, True, None, why)
+    return Root([None] if is_none else [], f"by answers{but}", True, True, None, why, True)
 
 
 def root_now(live: Live, held: Records, said: str | None, requests: list[tuple[bytes, int]]) -> Root:

@@ -68,6 +68,35 @@ def ways_of(setting: Setting) -> dict[Name, Way]:
     return found
 
 
+def whole_parts(setting: Setting) -> dict[tuple[str, str], dict[str, object]]:
+    """What each document to which the root leads says of its rules or children as a whole."""
+    found: dict[tuple[str, str], dict[str, object]] = {}
+    left = [setting.tree()]
+    while left:
+        tree = left.pop(0)
+        if tree is None or tree == policies.LEAF:
+            continue
+        document, kind = tree.document, "policy" if tree.document.form == "Policy" else "set"
+        left += tree.children
+        order = [one.id for one in setting.placed[id(document)].children] if kind == "policy" else [
+            (one.document.form, one.document.id) for one in tree.children if one != policies.LEAF]
+        found.setdefault((kind, document.id), {"combining algorithm": document.algorithm, "order": order,
+                                               "obligations or advice": document.duties})
+    return found
+
+
+def changed_wholes(old: Setting, new: Setting) -> list[str]:
+    """What differs beside rules, each in a few words: the parts of documents that both have, and the rows."""
+    found, (before, after) = [], (whole_parts(old), whole_parts(new))
+    for key in before.keys() & after.keys():
+        for part, was in before[key].items():
+            both = was, after[key][part]
+            if part == "order":
+                both = tuple([one for one in held if one in both[0] and one in both[1]] for held in both)
+            found += [f"the {part} of {KIND_NAMES[key[0]]} {key[1]}"] if repr(both[0]) != repr(both[1]) else []
+    return sorted(found) + (["the rows"] if old.source_rows() != new.source_rows() else [])
+
+
 @dataclass
 class ChangedRule:
     """A rule that differs, in the old setting and in the new, or in one of them; in how many requests it came to
@@ -92,12 +121,14 @@ class ChangedRule:
 
 @dataclass
 class ChangedRules:
-    """All rules that differ."""
+    """All rules that differ, and what differs beside them."""
     old: Setting
     new: Setting
     rules: list[ChangedRule] = field(default_factory=list)
+    others: list[str] = field(default_factory=list)
 
     def __post_init__(self) -> None:
+        self.others = changed_wholes(self.old, self.new)
         ways = ways_of(self.old), ways_of(self.new)
         for name in dict.fromkeys([*ways[0], *ways[1]]):
             both = ways[0].get(name), ways[1].get(name)

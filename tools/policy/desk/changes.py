@@ -204,9 +204,19 @@ class Changes:
         last = sorted(active - self.reached, key=lambda key: (key.kind == "policy", key))
         return found + [plan.Step("withdraw", key) for key in last]
 
+    def is_unsure(self) -> bool:
+        """Whether answers between may be any: the root isn't known, and isn't all by which answers change."""
+        steps = self.order.steps
+        if self.root.is_known() or not steps or steps[0].do != "root":
+            return not self.root.is_known() and bool(steps)
+        state, answering = self.before(None), self.answering()
+        views = [answering.view(state := plan.after(state, step)) for step in steps]
+        return views != views[-1:] * len(views)
+
     def ordered(self) -> plan.Order:
-        """The steps in the order in which they are done."""
-        if not self.roots:
+        """The steps in the order in which they are done. Under a root that isn't known it is set before anything is
+        withdrawn."""
+        if not self.root.is_known():
             return plan.Order(self.steps(), [], [])
         goal = State(frozenset(self.reached), self.target.root, plan.NEW)
         planner = plan.Planner(self.answering(), [self.before(root) for root in self.roots], self.steps(), goal)
@@ -247,7 +257,7 @@ class Changes:
         return {**{name: [key_shown(key) for key in keys] for name, keys in named.items()},
                 "rows": self.has_rows(), "root": self.has_root(),
                 "roots": roots, "root_known": self.root.whence, "root_shown": self.root.is_shown,
-                "root_is_others": self.is_others_root(), "mixed": bool(self.order.mixed),
+                "root_is_others": self.is_others_root(), "mixed": bool(self.order.mixed) or self.is_unsure(),
                 "reasons": self.order.reasons}
 
 

@@ -144,7 +144,7 @@ def status(options: argparse.Namespace) -> int:
         heads = [changes.records.head(number) for number in changes.records.numbers()]
         found = [{"number": head.number, "begun": head.begun, "by": head.by,
                   "finished": changes.records.is_finished(head.number)} for head in heads]
-        print(json.dumps({"server": domain.server, "domain": domain.name, "same": is_same,
+        print(json.dumps({"server": domain.server, "domain": domain.name, "same": is_same and changes.root.is_shown,
                           "deployments": found, **changes.as_json()}, indent=2))
     else:
         print_domain(changes)
@@ -228,7 +228,10 @@ def to_which(held: records.Records, wanted: int | None) -> int:
     if number is None:
         number = last if held.begun() else held.head(last).before
     if number == 0:
-        raise ServerFault(f"no deployment is recorded before {last}")
+        others = [str(one) for one in held.numbers() if held.is_finished(one) and one != last]
+        raise ServerFault(f"deployment {last} went back to the first one, before which there is none. --to NUMBER goes "
+                          f"to another: {text.listed(others, 'or')}" if others else
+                          f"no deployment is recorded before {last}")
     if number not in held.numbers() or not held.is_finished(number):
         raise ServerFault(f"deployment {number} isn't recorded on the server, or wasn't finished: "
                           f"{text.listed([str(one) for one in held.numbers() if held.is_finished(one)], 'and')} are. "
@@ -293,7 +296,7 @@ def carried_out(client: Client, changes: Changes, options: argparse.Namespace, f
 def finished(client: Client, changes: Changes, draft: records.Draft, actions: list[Action],
              options: argparse.Namespace) -> int:
     """Makes the changes where they are wanted; the exit status."""
-    is_refused = options.only_whole and (bool(changes.order.mixed) or not changes.roots)
+    is_refused = options.only_whole and (bool(changes.order.mixed) or changes.is_unsure())
     wanted = not options.dry_run and not is_refused and is_wanted(options)
     done: list[Action] = []
     if wanted:

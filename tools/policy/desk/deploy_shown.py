@@ -37,9 +37,13 @@ def differences(changes: Changes) -> str:
     """In what the domain differs from the folder, the root left out, in a few words."""
     new = changes.uploads()
     asleep = [key for key in changes.of_order("activate") if key not in new]
+    foreign = [key for key in changes.of_order("withdraw") if key not in changes.target.documents]
+    idle = [key for key in changes.of_order("withdraw") if key in changes.target.documents]
     told = [(new, "isn't there", "aren't there"), (changes.clashes(), "has other text", "have other text"),
             (asleep, "isn't active", "aren't active"),
-            (changes.of_order("withdraw"), "is active and not the folder's", "are active and not the folder's")]
+            (foreign, "is active and not the folder's", "are active and not the folder's"),
+            (idle, "is active, and the folder's root doesn't reach it",
+             "are active, and the folder's root doesn't reach them")]
     found = [f"{listed_shown([key_shown(key) for key in keys])} {one if len(keys) == 1 else several}"
              for keys, one, several in told if keys]
     found += ["the rows are others"] if changes.has_rows() else []
@@ -66,7 +70,9 @@ def print_verdict(changes: Changes, is_same: bool) -> None:
     """Whether the folder is what runs there."""
     told = differences(changes)
     if changes.is_others_root():
-        said = "the root isn't this folder's: `policy deploy` sets it" + (f". Besides, {told}" if told else "")
+        besides = told and f"Besides, {told}."
+        said = " ".join(filter(None, ("the root isn't this folder's: `policy deploy` sets it.", besides,
+                                      history(changes)))).rstrip(".")
     elif not is_same:
         said = " ".join(filter(None, (f"differs: {told or 'the root is another'}.", history(changes),
                                       "`policy diff --live` shows how")))
@@ -102,12 +108,14 @@ def clash_told(changes: Changes, key: Key) -> str:
 def print_mixed(changes: Changes, actions: list[Action]) -> None:
     """Whether every ask between is answered as before or as after."""
     mixed = [place for place, action in enumerate(actions, 1) if action.is_mixed]
-    if not changes.roots:
-        print(text.wrapped("What the root is now isn't known: " + changes.root.whence
+    if changes.is_unsure():
+        named = f"{changes.root.named}, " if changes.root.named else ""
+        print(text.wrapped(f"What the root is now isn't known: {named}{changes.root.whence}"
                            + ". So whether every decision request between is answered as before or as after isn't "
                              "known either; --live-root ID, or --live-root none, says what it is."))
     elif not mixed:
-        print("Meanwhile every decision request is answered as before or as after.")
+        but = ", if the root is as recorded" if changes.root.is_known() and not changes.root.is_shown else ""
+        print(text.wrapped(f"Meanwhile every decision request is answered as before or as after{but}."))
     else:
         print(text.wrapped(text.painted("No order keeps answers whole", "bold", "yellow")
                            + f": from step {mixed[0]} to step {mixed[-1] + 1} a decision request may be answered "

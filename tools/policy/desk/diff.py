@@ -108,12 +108,12 @@ def random_requests(rules: changed_rules.ChangedRules, options: argparse.Namespa
     return [Request(f"random request {number + 1}", *aiming.request(number)) for number in range(options.random)]
 
 
-def print_reached(rules: list[changed_rules.ChangedRule], count: int) -> None:
-    """In how many requests each rule that changes was reached, and which of them no answer shows."""
+def print_reached(rules: list[changed_rules.ChangedRule], others: list[str], count: int) -> None:
+    """In how many requests each rule that changes was reached; and which of them, and what else, no answer shows."""
     for one in rules[:MOST_SHOWN]:
         print(text.wrapped(f"{one.told()} changes: reached in {one.reached} of {text.counted(count, 'request')}", "",
                            "    "))
-    hidden = [one.told() for one in rules if not one.is_shown]
+    hidden = [one.told() for one in rules if not one.is_shown] + others
     if hidden:
         more = f" and {len(hidden) - MOST_SHOWN} more" if len(hidden) > MOST_SHOWN else ""
         text.warn(f"no answer shows what changes in {text.listed(hidden[:MOST_SHOWN], 'and')}{more}: ask for it by "
@@ -142,7 +142,7 @@ def run(old: setting.Setting, new: setting.Setting, options: argparse.Namespace,
         is_changed = set(changed)
         for place, request in enumerate(asked):
             rules.reckon(request.held, request.moment, place in is_changed)
-        print_reached(rules.rules, len(asked))
+        print_reached(rules.rules, [] if changed else rules.others, len(asked))
     disagreeing = [asked[place].name
                    for place in range(len(asked)) if not (before[place].agrees and after[place].agrees)]
     if disagreeing:

@@ -175,7 +175,9 @@ class Words(DeployTest):
         self.assertEqual(status, 0, written)
         self.assertEqual(json.loads((self.folder / "back" / "rows.json").read_text())["Row"][0]["Entity"],
                          "alice")
-        self.assertEqual(self.policy("rollback", "--yes", third)[0], 4)
+        status, _, said = self.policy("rollback", "--yes", third)
+        self.assertEqual((status, " ".join(said.split()).partition("policy: ")[2]), (4, "deployment 5 went back to the "
+                         "first one, before which there is none. --to NUMBER goes to another: 1, 2, 3 or 4."))
         self.assertEqual(self.policy("rollback", "--yes", "--to", "3", third)[0], 0)
         self.assertEqual(self.policy("rollback", "--yes", "--to", "77", third)[0], 4)
 

@@ -68,6 +68,19 @@ class History(DeployTest):
         self.assertNotIn("older", back)
         self.assertNotIn("This folder", self.told("deploy", "--dry-run", self.written(version("3"), SET_ROOT, "next")))
 
+    def test_of_another_root(self) -> None:
+        """What came after is said beside a root that is another, too."""
+        folder = self.first()
+        self.running.sent(serving.message("PUT", f"/domains/{self.name}/pap/root", ADMIN, "{}"))
+        others = "the root isn't this folder's: `policy deploy` sets it."
+        self.assertIn(f"{others} This folder was deployed as number 1, and the domain was changed since, without a "
+                      f"record", self.told("status", folder, status=1))
+        self.deployed(folder)
+        with author("carol@there"):
+            self.deployed(self.written(version("1"), "urn:p", "hers"))
+        self.assertIn(f"{others} Besides, policy set urn:s 1 isn't active. This folder was deployed as number 2; "
+                      f"number 3, by carol@there, came after", self.told("status", folder, status=1))
+
     def test_one_that_isnt_finished(self) -> None:
         """What to do is said: by `status`, and by a deployment of something else, which is refused."""
         folder, exchange = self.first(), wire.Client.exchange

@@ -5,12 +5,15 @@ import json
 import unittest
 from unittest import mock
 
-from .deploy_tests import ADMIN, ASKED, COMBINING, DeployTest, policy, policy_set, request, row, rows, serving, wire
-from .test_deploy import P1, Q1, SET_ROOT, files
+from .deploy_tests import (
+    ADMIN, ASKED, COMBINING, SUBJECT, DeployTest, match, policy, policy_set, request, row, rows, serving, wire)
+from .test_deploy import P1, P2, Q1, SET_ROOT, files
 
 ONE = policy_set("urn:s", "1", [("urn:p", "1")])
 OTHER = json.dumps({"PolicySet": {"PolicySetId": "urn:other", "Version": "1", "Children": [
     {"PolicySetIdReference": {"Id": "urn:s"}}], "PolicyCombiningAlgId": COMBINING % ("policy", "deny-overrides")}})
+DARK = json.loads(policy_set("urn:dark", "1", [("urn:p", None)]))
+DARK["PolicySet"]["Target"] = match(SUBJECT, "dave")
 UNSURE = "root not known"
 OTHERS = "the root isn't this folder's"
 
@@ -22,6 +25,12 @@ class ByHand(DeployTest):
         """Sets the root by hand."""
         put = serving.message("PUT", f"/domains/{self.name}/pap/root", ADMIN, body)
         self.assertEqual(self.running.sent(put), [serving.DONE])
+
+    def by_hand(self, *sent: tuple[str, str, str]) -> None:
+        """Sends messages to the domain's policies: method, path, body."""
+        at = f"/domains/{self.name}/pap"
+        self.running.sent(*(serving.message(method, f"{at}/{path}", ADMIN, *([body] if body else []))
+                            for method, path, body in sent))
 
     def told(self, *words: str, status: int) -> str:
         """What a word writes, on one line."""
@@ -44,6 +53,7 @@ class ByHand(DeployTest):
             self.assertIn(OTHERS, said)
             self.assertNotIn("Besides", said if "other" not in body else "")
             self.assertIn(shown, said)
+        self.assertIn(OTHERS, self.told("rollback", "--dry-run", "--to", "1", folder, status=0))
         pulled = str(self.folder / "pulled")
         place = "--server", f"http://127.0.0.1:{self.running.port}", "--domain", self.name
         self.assertIn(shown, self.told("pull", pulled, *place, status=0))
@@ -68,8 +78,60 @@ class ByHand(DeployTest):
         before = self.asks()
         self.root('{"PolicyIdReference":{"Id":"urn:gone"}}')
         self.assertIn("one that leads nowhere, or fails (by answers", self.told("status", folder, status=1))
+        self.whole(lambda: self.deployed(folder, "--only-whole"))
+        self.root('{"PolicyIdReference":{"Id":"urn:gone"}}')
+        two = self.written(files(policy_set("urn:s", "2", [("urn:p", "2")]), P2), SET_ROOT, "two")
+        self.assertIn("isn't known: one that leads nowhere, or fails, by answers; policy set urn:s by the record",
+                      self.told("diff", "--live", two, status=1))
         self.deployed(folder)
         self.assertEqual(self.asks(), before)
+
+    def dark(self) -> None:
+        """A set by hand that applies to no case, and the root set to it."""
+        self.by_hand(("POST", "policies", json.dumps(DARK)), ("PUT", "policyset/urn:dark/1/active", ""))
+        self.root('{"PolicySetIdReference":{"Id":"urn:dark"}}')
+
+    def test_to_one_that_applies_to_no_case(self) -> None:
+        """Whether it is that or none isn't known: nothing is promised, and the root goes before what is withdrawn."""
+        self.deployed(self.written(files(ONE, P1), SET_ROOT))
+        self.dark()
+        folder = self.written(files(policy_set("urn:s", "2", [("urn:p", "2")]), P2), SET_ROOT)
+        for words in (("deploy", "--dry-run"), ("deploy", "--yes", "--only-whole")):
+            said = self.told(*words, folder, status=int("--yes" in words))
+            self.assertIn("isn't known: none, or one that applies to no case, by answers", said)
+            self.assertNotIn("Meanwhile", said)
+            self.assertIn("Nothing is deployed", said)
+        self.assertTrue(json.loads(self.policy("deploy", "--dry-run", "--json", folder)[1])["mixed"])
+        found = []
+        with self.between(lambda number: found.extend(self.asks(request("dave")))):
+            self.deployed(folder)
+        self.assertEqual({json.loads(one.partition(b"\r\n\r\n")[2])["Response"][0]["Decision"] for one in found},
+                         {"Permit"})
+        self.dark()
+        self.whole(lambda: self.assertIn("Meanwhile every", self.deployed(folder, "--only-whole")))
+        self.assertIn("is what runs there", self.told("status", "--strict", folder, status=0))
+
+    def test_a_newer_version_of_what_it_names(self) -> None:
+        """The root is the folder's, and what it resolves to isn't: that differs, as any document does."""
+        folder = self.written(files(ONE, P1), SET_ROOT)
+        self.deployed(folder)
+        before = self.asks()
+        self.by_hand(("POST", "policies", policy_set("urn:s", "2", [])), ("PUT", "policyset/urn:s/2/active", ""))
+        self.assertNotEqual(self.asks(), before)
+        self.assertIn("differs: policy set urn:s 2 is active and not the folder's",
+                      self.told("status", folder, status=0))
+        self.told("status", "--strict", folder, status=1)
+        self.told("diff", "--live", "--strict", folder, status=1)
+        self.whole(lambda: self.deployed(folder, "--only-whole"))
+        self.assertEqual(self.asks(), before)
+
+    def test_what_it_doesnt_reach(self) -> None:
+        """A document that the folder has is told from one that it hasn't."""
+        folder = self.written(files(ONE, P1, Q1), SET_ROOT)
+        self.deployed(folder)
+        self.by_hand(("PUT", "policy/urn:q/1/active", ""))
+        self.assertIn("differs: policy urn:q 1 is active, and the folder's root doesn't reach it.",
+                      self.told("status", folder, status=0))
 
     def test_to_an_older_version(self) -> None:
         """The answers name the version."""
@@ -95,11 +157,22 @@ class ByHand(DeployTest):
         alice = self.asks(ASKED[0])
         self.assertIn(UNSURE, self.told("status", "--strict", folder, status=1))
         self.assertIn(UNSURE, self.told("status", folder, status=0))
+        self.assertIs(json.loads(self.policy("status", "--json", folder)[1])["same"], False)
         self.assertIn(UNSURE, self.told("diff", "--live", "--strict", folder, status=1))
         self.root("{}")
         self.assertNotEqual(self.asks(ASKED[0]), alice)
+        other = self.written({**held, "document-0.json": policy("urn:p", "2", "p2")}, "urn:p", "other", Cases=[])
+        self.assertIn("as before or as after, if the root is as recorded.", self.told("deploy", "--dry-run", other,
+                                                                                      status=0))
         said = " ".join(self.deployed(folder).split())
         self.assertIn("set the root: policy urn:p (as it should be; if it is, this changes nothing)", said)
+        self.assertEqual(self.asks(ASKED[0]), alice)
+        # beside other steps, too
+        self.root("{}")
+        self.deployed(other)
+        self.assertIn(b"Permit", self.asks(request("bob"))[0])
+        self.root("{}")
+        self.assertEqual(self.policy("rollback", "--yes", other)[0], 0)
         self.assertEqual(self.asks(ASKED[0]), alice)
 
     def test_by_the_clock_of_each_case(self) -> None:
@@ -177,6 +250,8 @@ class ByHand(DeployTest):
         self.root('{"PolicyIdReference":{"Id":"urn:p"}}')
         folder = self.written(files(P1), "urn:p")
         self.assertIn("root policy urn:p 1 (by answers)", self.told("status", folder, status=0))
+        bare = self.written(files(P1), "urn:p", "bare", Cases=[])
+        self.assertIn("as before or as after. Nothing is deployed", self.told("deploy", "--dry-run", bare, status=0))
         self.whole(lambda: self.deployed(folder, "--only-whole"))
         self.assertIn("is what runs there", self.told("status", "--strict", folder, status=0))
 

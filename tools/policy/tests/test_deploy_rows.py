@@ -3,15 +3,20 @@ is recorded."""
 from __future__ import annotations
 
 import json
+import re
 import unittest
 
-from .deploy_tests import ADMIN, PDPD, DeployTest, policy, request, row, rows, serving
+from .deploy_tests import ADMIN, PDPD, TOP, DeployTest, policy, request, row, rows, serving
 from .test_deploy import files
 
 ROLE = "urn:acme:attribute:role"
 P = policy("urn:p", "1", "p1", attribute=ROLE)
 # the most of a body (docs/guide/API.md)
 BODY = 524_288
+
+
+def page(name: str) -> str:
+    return (TOP / name).read_text(encoding="utf-8")
 
 
 def real(count: int) -> str:
@@ -34,10 +39,11 @@ class Weighed(DeployTest):
         folder = self.written(files(P, rows=held), "urn:p")
         status, written, _ = self.policy("check", f"{folder}/document-0.json", "--rows", f"{folder}/rows.json")
         self.assertEqual(status, 0)
-        self.assertRegex(written, r"3001 rows: taken; [0-9,]+ bytes of a body are left")
+        left = f"{BODY - len(json.dumps(json.loads(held), separators=(',', ':'))):,} bytes of a body are left"
+        self.assertIn(f"3001 rows: taken; {left}", written)
         self.assertIn("can't send this file", " ".join(written.split()))
         said = self.deployed(folder)
-        self.assertRegex(" ".join(said.split()), r"[0-9,]+ bytes of a body are left")
+        self.assertIn(f"rows 0 before, 3001 after; 3001 new, 0 gone; {left}", " ".join(said.split()))
         self.assertIn(b"Permit", self.asks(request("alice"))[0])
         shown = self.running.sent(serving.message("GET", f"/domains/{self.name}/pip", ADMIN))[0]
         self.assertGreater(len(shown), BODY)
@@ -50,6 +56,17 @@ class Weighed(DeployTest):
         self.assertIn(b"Permit", self.asks(request("carol"))[0])
         self.assertEqual(self.policy("rollback", "--yes", str(there))[0], 0)
         self.assertIn(b"Permit", self.asks(request("alice"))[0])
+
+    def test_what_pages_say(self) -> None:
+        """So many rows of an ordinary length fit, and hardly more."""
+        count, size = re.search(r"room for some ([0-9,]+) of ([0-9]+) bytes", page("docs/guide/API.md")).groups()
+        for other in ("README.md", "docs/guide/POLICIES.md"):
+            self.assertIn(f"{count}](", page(other))
+        ordinary = json.dumps(row("first.last0001@example.com", ROLE, "accountant"), separators=(",", ":"))
+        self.assertEqual(len(ordinary), int(size))
+        number = int(count.replace(",", ""))
+        for rows_held, fits in ((number, True), (number * 21 // 20, False)):
+            self.assertEqual(len('{"Row":[]}') + rows_held * (len(ordinary) + 1) - 1 <= BODY, fits)
 
     def test_rows_that_dont_fit(self) -> None:
         """Nothing is recorded, so that nothing stands in the way of the next deployment."""

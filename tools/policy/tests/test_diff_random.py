@@ -174,6 +174,30 @@ class Random(DeskTest):
         self.assertIn("rule always of policy urn:acme:finance changes: reached in 30 of 30 requests", written)
         self.assertNotIn("no answer shows", said)
 
+    def test_what_changes_beside_rules(self) -> None:
+        """Where no answer changes, it is named: the algorithm, the order, obligations, rows."""
+        ordered, turned, told = (copy.deepcopy(SET) for _ in range(3))
+        policy_of = ordered["PolicySet"]["Children"][0]["Policy"]
+        policy_of["RuleCombiningAlgId"] = policy_of["RuleCombiningAlgId"].replace("deny-", "ordered-deny-")
+        turned["PolicySet"]["Children"].reverse()
+        told["PolicySet"]["Children"][1]["Policy"]["AdviceExpressions"] = [{"AdviceId": "urn:a", "AppliesTo": "Deny"}]
+        told["PolicySet"]["Target"] = target(("Action", ACTION, "a"))
+        told["PolicySet"]["Target"]["AnyOf"] += target(("Action", "urn:never", "b"))["AnyOf"]
+        for new, words in ((ordered, "the combining algorithm of policy urn:acme:finance:"),
+                           (turned, "the order of policy set urn:acme:")):
+            written, said = self.diff(SET, new, 20)
+            self.assertIn("0 of 20 answers change", written)
+            self.assertIn(f"no answer shows what changes in {words}", said)
+        old = copy.deepcopy(told)
+        del old["PolicySet"]["Children"][1]["Policy"]["AdviceExpressions"]
+        self.assertIn("what changes in the obligations or advice of policy urn:acme:support:",
+                      self.diff(old, told, 5)[1])
+        closed = copy.deepcopy(FINANCE)
+        closed["Policy"]["RuleCombiningAlgId"] = RULES % ("3.0", "deny-unless-permit")
+        written, said = self.diff(FINANCE, closed, 20)
+        self.assertNotRegex(written, r"\b0 of 20 answers change")
+        self.assertNotIn("no answer shows", said)
+
     def test_nothing_changes(self) -> None:
         written, said = self.diff(SET, SET, 20)
         self.assertIn("0 of 20 answers change", written)
