@@ -114,6 +114,7 @@ def without_memory(path, log):
             within(f"{started.name}, and allocation {place} is refused", (status, said),
                    [wanted, (6, NO_MEMORY), (6, NO_MEMORY_TO_SERVE)])
             alone.with_name("alone.db-wal").unlink(missing_ok=True)
+    expect("a file alone is refused by fewer allocations", (status, said), wanted)
 
 
 def half_stores():

@@ -5,7 +5,7 @@ ghost use Rattle.pdpd.specs.Halves.{halves_of};
 
 use std::alloc::{AllocError, Global};
 use std::fs;
-use std::io::{self, Read};
+use std::io::{self, ErrorKind, Read};
 use std::path::PathBuf;
 
 /// A shorter log has no room for a commit: 32 bytes of its header and 24 of a frame's (SQLite's file
@@ -51,10 +51,11 @@ fn halves_of(file: u64, log: Option<u64>, is_logged: bool) -> Halves
 }
 
 /// The length of the file at the path, if one is there.
-fn length_at(rt: &HostRuntime, path: &str) -> Option<u64> {
+fn length_at(rt: &HostRuntime, path: &str) -> Result<Option<u64>, AllocError> {
     match fs::metadata(rt, path) {
-        Ok(found) if found.is_file() => Some(found.len()),
-        _ => None,
+        Ok(found) if found.is_file() => Ok(Some(found.len())),
+        Err(error) if error.kind() == ErrorKind::OutOfMemory => Err(AllocError),
+        _ => Ok(None),
     }
 }
 
@@ -71,23 +72,26 @@ fn is_logged(head: &[u8]) -> bool {
     head.starts_with(b"SQLite format 3\0") && head.get(WRITE_VERSION_AT) == Some(&2)
 }
 
-/// Whether the file at the path is one whose commits are in a log first.
-fn is_logged_at(rt: &HostRuntime, path: &str) -> bool {
+/// Whether the file at the path is one whose commits are in a log first. One that can't be read isn't:
+/// opening it says why.
+fn is_logged_at(rt: &HostRuntime, path: &str) -> Result<bool, AllocError> {
     match head_at(rt, path) {
-        Ok(head) => is_logged(&head),
-        Err(_) => false,
+        Ok(head) => Ok(is_logged(&head)),
+        Err(error) if error.kind() == ErrorKind::OutOfMemory => Err(AllocError),
+        Err(_) => Ok(false),
     }
 }
 
 /// The file that is meant by the path: what it leads to if it is a link, and the path as it is if that can't
 /// be told.
-fn file_meant<'a>(path: &'a str, target: &'a io::Result<PathBuf>) -> &'a str
-    ensures { MatchResult target.now (λ found. result.now ≡ path_buf_bytes found)
-        (λ _. result.now ≡ path.now) }
+fn file_meant<'a>(path: &'a str, target: &'a io::Result<PathBuf>) -> Result<&'a str, AllocError>
+    ensures { IfOk result (λ file. MatchResult target.now
+        (λ found. file.now ≡ path_buf_bytes found) (λ _. file.now ≡ path.now)) }
 {
     match target {
-        Ok(found) => found.as_str(),
-        Err(_) => path,
+        Ok(found) => Ok(found.as_str()),
+        Err(error) if error.kind() == ErrorKind::OutOfMemory => Err(AllocError),
+        Err(_) => Ok(path),
     }
 }
 
@@ -104,9 +108,9 @@ fn log_beside(alloc: Global, file: &str) -> Result<String, AllocError>
 /// log beside that.
 pub fn halves_at(rt: &HostRuntime, path: &str) -> Result<Halves, AllocError> {
     let target = fs::canonicalize(rt, path);
-    let path = file_meant(path, &target);
+    let path = file_meant(path, &target)?;
     let log = log_beside(rt.alloc(), path)?;
-    let file = length_at(rt, path).unwrap_or(0);
-    let is_logged = file > 0 && is_logged_at(rt, path);
-    Ok(halves_of(file, length_at(rt, log.as_str()), is_logged))
+    let file = length_at(rt, path)?.unwrap_or(0);
+    let is_logged = file > 0 && is_logged_at(rt, path)?;
+    Ok(halves_of(file, length_at(rt, log.as_str())?, is_logged))
 }
