@@ -32,6 +32,27 @@ LETTERS = (
     r"\u30A1-\u30FA\u4E00-\u9FFF\uAC00-\uD7A3")
 
 
+def coded(characters: str) -> str:
+    """A regular expression of one of some characters, as it stands in a form or encoded."""
+    return f"(?:{'|'.join(f'{before}{ord(each):02x}' for each in characters for before in (chr(92) + 'x', '%'))})"
+
+
+def coded_word(word: str) -> str:
+    return "".join(coded(each + each.upper()) for each in word)
+
+
+# The name of a field of a form by which a server may take another method, as `_method`, `a[_method]` or
+# `X-HTTP-Method-Override`: among fields that are written as a query, and in the head of a part, where a name may also
+# be written so that some readers find another one. Without regard to small letters and capitals.
+# (Each blank matches in one way, 40 of them are refused, and of what stands before a bracket 200 characters count: so
+# no form takes long to look at.)
+BLANK = r"(?:\s|%20|\+|%2b)"
+NAMES_METHOD = (f"(?:{BLANK}{{40}}|{BLANK}{{0,39}}(?:{coded('_. +')}|{coded_word('x')}{coded('-_. +')}"
+                f"(?:{coded_word('http')}{coded('-_. +')})?){coded_word('method')})")
+FIELD_NAMES_METHOD = f"(?:^|[&;?])(?:[^&;?=]{{0,200}}{coded('[')})?{NAMES_METHOD}"
+PART_NAMES_METHOD = f"(?:^|[^a-z])name\\s*(?:\\*|=\\s*[\"']?{NAMES_METHOD})|{coded('[')}{NAMES_METHOD}|=\\?"
+
+
 def is_text(held: object) -> bool:
     return isinstance(held, str) and bool(held) and not re.search(r"[\x00-\x1f\x7f\ud800-\udfff]", held)
 
@@ -96,6 +117,8 @@ MAP: Members = {
     "Resource": (False, table(is_text, is_text), "an object of attribute ids and texts"),
     "Action": (True, is_action, "an object of methods and action ids"),
     "Delete": (False, each(is_field), "a list of fields that are deleted from what a client sends"),
+    "Forms": (False, lambda held: isinstance(held, bool),
+              "true or false: whether forms are looked at for another method, as they are without it"),
     "Obligations": (False, table(is_text, lambda held: isinstance(held, dict)), "an object of ids and objects"),
 }
 SUBJECT: Members = {
@@ -194,7 +217,7 @@ def mapped(held: Dict[str, Any]) -> Dict[str, Any]:
         how["Variable"] = f"pdp_field_{number}"
     return {"Subject": {"FromAddress": [], "FromCertificate": [], "Certificate": False, **held["Subject"]},
             "Resource": held.get("Resource", {}), "Action": held["Action"], "Obligations": obligations,
-            "Refused": list(REFUSED)}
+            "Refused": list(REFUSED), "Forms": held.get("Forms", True)}
 
 
 def fields_shown(held: Dict[str, Any]) -> Iterator[Tuple[str, str]]:

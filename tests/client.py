@@ -13,13 +13,15 @@ WHOLE = "--whole"
 IS_WHOLE = WHOLE in sys.argv
 sys.argv = [word for word in sys.argv if word != WHOLE]
 
-from client_parts import shared, hostile, mapping, points, real, recipes  # noqa: E402
+from client_parts import shared, hostile, mapping, points, readings, real, recipes  # noqa: E402
 from checks import is_program  # noqa: E402
 
 PARTS = (real.values, real.several, real.obligations, real.administration, real.threads, real.keeps_and_changes,
          real.under_asyncio,
          hostile.decisions, hostile.cuts, hostile.slowness, hostile.secrets, hostile.mistakes,
          recipes.types, recipes.wheel, recipes.java, recipes.wsgi, recipes.asgi, recipes.flask_views, recipes.page,
+         readings.odd_paths, readings.odd_methods, readings.flask_readings,
+         readings.odd_forms,
          mapping.mapping, points.grants, points.underscores, points.odd_fields, points.rewrites,
          points.obligations_there, points.faulty, points.two_readings, points.letters,
          points.certificates, points.kept, points.crowds, points.script_errors, points.pages)

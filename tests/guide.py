@@ -148,6 +148,8 @@ def paste():
 def readme(folder):
     """README.md starts a server that stays, and asks it."""
     port = free_port()
+    # (what an earlier one said there isn't taken for this one's)
+    (folder / "build" / "served").write_text("# It serves at another time\n")
     said = pasted("README.md", folder, port, behind=f"kill %1; wait; {ENDS}")
     expect(f"README.md: behind `kill %1` nobody listens: {said[-500:]}", CLOSED in said, True)
     expect("README.md: a decision", re.search(r'"Decision":"(Permit|Deny)"', said) is not None, True)
@@ -156,7 +158,7 @@ def readme(folder):
 
 def policies(folder):
     """docs/guide/POLICIES.md goes from a recipe to a deployment and a decision, beside a server that stays."""
-    serve = "\n".join(re.findall(r"(?m)^(?:make serve|timeout) .*", "\n".join(blocks("README.md"))))
+    serve = "\n".join(re.findall(r"(?m)^(?:mkdir|make serve|timeout) .*", "\n".join(blocks("README.md"))))
     said = pasted("docs/guide/POLICIES.md", folder, free_port(), before=serve, behind="kill %1; wait")
     for wanted in ("Deployed: number 1.", '"Decision":"Permit"', "0 failed"):
         expect(f"docs/guide/POLICIES.md shows {wanted}: {said[-3000:]}", wanted in said, True)

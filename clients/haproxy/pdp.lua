@@ -50,14 +50,54 @@ local function path_of(raw)
     return path
 end
 
--- Whether a query names another method, as `_method=`, `a[_method]=` or `X-HTTP-Method-Override=` in some encoding.
-local function names_method(query)
-    local decoded = query:gsub("%%(%x%x)", function(digits)
+-- A text, in which each percent and two digits stand for a byte.
+local function unescaped(text)
+    return (text:gsub("%%(%x%x)", function(digits)
         return string.char(tonumber(digits, 16))
-    end)
-    for _, name in ipairs({"[_. +]method", "x[%-_. +]method", "x[%-_. +]http[%-_. +]method"}) do
-        if ("&" .. decoded:lower()):find("[&;?%[][%s+]*" .. name) then
+    end))
+end
+
+-- Whether a name of a method follows one of these patterns, as `_method`, `a[_method]` or `X-HTTP-Method-Override`.
+local function names(text, ...)
+    for _, before in ipairs({...}) do
+        for _, name in ipairs({"[_. +]method", "x[%-_. +]method", "x[%-_. +]http[%-_. +]method"}) do
+            if text:find(before .. "[%s+]*" .. name) then
+                return true
+            end
+        end
+    end
+    return false
+end
+
+-- Whether a query names another method, in some encoding.
+local function names_method(query)
+    return names("&" .. unescaped(query):lower(), "[&;?%[]")
+end
+
+-- Whether a form names another method, or may do so for some reader: among fields that are written as a query, or in
+-- the head of a part.
+local function form_names_method(kind, form)
+    if (kind .. ";"):gsub('charset%s*=%s*"?utf%-8"?%s*;', ""):find("charset", 1, true) then
+        return true
+    end
+    if not kind:find("multipart", 1, true) then
+        for field in form:gmatch("[^&;?]+") do
+            if names(unescaped(field:match("^[^=]*")):lower(), "^", "%[") then
+                return true
+            end
+        end
+        return false
+    end
+    form = form:lower():gsub("\r?\n[ \t]", " "):gsub("\r[ \t]", " ")
+    for head in form:gmatch("content%-disposition([^\r\n]*)") do
+        head = head:gsub("\\", "")
+        if head:find("[^a-z]name%s*%*") or head:find("=?", 1, true) then
             return true
+        end
+        for name in head:gmatch("[^a-z]name%s*=%s*[\"']?([^\"';]*)") do
+            if names(unescaped(name):lower(), "^", "%[") then
+                return true
+            end
         end
     end
     return false
@@ -151,6 +191,22 @@ local function refuse_others(head, query)
     end
     if names_method(query) then
         refuse(400, "another method in the query")
+    end
+end
+
+-- Refuses a form that names another method, and one that isn't whole in HAProxy's buffer.
+local function refuse_form(fetch, head)
+    local kind = table.concat(fields(head, "content-type"), ";"):lower()
+    local is_form = kind:find("^%s*$") or kind:find("^%s*;") or kind:find("form", 1, true)
+        or kind:find("url", 1, true) or kind:find("multipart", 1, true)
+    if not map.Forms or not is_form then
+        return
+    end
+    local form, told = fetch:req_body() or "", fields(head, "content-length")[1] or "0"
+    if tonumber(told) ~= #form then
+        refuse(413, "a form that isn't whole in the buffer")
+    elseif form_names_method(kind, form) then
+        refuse(400, "another method in a form")
     end
 end
 
@@ -270,7 +326,9 @@ local function ask(txn)
     local head = txn.http:req_get_headers()
     refuse_odd_names(head)
     local subject = subject_of(txn, head)
-    local obligations = permitted(answer(question(txn, subject, head)))
+    local body = question(txn, subject, head)
+    refuse_form(txn.f, head)
+    local obligations = permitted(answer(body))
     for _, each in ipairs(obligations) do
         if not map.Obligations[json.member(each, "Id") or ""] then
             refuse(403, "an obligation that isn't understood")

@@ -71,6 +71,50 @@ function category(id, value, more) {
     return {Attribute: all.map(each => ({AttributeId: each[0], DataType: STRING, Value: each[1]}))};
 }
 
+// A field of a form that is written as a query, and the head of a part of a form, which name another method.
+const FIELD_NAMES_METHOD = new RegExp(map.FieldNamesMethod, 'i');
+const PART_NAMES_METHOD = new RegExp(map.PartNamesMethod, 'i');
+
+// Refuses a form that names another method, or may do so for some reader, and one that isn't in memory.
+function refuse_form(r) {
+    const kind = fields(r, 'Content-Type').join(';');
+    if (!map.Forms || !/^\s*(?:;|$)|form|url|multipart/i.test(kind)) {
+        return;
+    }
+    let body;
+    try {
+        body = r.requestBuffer;
+    } catch (e) {  // nginx has it in a file
+        throw refusal(413, 'a form of more than a MiB');
+    }
+    if (!body) {
+        return;
+    }
+    const form = body.toString();
+    if (/charset(?!\s*=\s*"?utf-8"?\s*(?:;|$))/i.test(kind)
+            || (/multipart/i.test(kind) ? parts_name_method(form) : FIELD_NAMES_METHOD.test(form))) {
+        throw refusal(400, 'another method in a form');
+    }
+}
+
+// Whether the head of a part names another method, or may do so for some reader. One whose line goes on in the next
+// one, or is as long as this, does: no browser sends one.
+function parts_name_method(form) {
+    const lower = form.toLowerCase();
+    let at = lower.indexOf('content-disposition');
+    for (let count = 0; at >= 0; count++) {
+        const head = lower.slice(at, at + 2000).match(/^[^\r\n]*(?:\r\n|\r|\n)?[ \t]?/)[0];
+        if (count > 1000) {
+            throw refusal(413, 'a form of more than 1,000 parts');
+        }
+        if (head.length === 2000 || /[\r\n][ \t]$/.test(head) || PART_NAMES_METHOD.test(head.replace(/\\/g, ''))) {
+            return true;
+        }
+        at = lower.indexOf('content-disposition', at + head.length);
+    }
+    return false;
+}
+
 // Whether a query names another method, as `_method=`, `a[_method]=` or `X-HTTP-Method-Override=` in some encoding.
 function names_method(query) {
     const decoded = query.replace(/%([0-9A-Fa-f]{2})/g, (_, digits) => String.fromCharCode(parseInt(digits, 16)));
@@ -180,6 +224,7 @@ function guard(r) {
         refuse_odd_names(r);
         const subject = subject_of(r);
         const body = question(r, subject);
+        refuse_form(r);
         r.subrequest('/pdp-decision', {method: 'POST', body: body, args: ''})
             .then(reply => let_through(r, subject, permitted(reply)))
             .catch(fault => refuse(r, fault));

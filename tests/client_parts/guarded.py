@@ -125,7 +125,8 @@ class Guarded:
         lines += [f"Content-Length: {len(body)}"] if body else []
         with socket.create_connection(("127.0.0.1", self.tls_port if tls else self.port), PATIENCE) as plain:
             with tls.wrap_socket(plain) if tls else plain as connection:
-                connection.sendall("\r\n".join([*lines, "\r\n"]).encode("utf-8", "surrogateescape") + body)
+                with contextlib.suppress(ConnectionError):  # (what is refused may not be read)
+                    connection.sendall("\r\n".join([*lines, "\r\n"]).encode("utf-8", "surrogateescape") + body)
                 held = b""
                 with contextlib.suppress(ConnectionError):
                     while data := connection.recv(65_536):

@@ -30,7 +30,7 @@ WRONG = (
     ({"Obligations": {"o": {}}}, "either Log or Header"),
     ({"Obligations": {"o": {"Log": "x;"}}}, "o.Log isn't"),
     ({"Obligations": {"o": {"Log": "/x", "Header": "X"}}}, "either"),
-    ({"Resource": {"a": 1}}, "Resource isn't"))
+    ({"Resource": {"a": 1}}, "Resource isn't"), ({"Forms": "no"}, "Forms isn't"))
 WRONG_FOR = {"nginx": (), "haproxy": (({"Location": "/a/"}, "Location isn't /"),
                                       ({"Protects": "https://127.0.0.1:9"}, "Protects isn't an address with http"))}
 

@@ -150,10 +150,13 @@ def asgi():
             said, before = [], len(arrived)
             scope = {"type": "http", "method": "GET", "path": path, "headers": [], "user": user, **more}
 
+            async def receive():
+                return {"type": "http.request", "body": b"", "more_body": False}
+
             async def send(event):
                 said.append(event.get("status", event["type"]))
             guarded = pdp_guards.GuardedASGI(application, domain, handlers, lambda held: held["user"])
-            asyncio.run(guarded(scope, None, send))
+            asyncio.run(guarded(scope, receive, send))
             return [*said, None][0], len(arrived) - before
         expect("ASGI: a permitted one", (sent(), asked.logged), ((200, 1), [["ann"]]))
         expect("ASGI: its life", sent(type="lifespan"), (None, 1))
@@ -172,14 +175,15 @@ def asgi():
             expect(f"ASGI: {what}", found, (wanted, 0))
 
 
-def flask_elsewhere():
-    """The same part by the system's Python, if that one has Flask."""
+def flask_elsewhere(part):
+    """A part by the system's Python, if that one has Flask."""
     is_other = SYSTEM.exists() and SYSTEM.resolve() != pathlib.Path(sys.executable).resolve()
     if not is_other or subprocess.run([SYSTEM, "-c", "import flask"], capture_output=True, check=False).returncode:
-        return untried.append("the decorator of Flask's views (apt-get install python3-flask)")
-    ran = subprocess.run([SYSTEM, TOP / "tests" / "client.py", "--whole", PROGRAM, "flask_views"], text=True,
+        lacks = "the decorator of Flask's views (apt-get install python3-flask)"
+        return None if lacks in untried else untried.append(lacks)
+    ran = subprocess.run([SYSTEM, TOP / "tests" / "client.py", "--whole", PROGRAM, part], text=True,
                          capture_output=True, check=False, timeout=SECONDS)
-    return expect(f"Flask, by the system's Python: {ran.stdout}{ran.stderr}", ran.returncode, 0)
+    return expect(f"{part}, by the system's Python: {ran.stdout}{ran.stderr}", ran.returncode, 0)
 
 
 def flask_views():
@@ -187,13 +191,14 @@ def flask_views():
     try:
         import flask
     except ImportError:
-        return flask_elsewhere()
+        return flask_elsewhere("flask_views")
     with Acme() as acme:
         acme.decides_by(policy_of("1.0", rule("r", match("AccessSubject", "ann"), match("Resource", "7"),
                                               match("Resource", "record", "urn:example:kind"),
                                               match("Action", "read"))))
         app = flask.Flask("tried")
-        guard = pdp_guards.Guard(acme.domain(), {}, lambda: flask.request.headers.get("User"), flask.abort)
+        guard = pdp_guards.Guard(acme.domain(), {}, lambda: flask.request.headers.get("User"), flask.abort,
+                                 lambda: flask.request)
 
         @app.get("/records/<record>")
         @guard("read", lambda record: {"id": record, "urn:example:kind": "record"})

@@ -123,6 +123,9 @@ def build(podman, checks, folder):
     how = ["--network=none", "--pull=never", "-q", "--format", "docker"]
     podman("build", *how, "-t", "docker.io/library/haproxy:2.6", "-f", "-", context, data=PROXY)
     podman("build", *how, "-t", "pdpd:0.1", "-f", folder / "deploy" / "container" / "Dockerfile", folder)
+    held = "ls /usr/local/lib/pdpd; command -v python3 || echo no Python"
+    said = podman("run", "--rm", "--network=none", *podman.limits, "--entrypoint", "/bin/sh", "pdpd:0.1", "-c", held)
+    checks.expect("what the image has", said.split("\n"), ["pdpd", "pdpd-loop", "no Python"])
 
 
 def ends(podman, checks, folder):

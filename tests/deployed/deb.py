@@ -18,6 +18,7 @@ INSTALL = APT + " install -y ./{} 2>&1"
 def deb(made, checks):
     """A machine from nothing to a purge."""
     package = packed_twice(made, checks)
+    compared(made, checks, package)
     with booted(made.folder / "deb") as machine:
         shutil.copy(package, machine.root / "root")
         for later, change in (("pdpd_0.2_amd64.deb", "true"), ("pdpd_0.3_amd64.deb", "echo '# more' >> {}")):
@@ -45,6 +46,17 @@ def packed_twice(made, checks):
     checks.expect("packages, packed twice", len(digests), 1)
     checks.expect("its checksum", sh(f"cd {folders[0]} && sha256sum --check *.sha256"), f"{package.name}: OK\n")
     return package
+
+
+def compared(made, checks, package):
+    """The package has all that the archive has, but for what installs it and the files for containers."""
+    there = made.folder / "unpacked"
+    sh(f"mkdir {there}; tar -C {there} -xf {made.packed()}; dpkg-deb -x {package} {there}/package")
+    (archive,) = there.glob("pdpd-*")
+    held = {path.name for path in (there / "package").rglob("*") if path.is_file()}
+    lacks = {str(path.relative_to(archive)) for path in archive.rglob("*") if path.is_file() and path.name not in held}
+    containers = {str(path.relative_to(archive)) for path in (archive / "deploy" / "container").iterdir()}
+    checks.expect("what the package hasn't", lacks, {"SHA256SUMS", "deploy/install", *containers})
 
 
 def pack_later(package, path, change):

@@ -6,12 +6,15 @@ import time
 
 from checks import Between
 
+from .audit import SWITCH, commands
 from .booting import booted
 from .clients import Makers, Operator, decision, once
-from .machine import PLAIN, commands_of_page, wait_until
+from .machine import PAGE, PLAIN, commands_of_page, wait_until
 
 SHARDS = range(4)
 SERVICES = (*(f"pdpd@{shard}" for shard in SHARDS), "pdpd-watchdog", "haproxy")
+# those that some settings switch on
+FURTHER = (*(f"pdpd-replica@{shard}" for shard in SHARDS), "pdpd-decisions", "pdpd-figures", "pdpd-verify.timer")
 LIST = ('curl --silent --cacert /etc/haproxy/pdpd.crt -H "Authorization: Bearer $(cat /etc/pdpd/token)" '
         "https://localhost/operator/domains")
 # the right CAP_NET_BIND_SERVICE alone (capability.h)
@@ -61,7 +64,8 @@ def systemd(made, checks):
     with booted(made.folder / "systemd") as machine:
         walk(machine, checks, archive)
         operator = Operator(machine.sh("cat /etc/pdpd/token"))
-        for part in (confinement, kills, stuck, stops, tokens, backups, moves, restarts):
+        for part in (confinement, kills, stuck, stops, tokens, backups, moves, logs, restarts,
+                     removal):
             began = time.time()
             part(machine, checks, operator)
             checks.say(f"{part.__name__}, in {time.time() - began:.0f} s")
@@ -215,6 +219,33 @@ def moves(machine, checks, operator):
     checks.expect("what has failed", machine.failed(), [])
 
 
+def logs(machine, checks, operator):
+    """The units of the log of changes, of decisions and of figures, by the page's commands: each does its work, and
+    hasn't failed once it is stopped."""
+    for command in (*commands("Audit")[:SWITCH], *commands("Metrics")):
+        machine.sh(command)
+    wait_until(operator.is_answered, machine.tail)
+    for unit in FURTHER:
+        checks.expect(unit, (machine.show(unit, "ActiveState"), machine.show(unit, "UnitFileState")),
+                      ("active", "enabled"))
+    checks.expect("a decision", decision(once(operator.makes("logged"))), "Permit")
+    changes = machine.sh("pdpd-log changes --domain logged")
+    checks.expect(f"the change is logged: {changes}", "operator  creates the domain  201" in changes, True)
+    machine.wait_for("grep -q logged /var/log/pdpd-decisions/*.log", "the decision isn't logged")
+    machine.wait_for("curl --silent --fail http://127.0.0.1:8405/ready", "it isn't ready")
+    figures = machine.sh("curl --silent http://127.0.0.1:8405/shards")
+    checks.expect("shards by the figures", re.findall(r"(?m)^pdpd_shard_up\{.*\} (\S+)", figures), ["1"] * 5)
+    machine.sh("systemctl start pdpd-verify")
+    said = machine.sh("journalctl --no-pager -o cat -u pdpd-verify")
+    checks.expect(f"what was decided is worked out again: {said[-500:]}",
+                  re.search(r"[1-9]\d* same, 0 other", said) is not None, True)
+    units = [*FURTHER, "pdpd-verify"]
+    machine.sh(f"systemctl stop {' '.join(units)}")
+    checks.expect("they are stopped", [machine.state(unit) for unit in units], [("inactive", "success")] * len(units))
+    machine.sh(f"systemctl start {' '.join(FURTHER)}")
+    wait_until(operator.is_answered, machine.tail)
+
+
 def restarts(machine, checks, operator):
     """After a reboot everything is there by itself, and a backup whose time has passed meanwhile is made."""
     before, count = operator.names(), "pdpd-shards backups | grep -c '^0 '"
@@ -226,9 +257,29 @@ def restarts(machine, checks, operator):
     checks.expect("all domains are there", operator.names(), before)
     checks.expect("what has failed", machine.failed(), [])
     machine.wait_for("pdpd-shards status", "its status tells of something wrong")
-    for unit in (*SERVICES, "pdpd-backup@0.timer"):
+    for unit in (*SERVICES, *FURTHER, "pdpd-backup@0.timer"):
         checks.expect(unit, machine.show(unit, "ActiveState"), "active")
     token = machine.sh("cat /etc/pdpd/token")
     logged = machine.run(f"journalctl --no-pager | grep -c -- {token}").stdout.strip()
     checks.expect("lines of the journal with the token", logged, "0")
     checks.expect("where the units are", pathlib.Path(machine.show("pdpd@0", "FragmentPath")).name, "pdpd@.service")
+
+
+def removal(machine, checks, _operator):
+    """The page's commands that remove it: nothing of it runs or has failed, HAProxy has its own configuration, and what
+    was kept stays."""
+    section = re.search(r"(?ms)^### Removing it\n(.*?)^### ", PAGE.read_text())[1]
+    # (there is one shard more than the page has, and nothing of runit)
+    found = [command.replace("{0..3}", "{0..4}") for command in re.findall(r"(?m)^    # (.*)$", section)
+             if "sv force-stop" not in command]
+    for command in found:
+        machine.sh(command)
+    machine.sh("systemctl daemon-reload")
+    checks.expect("what runs", machine.sh("pgrep -c -u pdpd,pdpd-replica,haproxy || true"), "0")
+    for what in ("units --all", "unit-files"):  # (of no files it ends with 1)
+        said = machine.run(f"systemctl list-{what} --plain --no-legend 'pdpd*'").stdout
+        checks.expect(f"list-{what}", said.strip(), "")
+    checks.expect("what has failed", machine.failed(), [])
+    checks.expect("HAProxy's files that aren't as packed", machine.sh("dpkg --verify haproxy"), "")
+    checks.expect("commands", machine.holds("ls /usr/local/bin/pdpd* /usr/local/lib/pdpd"), False)
+    checks.expect("what was kept", machine.holds("ls /etc/pdpd/token /var/lib/pdpd/[0-4]/pdpd.db"), True)
