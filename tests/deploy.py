@@ -33,7 +33,8 @@ sys.path.insert(0, str(TOP / "tests"))
 from checks import Checks  # noqa: E402
 from deployed import (  # noqa: E402
     attacks_front, attacks_local, attacks_pdpd, attacks_proxy, audit, backups, booting, changes, clients, containers,
-    deb, enforcement, failures, machine, metrics, observed, replies, slowness, states, systemd, units)
+    deb, enforcement, failures, machine, metrics, mistakes, observed, removal, replies, slowness, states, systemd,
+    units)
 
 PARTS = (
     units.walk, units.decision, units.configurations, units.installed, units.calls,
@@ -43,10 +44,10 @@ PARTS = (
     failures.behind_several, failures.unstarted, failures.holding, failures.unbalanced,
     backups.backups, backups.checkpoints, backups.emptied, backups.anew,
     changes.moves, changes.crossed, changes.killed, changes.keeping, enforcement.clients,
-    *states.STATES, *observed.OBSERVED,
+    *states.STATES, *mistakes.MISTAKES, *observed.OBSERVED,
     *attacks_front.ATTACKS, *attacks_local.ATTACKS, *attacks_pdpd.ATTACKS, *attacks_proxy.ATTACKS,
     units.certificate, units.want_of_memory, units.upgrade, changes.growth, changes.miscounted, units.status,
-    audit.audit, audit.killed_logged, metrics.metrics, units.secrets)
+    audit.audit, audit.killed_logged, metrics.metrics, units.secrets, removal.removal)
 # those that have a machine of their own each, with the commands that they want and Debian's packages of these
 ALONE = {systemd.systemd: booting.WANTED, deb.deb: booting.WANTED, containers.containers: containers.WANTED}
 # words that name several of them

@@ -6,6 +6,7 @@ instant would have left, so all that was answered is in it. Files that are copie
 refused as damaged, or, worse, open and lack what was answered.
 """
 import contextlib
+import hashlib
 import os
 import pathlib
 import re
@@ -18,7 +19,7 @@ import time
 from . import applied, listener, supervisor
 from .owned import Folder, run
 from .settings import Wrong, alone, harmless, put_off_signals, words_of
-from .trial import copy_files, domains_in_backup
+from .trial import FILES, copy_files, domains_in_backup
 
 # the name of a backup
 NAME = re.compile(r"[0-9]{8}T[0-9]{6}(\.[0-9]{3})?Z")
@@ -32,8 +33,9 @@ HOOK = 3600.0
 COPIED = "copied"
 
 
-# the file of a backup that has its number of domains, and that of the backup before
-COUNTS = "domains"
+# the file of a backup that has its number of domains, and that of the backup before, and the one that has the SHA-256
+# of each of its files, as `sha256sum --check` reads it
+COUNTS, SUMS = "domains", "sums"
 
 
 def state_of(pid):
@@ -85,6 +87,31 @@ def fill_backup(settings, shard, pid, made):
     return took
 
 
+def sums_of(folder):
+    """The SHA-256 of each file of a store in a folder, a line each."""
+    lines = ""
+    for name in FILES:
+        if folder.has(name):
+            digest = hashlib.sha256()
+            with folder.reading(name) as file, open(file, "rb", closefd=False) as read:
+                while data := read.read(2 ** 20):
+                    digest.update(data)
+            lines += f"{digest.hexdigest()}  {name}\n"
+    return lines
+
+
+def refuse_damaged(folder):
+    """An error where the files of a backup aren't those that were copied: of a log that was damaged or cut the program
+    reads the beginning alone. (A snapshot, and backups of earlier versions, have no sums.)"""
+    if not folder.has(SUMS):
+        return
+    with folder.reading(SUMS) as file:
+        wanted = os.read(file, 1000).decode(errors="replace")
+    if wanted != sums_of(folder):
+        raise Wrong(f"{folder.path} was damaged or changed since it was made (sha256sum --check {SUMS}): take another "
+                    "backup")
+
+
 def backup(settings, shard):
     """Makes a backup of a shard, and gives its folder, its domains, and how long the shard stood still."""
     settings.refuse_unfinished_put_back(shard)
@@ -106,6 +133,7 @@ def backup(settings, shard):
                 domains = domains_in_backup(settings, shard, path / f".{name}")
                 before, _ = counts_of_newest(settings, shard)
                 unfinished.write(COUNTS, f"{len(domains)}\n{before} in the backup before\n")
+                unfinished.write(SUMS, sums_of(unfinished))
                 unfinished.sync()
             os.rename(f".{name}", name, src_dir_fd=folders.fd, dst_dir_fd=folders.fd)
             folders.sync()
@@ -123,7 +151,7 @@ def copy_away(settings, shard, path):
     what = f"no copy of {path} is elsewhere: {settings.backup_hook}"
     status, said = run(what, [settings.backup_hook, shard, path], HOOK)
     if status != 0:
-        raise Wrong(f"{what} ends with {status}: {said}")
+        raise Wrong(f"{what} ends with {status}{': ' if said else ''}{said}")
     with Folder(path) as made:
         made.clear(COPIED)
         made.write(COPIED, "")

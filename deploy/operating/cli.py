@@ -89,6 +89,8 @@ def services(settings, words):
 
 def reload(settings, words):
     talk.check(f"{settings.haproxy_etc}/haproxy.cfg")
+    # (HAProxy takes any text for a map)
+    talk.map_in_file(settings)
     # a process that begins while another tool holds messages back would know nothing of it
     with alone():
         talk.reload(settings, supervisor.of(settings))
@@ -96,6 +98,8 @@ def reload(settings, words):
 
 
 def restart(settings, words):
+    if not words:
+        talk.refuse_other_count(settings)
     for shard in shards_in(settings, words):
         with alone(), moving.restart_between_messages(settings, shard):
             pass
@@ -131,7 +135,7 @@ def upgrade(settings, words):
 
 
 def show_status(settings, words):
-    found = status.report(settings)
+    found = status.report_of_file()
     text = {"--json": found.json, "--prometheus": lambda: metrics.text_of(found)}.get("".join(words), found.text)
     print(harmless(text()))
     return found.exit_status()
@@ -287,6 +291,8 @@ def end_in_order():
 SWITCHES = {"config": (1, ("--write",)), "status": (1, ("--json", "--prometheus")), "put-back": (3, ("--yes",))}
 # services, which go on with what was set before where the settings can't be read
 SERVICES = ("watchdog", "figures", "keep-backups")
+# what reads the settings itself
+READERS = (*SERVICES, "status")
 
 
 def is_usage(words):
@@ -305,7 +311,7 @@ def main(words):
         print(__doc__, file=sys.stderr)
         return 2
     try:
-        settings = None if words[0] in SERVICES else read()
+        settings = None if words[0] in READERS else read()
         return WORDS[words[0]][0](settings, words[1:]) or 0
     except (Wrong, OSError, sqlite3.Error, subprocess.SubprocessError, EOFError) as fault:
         for error in errors_of(fault):

@@ -4,6 +4,7 @@ from __future__ import annotations
 
 import contextlib
 import http.client
+import os
 import pathlib
 import re
 import socket
@@ -13,7 +14,7 @@ import time
 from . import talk
 from .findings import Findings
 from .proxy import configuration
-from .settings import Wrong, text_of, words_of
+from .settings import LIBRARY, Wrong, text_of, words_of
 
 # how long a certificate has to be valid from now on, in days
 DAYS = 7
@@ -49,9 +50,10 @@ def look_at_map(settings, findings: Findings) -> None:
         findings.add(f"HAProxy leads {len(names)} domains otherwise than {settings.map} says ({first_of(names)}): if "
                      "no tool is at work, pdpd-shards remap makes both anew, of where the domains are")
     beyond = [name for name, place in talk.map_in_file(settings).items() if place.isdecimal()
-              and int(place) >= settings.shards]
+              and int(place) >= max(settings.shards, talk.shards_in_configuration(settings) or 0)]
     if beyond:
-        findings.add(f"{settings.map} leads to shards that there aren't: {first_of(sorted(beyond))}")
+        findings.add(f"{settings.map} leads to shards that there aren't: {first_of(sorted(beyond))}: pdpd-shards "
+                     "remap")
 
 
 def first_of(names: list[str]) -> str:
@@ -68,12 +70,30 @@ def digest_in(text: str) -> str | None:
 def look_at_configuration(settings, findings: Findings) -> None:
     """Whether HAProxy runs its file, and whether that is what the settings say."""
     path = settings.map.with_name("haproxy.cfg")
+    if not path.exists():
+        findings.add(f"{path} isn't there: pdpd-shards config --write")
+        return
     text = text_of(path)
-    if text != configuration(settings):
+    if text != configuration(settings) and not talk.other_count(settings):  # (else no tool writes it)
         findings.add(f"{path} isn't what the settings and the installed version make: pdpd-shards config --write, then "
                      "pdpd-shards reload; behind a new archive pdpd-shards upgrade")
     if digest_in(talk.admin_reply(settings, "show env PDPD_DIGEST")) != digest_in(text):
         findings.add(f"HAProxy runs another configuration than {path} has: pdpd-shards reload")
+    rules = path.with_name("domains.lua")
+    if not rules.exists() or rules.read_bytes() != (LIBRARY / "domains.lua").read_bytes():
+        findings.add(f"{rules} isn't what is installed: pdpd-shards config --write, then pdpd-shards reload")
+    if os.geteuid() == 0:  # (others can't read the certificate's key)
+        look_whether_it_starts(path, findings)
+
+
+def look_whether_it_starts(path: pathlib.Path, findings: Findings) -> None:
+    """Whether HAProxy would start with the files as they are now, and not only with what it has read."""
+    try:
+        talk.check(path)
+    except Wrong as fault:
+        _, *reasons = str(fault).splitlines()
+        first = re.sub(r"^\[ALERT\] +\(\d+\) : (config : )?", "", reasons[0]) if reasons else str(fault)
+        findings.add(f"HAProxy wouldn't start with its files: {first[:300]}")
 
 
 # ---- a client's question

@@ -164,5 +164,6 @@ def wait_for_own(settings, shard: int, seconds: float = 3.0) -> None:
     while not is_own(settings, shard):
         refuse_another(settings, shard)
         if time.monotonic() > end:
-            raise Wrong(f"shard {shard} takes no connections: its program doesn't run, or its log says why")
+            raise Wrong(f"shard {shard} takes no connections: its program doesn't run, and pdpd-shards restart {shard} "
+                        "starts it, or its log says why")
         time.sleep(0.05)

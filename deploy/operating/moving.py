@@ -59,10 +59,11 @@ def wait_until_up(settings, shards, seconds=30.0):
 def restart_shards(settings, *shards):
     """Restarts the shards' programs, which are stopped meanwhile, and waits until they answer.
 
-    None is stopped while the operator's token is one with which it wouldn't start. After an error it doesn't wait
-    for long: one of them may stay away, and the messages of the others are held back meanwhile.
+    None is stopped while the operator's token, or the program, is one with which it wouldn't start. After an error it
+    doesn't wait for long: one of them may stay away, and the messages of the others are held back meanwhile.
     """
     settings.operator()
+    settings.refuse_no_program()
     try:
         with stop_shards(settings, shards):
             yield
@@ -150,6 +151,19 @@ def move(settings, domain, one, other):
     return time.time() - began
 
 
+@contextlib.contextmanager
+def as_before_where_it_fails(settings, before):
+    """After an error within, domains can be made again as before: what the map's file and HAProxy say of it."""
+    try:
+        yield
+    except BaseException:
+        # (a HAProxy that isn't there reads the file once it starts)
+        with contextlib.suppress(talk.NoProxy):
+            if talk.map_in_file(settings).get("NEW") != before:
+                talk.set_in_map(settings, {"NEW": before})
+        raise
+
+
 def stop_making_domains(settings):
     """No domain is made from here on, and each that was asked for before is there or isn't."""
     for shard in range(settings.shards):
@@ -173,16 +187,21 @@ def shards_of_domains(settings):
 def grow(settings, shards):
     """Makes more shards. Each domain stays in its own, and new ones go to all. Tells how many there are."""
     _, most = NUMBERS["SHARDS"]
-    # (HAProxy's file has more where a growth was cut, or SHARDS was set back)
-    least = max(settings.shards, talk.shards_in_configuration(settings) or 0)
-    if not least <= shards <= most:
-        raise Wrong(f"the shards become more, up to {most}: now they are {least}")
+    # (HAProxy's file has more where a growth was cut, or SHARDS was set back: that number alone is gone on with, since
+    # all shards are asked for their domains before there are more)
+    count = talk.shards_in_configuration(settings) or settings.shards
+    if not count <= shards <= most:
+        raise Wrong(f"the shards become more, up to {most}: now they are {count}")
+    if settings.shards > count or shards > count:
+        talk.refuse_other_count(settings)
     settings.operator()
     by, known = supervisor.of(settings), talk.map_in_file(settings)
-    stop_making_domains(settings)
+    with as_before_where_it_fails(settings, known.get("NEW")):
+        stop_making_domains(settings)
+        found = shards_of_domains(settings)
     # of a domain that is in two shards that one counts to which its messages are led
     shard_of = {name: led if (led := talk.place(settings, known, name)) in places else places[0]
-                for name, places in shards_of_domains(settings).items()}
+                for name, places in found.items()}
     talk.set_in_map(settings, {name: shard for name, shard in shard_of.items() if name not in known})
     applied.apply_where_none(settings, range(shards))
     by.set_up(range(shards))
@@ -232,8 +251,7 @@ def remap(settings):
         known = {name: value for name, value in talk.running(talk.map_while_it_runs(settings)).items()
                  if value == "moving" or value.isdecimal()}
         write_whole(settings.map, "".join(f"{name} {value}\n" for name, value in sorted(known.items())))
-    before = known.get("NEW")
-    try:
+    with as_before_where_it_fails(settings, known.get("NEW")):
         stop_making_domains(settings)
         places = shards_of_domains(settings)
         entries, twice = remapped(settings, known, places)
@@ -241,8 +259,5 @@ def remap(settings):
         changes = {name: entries.get(name) for name in names}
         # (also what a growth has left that was cut: all of it agrees on the number of shards, and they answer)
         talk.set_in_map(settings, {**changes, "NEW": None})
-    except BaseException:
-        talk.set_in_map(settings, {"NEW": before})
-        raise
     changed = {name: place for name, place in changes.items() if str(place) != str(known.get(name))}
     return len(places), changed, twice

@@ -13,7 +13,7 @@ from collections.abc import Iterable, Iterator
 from typing import NamedTuple
 
 from . import listener, moving, talk
-from .backups import NAME, name_of_moment
+from .backups import NAME, name_of_moment, refuse_damaged
 from .owned import PLANTED, Folder
 from .settings import MARK, Wrong
 from .trial import FILES, STORE, copy_files, domains_in_folder
@@ -67,6 +67,19 @@ def write_mark(place: Folder, coming: Folder, aside: Folder) -> None:
     coming.sync()
     coming.move(MARK, place)
     place.sync()
+
+
+@contextlib.contextmanager
+def leave_nothing(place: Folder, aside: Folder) -> Iterator[None]:
+    """After an error before a file was moved, the folders that were made for it go."""
+    try:
+        yield
+    except BaseException:
+        if not place.has(MARK) and not os.listdir(aside.fd):
+            place.clear(COMING)
+            with contextlib.suppress(OSError):  # (what isn't empty is another one)
+                os.rmdir(aside.path.name, dir_fd=place.fd)
+        raise
 
 
 class Plan(NamedTuple):
@@ -132,10 +145,11 @@ def plan(settings, shard: int, name: str) -> Plan:
     settings.operator()
     with backup_of(settings, shard, name) as source:
         refuse_other_shard(shard, source)
+        refuse_damaged(source)
         domains = domains_in_folder(settings, shard, source)
     try:
         before = talk.domains_of(settings, shard)
-    except listener.Impostor:
+    except (listener.Impostor, talk.NoProxy):
         raise
     except Wrong:
         before = None
@@ -152,7 +166,7 @@ def put_back(settings, planned: Plan) -> pathlib.Path:
     shard = planned.shard
     with Folder(settings.folder(shard)) as place, backup_of(settings, shard, planned.name) as source:
         place.clear(COMING)
-        with place.new_folder(COMING) as coming, folder_aside(place) as aside:
+        with place.new_folder(COMING) as coming, folder_aside(place) as aside, leave_nothing(place, aside):
             copy_files(source, coming, place.owner)
             coming.sync()
             with moving.restart_between_messages(settings, shard):

@@ -173,6 +173,12 @@ class Settings:
                            "No shard can be started with it, so restart none before")
         return line
 
+    def refuse_no_program(self):
+        """An error where the program can't be run: a shard that is stopped wouldn't start again."""
+        if not os.path.isfile(self.program) or not os.access(self.program, os.X_OK):
+            raise Wrong(f"{self.program} can't be run: install the archive again, or mend PROGRAM in {FILE}. Restart "
+                        "no shard before")
+
     def shard_in(self, word):
         """The shard that a word of the command line names."""
         shard = number_in_word(word)

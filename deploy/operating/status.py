@@ -8,10 +8,10 @@ import pathlib
 import time
 from typing import NamedTuple
 
-from . import applied, front, listener, room, supervisor, talk, trial
+from . import applied, front, listener, room, standing, supervisor, talk, trial
 from .backups import COPIED, backups_of, emptied, is_beyond
 from .findings import Findings
-from .settings import FILE, MARK, BadToken, Settings, Wrong, words_of
+from .settings import FILE, MARK, BadToken, Settings, Wrong, read, words_of
 
 # when a backup is too old, in seconds
 OLD = 2 * 3600 + 600
@@ -51,7 +51,7 @@ class Report(NamedTuple):
 
     def text(self) -> str:
         """A table and lines."""
-        rows = [list(HEADS), *(shard.cells() for shard in self.shards)]
+        rows = [list(HEADS), *(shard.cells() for shard in self.shards)] if self.shards else []
         widths = [max(map(len, column)) for column in zip(*rows)]
         lines = ["  ".join(cell.ljust(width) for cell, width in zip(row, widths)).rstrip() for row in rows]
         if self.certificate_days is not None:
@@ -92,7 +92,8 @@ def age_of_backup(settings: Settings, shard: int, findings: Findings) -> float |
         folders = [path for path in folders if path not in beyond]
         old = max(0.0, time.time() - folders[-1].stat().st_mtime) if folders else None
         if old is None or old > OLD:
-            findings.add(f"shard {shard} has no backup of the last two hours")
+            findings.add(f"shard {shard} has no backup of the last two hours: pdpd-shards backup {shard} makes one, or "
+                         "tells why not")
         elif settings.backup_hook and not any(was_copied(path) for path in folders):
             findings.add(f"no backup of shard {shard} of the last two hours was copied away by {settings.backup_hook}: "
                          f"pdpd-shards backup {shard} tells why")
@@ -108,22 +109,30 @@ def was_copied(path: pathlib.Path) -> bool:
     return mark.exists() and time.time() - mark.stat().st_mtime <= OLD
 
 
-def led_elsewhere(settings: Settings, shard: int, known: dict[str, str], names: list[str], findings: Findings) -> None:
+def led_elsewhere(settings: Settings, shard: int, known: dict[str, str], lists: dict[int, list[str]],
+                  findings: Findings) -> None:
     """Tells of domains whose messages go to another shard than the one that has them, and of those that nobody has
-    where their messages go."""
+    where their messages go. `lists` has the domains of each shard that answers."""
+    names, astray = lists[shard], {}
     for name in names:
         where = talk.place(settings, known, name)
         if where not in (shard, "moving"):
-            findings.add(f"shard {shard} has {name}, whose messages go to shard {where}: look which is right")
+            # (a shard that doesn't answer may have one of the same name)
+            is_alone = name not in lists.get(where, [] if where >= settings.shards else [name])
+            astray.setdefault((where, is_alone), []).append(name)
+    for (where, is_alone), found in astray.items():
+        heals = f"; it hasn't that: pdpd-shards remap leads them to shard {shard}" if is_alone else \
+            ": look which is right"
+        findings.add(f"shard {shard} has {front.first_of(found)}, whose messages go to shard {where}{heals}")
     lost = sorted(name for name, where in known.items() if where == str(shard) and name not in names)
     if lost:
         findings.add(f"the map leads {front.first_of(lost)} to shard {shard}, where no such domain is. What was "
                      "removed is taken out of the map by pdpd-shards remap; or an older backup was put back")
 
 
-def state_of(settings: Settings, shard: int, known: dict[str, str],
+def state_of(settings: Settings, shard: int, lists: dict[int, list[str]],
              findings: Findings) -> tuple[str | None, int | None]:
-    """The state of a shard, and how many domains it has."""
+    """The state of a shard, and how many domains it has, which go into `lists`."""
     try:
         names = talk.domains_of(settings, shard)
     except PermissionError as fault:
@@ -134,7 +143,7 @@ def state_of(settings: Settings, shard: int, known: dict[str, str],
         if isinstance(fault, (talk.NoProxy, BadToken)):
             return ("up" if listener.is_own(settings, shard) else "down"), None
         return {talk.OtherToken: "up", listener.Impostor: "taken"}.get(type(fault), "down"), None
-    led_elsewhere(settings, shard, known, names, findings)
+    lists[shard] = names
     return "up", len(names)
 
 
@@ -195,12 +204,16 @@ def look_at_disks(settings: Settings, findings: Findings) -> None:
                 findings.add_once(os.stat(path).st_dev, f"the disk of {name} {found.text()}")
 
 
-def look_at_map(settings: Settings, findings: Findings) -> dict[str, str]:
-    """What the map's file says; nothing where it can't be read. It tells of what was cut."""
-    known: dict[str, str] = {}
+def look_at_map(settings: Settings, findings: Findings) -> dict[str, str] | None:
+    """What the map's file says; nothing where it can't be read, or where it isn't known by which number domains are led
+    that it hasn't. It tells of what was cut."""
+    known = None
     with findings.looking("the map"):
+        talk.refuse_other_count(settings)
+        if not settings.map.exists():
+            raise Wrong(f"{settings.map} isn't there: pdpd-shards remap makes it anew, of where the domains are")
         known = talk.map_in_file(settings)
-    for name, place in known.items():
+    for name, place in (known or {}).items():
         if place == "moving":
             findings.add("no domain can be made: a growth was cut; give pdpd-shards grow again, or remap"
                          if name == "NEW" else
@@ -208,7 +221,7 @@ def look_at_map(settings: Settings, findings: Findings) -> dict[str, str]:
     return known
 
 
-def shard_report(settings: Settings, shard: int, known: dict[str, str], installed: str | None,
+def shard_report(settings: Settings, shard: int, lists: dict[int, list[str]], installed: str | None,
                  findings: Findings) -> Shard:
     """How a shard is."""
     with findings.looking(f"how shard {shard} is"):
@@ -218,22 +231,35 @@ def shard_report(settings: Settings, shard: int, known: dict[str, str], installe
         if changed := applied.changed(settings, shard):
             findings.add(f"{', '.join(changed)} of {FILE} isn't what shard {shard} was started with: pdpd-shards "
                          f"{'config --write, then ' if 'FIRST_PORT' in changed else ''}restart")
-    state, count = state_of(settings, shard, known, findings)
+    with findings.looking(f"the files of shard {shard}"):
+        standing.look_at_store(settings, shard, findings)
+    state, count = state_of(settings, shard, lists, findings)
     return Shard(shard, state, count, *sizes(settings, shard, findings), look_at_disk(settings, shard, findings),
                  age_of_backup(settings, shard, findings), program_of(settings, shard, installed, findings))
 
 
 def report(settings: Settings) -> Report:
     """How all is."""
-    findings, installed = Findings(), None
+    findings, installed, lists = Findings(), None, {}
     known = look_at_map(settings, findings)
     with findings.looking("the program that is installed"):
+        settings.refuse_no_program()
         installed = digest_of(settings.program)
-    shards = [shard_report(settings, shard, known, installed, findings) for shard in range(settings.shards)]
+    shards = [shard_report(settings, shard, lists, installed, findings) for shard in range(settings.shards)]
+    for shard in lists if known is not None else ():
+        led_elsewhere(settings, shard, known, lists, findings)
     look_at_disks(settings, findings)
+    standing.look(settings, findings)
     days = front.look(settings, findings)
-    with findings.looking("SHARDS in HAProxy's file"):
-        for found in (talk.other_count(settings), listener.warning(settings)):
-            if found:
-                findings.add(found)
+    with findings.looking("the shards' ports"):
+        if found := listener.warning(settings):
+            findings.add(found)
     return Report(shards, days, findings)
+
+
+def report_of_file() -> Report:
+    """How all is by the settings' file; where that can't be read, that alone."""
+    findings = Findings()
+    with findings.looking(str(FILE)):
+        return report(read())
+    return Report([], None, findings)

@@ -2,6 +2,7 @@
 import os
 import pathlib
 import pwd
+import re
 import shutil
 import subprocess
 import time
@@ -69,6 +70,16 @@ class Systemd:
             # it has a copy of the token, too
             run("systemctl", "restart", f"pdpd-replica@{shard}")
 
+    def beside(self, shards):
+        """The units beside those of these shards and of HAProxy."""
+        return [*(f"pdpd-backup@{shard}.timer" for shard in shards),
+                *(f"pdpd-replica@{shard}" for shard in shards if self.settings.audit),
+                *further(self.settings), *(["pdpd-verify.timer"] if self.settings.decisions else []), "pdpd-watchdog"]
+
+    def is_running(self, name):
+        """Whether systemd runs a unit."""
+        return subprocess.run(["systemctl", "is-active", "--quiet", name], check=False).returncode == 0
+
     def reload_proxy(self):
         run("systemctl", "reload", "haproxy")
 
@@ -93,12 +104,9 @@ class Systemd:
         """Has these shards, and what belongs to them, run now and after each start of the machine."""
         self.allow_backups()
         self.close_sockets_folder()
-        others = [f"pdpd-backup@{shard}.timer" for shard in shards]
-        others += [f"pdpd-replica@{shard}" for shard in shards if self.settings.audit]
-        others += [*further(self.settings), *(["pdpd-verify.timer"] if self.settings.decisions else [])]
         refuse_no_user(self.settings)
         run("systemctl", "daemon-reload")
-        run("systemctl", "enable", "--now", *(f"pdpd@{shard}" for shard in shards), *others, "pdpd-watchdog")
+        run("systemctl", "enable", "--now", *(f"pdpd@{shard}" for shard in shards), *self.beside(shards))
 
     def start_proxy(self):
         run("systemctl", "enable", "haproxy")
@@ -124,11 +132,24 @@ class Runit:
     def sv(self, word, name):
         return run("sv", word, str(self.services / name))
 
-    def pid(self, shard):
+    def process(self, name):
+        """The process of a service; 0 where there is none."""
         try:
-            return int((self.services / f"pdpd-{shard}" / "supervise" / "pid").read_text().strip() or 0)
+            return int((self.services / name / "supervise" / "pid").read_text().strip() or 0)
         except FileNotFoundError:
             return 0
+
+    def pid(self, shard):
+        return self.process(f"pdpd-{shard}")
+
+    def beside(self, shards):
+        """The services beside those of these shards and of HAProxy."""
+        replicas = [f"pdpd-replica-{shard}" for shard in shards if self.has_replicas]
+        return [*replicas, *further(self.settings), *(["pdpd-verify"] if self.settings.decisions else []), *self.BESIDE]
+
+    def is_running(self, name):
+        """Whether runit runs a service."""
+        return self.process(name) != 0
 
     def is_down(self, shard):
         """Whether a shard's program has ended, and runit starts none."""
@@ -171,16 +192,20 @@ class Runit:
         if not (shutil.which("sv") and self.services.is_dir()):
             raise Wrong(f"there is neither systemd nor runit with its folder {self.services}: install runit")
         refuse_no_user(self.settings)
-        kinds = ("pdpd", "pdpd-replica") if self.has_replicas else ("pdpd",)
-        others = (*further(self.settings), *(("pdpd-verify",) if self.settings.decisions else ()), *self.BESIDE)
-        for name, kind in (*((f"{kind}-{shard}", kind) for shard in shards for kind in kinds),
-                           *((each, each) for each in others)):
-            self.add(name, kind)
+        names = [*(f"pdpd-{shard}" for shard in shards), *self.beside(shards)]
+        for name in names:
+            self.add(name, re.sub("-[0-9]+$", "", name))
+        for name in names:
+            self.run_now(name)
+
+    def run_now(self, name):
+        """Has a service run that runit hasn't seen yet, or that was taken down."""
         end = time.time() + SEEN
-        while not self.is_seen(self.BESIDE[-1]):
+        while not self.is_seen(name):
             if time.time() > end:
                 raise Wrong(f"runit doesn't look after {self.services}: start it, `runsvdir -P {self.services}`")
             time.sleep(0.1)
+        self.sv("up", name)
 
     def is_seen(self, name):
         """Whether runit has the service."""
@@ -194,6 +219,7 @@ class Runit:
             run(SCRIPT, "stop")
             run("update-rc.d", "haproxy", "disable")
         self.add("haproxy", "haproxy")
+        self.run_now("haproxy")
 
     def renew(self):
         close_sockets_folder(self.settings)

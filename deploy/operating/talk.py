@@ -41,7 +41,7 @@ class NoProxy(Wrong, ConnectionError):
 def no_proxy(settings, socket_name, fault):
     """What is told then."""
     return NoProxy(f"HAProxy doesn't answer at {settings.haproxy_run}/{socket_name} ({words_of(fault)}): it doesn't "
-                   "run, or its log says why")
+                   "run, and pdpd-shards services starts it, or its log says why")
 
 
 def admin_reply(settings, command):
@@ -179,7 +179,10 @@ def entry_of_line(settings, number, line):
 def map_in_file(settings):
     """What the map's file says: the shard of each domain in it. Of two lines HAProxy goes by the first."""
     known = {}
-    lines = text_of(settings.map).split("\n") if settings.map.exists() else []
+    try:
+        lines = text_of(settings.map).split("\n") if settings.map.exists() else []
+    except Wrong as fault:
+        raise Wrong(f"{fault}, or have it made anew by pdpd-shards remap") from None
     for number, line in enumerate(lines, 1):
         if line.strip() and not line.lstrip().startswith("#"):
             known.setdefault(*entry_of_line(settings, number, line))
@@ -189,7 +192,8 @@ def map_in_file(settings):
 def map_while_it_runs(settings):
     """What the HAProxy that runs has in its map."""
     known = {}
-    for line in admin_reply(settings, f"show map {settings.map}").splitlines():
+    # (what HAProxy has read of a damaged file may have any letter but this one)
+    for line in admin_reply(settings, f"show map {settings.map}").split("\n"):
         entry, name, *values = *line.split(), "", ""
         if entry and not entry.startswith("0x"):
             raise Wrong(f"HAProxy doesn't go by {settings.map} ({line.strip()}): pdpd-shards config --write, reload")
@@ -301,9 +305,10 @@ def hold_messages(settings, *shards):
 
 def check(path):
     """That HAProxy takes the configuration."""
-    # (with -q it wouldn't say why)
+    # (with -q it wouldn't say why; and cron's PATH hasn't the folder where HAProxy is)
     words = ["haproxy", "-c", "-f", str(path)]
-    result = subprocess.run(words, capture_output=True, text=True, check=False)
+    surroundings = {**os.environ, "PATH": f"{os.environ.get('PATH', os.defpath)}:/usr/sbin:/sbin"}
+    result = subprocess.run(words, capture_output=True, text=True, check=False, env=surroundings)
     if result.returncode != 0:
         reasons = [line for line in result.stderr.splitlines() if line.startswith("[ALERT]")]
         raise Wrong("\n".join([f"HAProxy doesn't take {path}:", *(reasons or [result.stderr.strip()])]))

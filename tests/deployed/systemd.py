@@ -215,6 +215,12 @@ def moves(machine, checks, operator):
     checks.expect("what still runs as before the upgrade", stays, [])
     checks.expect("all domains are there", operator.names(), before)
     checks.expect("one that has moved answers", decision(once(ask)), "Permit")
+    for unit in ("pdpd-watchdog", "pdpd-backup@0.timer"):
+        machine.sh(f"systemctl stop {unit}")
+        said = machine.run("pdpd-shards status").stdout
+        is_told = f"WRONG: {unit} doesn't run: pdpd-shards services starts it" in said
+        checks.expect(f"without {unit}: {said}", is_told, True)
+    machine.sh("pdpd-shards services")
     machine.sh("pdpd-shards backup > /dev/null; pdpd-shards restart; pdpd-shards status")
     checks.expect("what has failed", machine.failed(), [])
 

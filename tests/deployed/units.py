@@ -150,6 +150,15 @@ def packed_again(machine, checks):
     sh(f"{TOP}/deploy/dist.py --program {LIBRARY}/pdpd --to {folder}")
     digests = [hashlib.sha256((at / archive.name).read_bytes()).hexdigest() for at in (machine.folder, folder)]
     checks.expect("the archive, packed twice", digests[0] == digests[1], True)
+    digest = hashlib.sha256((LIBRARY / "pdpd").read_bytes()).hexdigest()
+    lines = pathlib.Path("/usr/local/share/doc/pdpd/PROGRAM").read_text().splitlines()
+    said = sh(f"{next(machine.folder.glob('pdpd-*/deploy/install'))} {machine.folder}/told")
+    checks.expect(f"which program it is: {said}", [line.endswith(f", SHA-256 {digest}") for line in
+                                                   (lines[0], said.splitlines()[0])], [True, True])
+    script = ("import sys; sys.path.insert(0, 'deploy'); import dist, programs; programs.proved_program = "
+              "lambda name: None; dist.program_of(None)")
+    said = sh(f"cd {TOP}; python3 -Bc \"{script}\" 2>&1 || true")
+    checks.expect(f"without one that is proved: {said}", "deploy/dist.py --program PATH" in said, True)
 
 
 def calls(machine, checks):

@@ -1,0 +1,92 @@
+"""How the files of the deployment stand, beside what the shards and HAProxy answer: whether others can read what is
+secret, stores that no shard has, and whether what looks after the shards runs."""
+from __future__ import annotations
+
+import os
+import pwd
+import stat
+import time
+
+from . import supervisor, talk, trial
+from .findings import Findings
+from .settings import Settings
+
+# after how long is looked again for a service that doesn't run: a supervisor starts it again within a second
+AGAIN = 1.5
+
+
+def mode_of(path: str | os.PathLike[str]) -> os.stat_result | None:
+    """What the system says of a file; nothing where there is none."""
+    try:
+        return os.stat(path)
+    except FileNotFoundError:
+        return None
+
+
+def look_at_secrets(settings: Settings, findings: Findings) -> None:
+    """Whether others can read the operator's token or the certificate's key."""
+    # (a certificate may be a group's, as that of Debian's ssl-cert)
+    for path, others in ((settings.token, 0o077), (settings.certificate if settings.tls_bind.strip() else "", 0o007)):
+        with findings.looking(path):
+            found = mode_of(path) if path else None
+            if not found:
+                continue
+            if found.st_mode & others:
+                findings.add(f"others than root can read or change {path}: chmod 600 {path}, and replace what is in it")
+            if found.st_uid != 0:
+                findings.add(f"{path} isn't root's: chown root {path}, and replace what is in it")
+
+
+def look_at_store(settings: Settings, shard: int, findings: Findings) -> None:
+    """Whether a shard's files are its user's, for that user alone."""
+    folder = settings.folder(shard)
+    for name in trial.FILES:
+        try:
+            found, owner = os.lstat(folder / name), os.stat(folder).st_uid
+        except FileNotFoundError:
+            continue
+        user = name_of(owner)
+        if stat.S_ISREG(found.st_mode) and found.st_uid != owner:
+            findings.add(f"{folder / name} isn't the user's who has its folder, and shard {shard} can't start with it. "
+                         f"If you put it there: chown -h {user}:{user} {folder / name}")
+        elif found.st_mode & 0o077 and stat.S_ISREG(found.st_mode):
+            findings.add(f"others than its owner can read {folder / name}: runuser -u {user} -- chmod 600 "
+                         f"{folder / name}")
+
+
+def name_of(uid: int) -> str:
+    """A user's name, or its number where it has none."""
+    try:
+        return pwd.getpwuid(uid).pw_name
+    except KeyError:
+        return str(uid)
+
+
+def look_beyond(settings: Settings, findings: Findings) -> None:
+    """Whether there are stores of shards beyond SHARDS: nobody's messages are led to them."""
+    with findings.looking("the folders of DATA"):
+        count = max(settings.shards, talk.shards_in_configuration(settings) or 0)
+        numbers = sorted(int(name) for name in os.listdir(settings.data) if name.isdecimal() and len(name) < 4)
+        beyond = [number for number in numbers if number >= count
+                  and (settings.folder(number) / trial.STORE).exists()]
+        if beyond:
+            findings.add(f"{settings.folder(beyond[0])} has a store, and SHARDS is {settings.shards}: nobody is led to "
+                         f"it. pdpd-shards grow {beyond[-1] + 1}, then pdpd-shards remap; or move the folder away")
+
+
+def look_at_services(settings: Settings, findings: Findings) -> None:
+    """Whether what looks after the shards runs: the watchdog, the backups, and what some settings switch on."""
+    by = supervisor.of(settings)
+    with findings.looking("the services beside the shards"):
+        names = [name for name in by.beside(range(settings.shards)) if not by.is_running(name)]
+        if names:
+            time.sleep(AGAIN)
+        for name in names:
+            if not by.is_running(name):
+                findings.add(f"{name} doesn't run: pdpd-shards services starts it, or its log says why")
+
+
+def look(settings: Settings, findings: Findings) -> None:
+    """All of it, but for the files of shards."""
+    for one in (look_at_secrets, look_beyond, look_at_services):
+        one(settings, findings)
