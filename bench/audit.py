@@ -3,12 +3,15 @@
 minute. Each of MOMENTS random moments is asked from the last checkpoint before it, and all of them in one replay of the
 whole log; the two have to be the same, and none may take more than 20 s.
 
-Usage: bench/audit.py [--entries N] [--rows ROWS] [--moments MOMENTS] [--folder FOLDER] [PDPD]
+Usage: bench/audit.py [--entries N] [--rows ROWS] [--moments MOMENTS] [--folder FOLDER] [--at-once N] [--no-whole]
+                      [PDPD]
 
 PDPD: the built program (build/pdpd, which `make pdpd` makes). FOLDER is where the archive is written, and left; else it
-is written into a temporary one.
+is written into a temporary one. So many moments are asked at once (1). The whole log of a
+year takes long: --no-whole leaves it out, and a year of fewer --entries is compared.
 """
 import argparse
+import concurrent.futures
 import os
 import pathlib
 import random
@@ -40,6 +43,8 @@ def options():
     words.add_argument("--rows", type=int, default=20)
     words.add_argument("--moments", type=int, default=1_000)
     words.add_argument("--folder", type=pathlib.Path)
+    words.add_argument("--at-once", type=int, default=1)
+    words.add_argument("--no-whole", action="store_true")
     words.add_argument("program", nargs="?", default=str(TOP / "build" / "pdpd"), metavar="PDPD")
     return words.parse_args()
 
@@ -72,6 +77,32 @@ def processor():
     return sum(sum(resource.getrusage(whose)[:2]) for whose in (resource.RUSAGE_SELF, resource.RUSAGE_CHILDREN))
 
 
+def from_checkpoints(past, moments, at_once):
+    """The answers at each moment, and how long each took, in order."""
+    def asked(moment):
+        began = time.perf_counter()
+        found = audit.decide(past, moment, REQUEST)
+        return time.perf_counter() - began, [reply.body() for _, reply in found]
+    before = processor()
+    with concurrent.futures.ThreadPoolExecutor(at_once) as pool:
+        found = list(pool.map(asked, moments))
+    times = sorted(took for took, _ in found)
+    print(f"from a checkpoint, {len(times)} moments: median {times[len(times) // 2]:.2f} s, longest {times[-1]:.2f} s, "
+          f"{sum(took > LONGEST for took in times)} longer than {LONGEST:.0f} s; processor time "
+          f"{(processor() - before) / len(times):.2f} s each", flush=True)
+    return times, {moment: answers for moment, (_, answers) in zip(moments, found)}
+
+
+def compared(past, moments, answers):
+    """Whether each answer is that of the whole log."""
+    began = time.perf_counter()
+    whole = by_the_whole_log(past, moments)
+    print(f"by the whole log: {time.perf_counter() - began:.0f} s for one replay", flush=True)
+    same = sum(answers[moment] == [whole[moment]] for moment in moments)
+    print(f"{same} of {len(moments)} the same, {len(set(whole.values()))} different answers")
+    return same == len(moments)
+
+
 def main():
     given = options()
     os.environ["PDPD"] = os.path.abspath(given.program)
@@ -90,21 +121,9 @@ def main():
         first, last = past.places[5].ended / 1e6, past.places[len(past.places) - 1].ended / 1e6 - 1
         chance = random.Random(SEED)
         moments = [chance.uniform(first, last) for _ in range(given.moments)]
-        times, answers, before = [], {}, processor()
-        for moment in moments:
-            began = time.perf_counter()
-            found = audit.decide(past, moment, REQUEST)
-            times.append(time.perf_counter() - began)
-            answers[moment] = [reply.body() for _, reply in found]
-        times.sort()
-        print(f"from a checkpoint: median {times[len(times) // 2]:.2f} s, longest {times[-1]:.2f} s; processor time "
-              f"{(processor() - before) / len(times):.2f} s each", flush=True)
-        began = time.perf_counter()
-        whole = by_the_whole_log(past, moments)
-        print(f"by the whole log: {time.perf_counter() - began:.0f} s for one replay", flush=True)
-        others = [moment for moment in moments if answers[moment] != [whole[moment]]]
-        print(f"{len(moments) - len(others)} of {len(moments)} the same, {len(set(whole.values()))} different answers")
-        return int(bool(others) or times[-1] > LONGEST)
+        times, answers = from_checkpoints(past, moments, given.at_once)
+        is_same = given.no_whole or compared(past, moments, answers)
+        return int(not is_same or times[-1] > LONGEST)
 
 
 if __name__ == "__main__":

@@ -78,6 +78,11 @@ class Segment:
         second = record_at(held, first.end, self.name) if first else None
         return [one for one in (first, second) if one]
 
+    def refuse_packed(self) -> None:
+        """An error where nothing can be appended."""
+        if self.path.suffix == ".gz":
+            raise Damaged(f"{self.path} is the archive's last file: unpack it (gunzip)")
+
     def records(self) -> Iterator[Record]:
         return records_in(self.data(), self.name, str(self.path))
 
@@ -128,8 +133,7 @@ class Archive:
     def open_last(self) -> None:
         """Reads the last file that has a whole record. What stands behind that was cut, and is taken away."""
         for segment in reversed(segments_in([self.folder])):
-            if segment.path.suffix == ".gz":
-                raise Damaged(f"{segment.path} is the archive's last file: unpack it (gunzip)")
+            segment.refuse_packed()
             for record in segment.records():
                 self.take(record)
                 self.size = record.end

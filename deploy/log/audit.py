@@ -189,25 +189,17 @@ def write_state(state: State, domain: str, folder: pathlib.Path) -> list[str]:
     return sorted(found)
 
 
-def differences(old: State, new: State) -> Iterator[str]:
-    """What differs between two states, a line each."""
+def kept_differences(old: State, new: State) -> Iterator[str]:
+    """What differs beside active documents, root and rows, a line each: whether the domain is there, documents that
+    aren't active, and tokens."""
     if old.is_there != new.is_there:
         yield "the domain was created" if new.is_there else "the domain was removed"
     for key in sorted(old.documents.keys() | new.documents.keys()):
-        name = key_shown(key)
-        if key not in new.documents:
-            yield f"deleted    {name}"
-        elif key not in old.documents:
-            yield f"uploaded   {name}" + (", active" if key in new.active else "")
-        elif old.documents[key] != new.documents[key]:
-            yield f"other text {name}"
-        if key in old.documents and key in new.documents and (key in old.active) != (key in new.active):
-            yield f"{'activated ' if key in new.active else 'withdrawn '} {name}"
-    if json.loads(old.root) != json.loads(new.root):
-        yield f"root       {new.root.decode()}, before {old.root.decode()}"
-    went, came = rows_changed(old.rows, new.rows)
-    if went or came:
-        yield f"rows       {went} went, {came} came"
+        was_kept, is_kept = (key in one.documents and key not in one.active for one in (old, new))
+        if is_kept and not was_kept:
+            yield f"kept       {key_shown(key)}, not active"
+        elif was_kept and key not in new.documents:
+            yield f"deleted    {key_shown(key)}, which wasn't active"
     for token in sorted(old.tokens.keys() | new.tokens.keys()):
         if old.tokens.get(token) != new.tokens.get(token):
             yield f"token      {shown_digest(token)}: {old.tokens.get(token, 'none')}, then {new.tokens.get(token, 'none')}"

@@ -3,7 +3,8 @@
   pdpd-log changes --domain D [--since TIME] [--until TIME] [--json]   who changed what, with which reply
   pdpd-log decide --domain D --at TIME [--all] REQUEST                 the decision at a moment, byte for byte
   pdpd-log state --domain D --at TIME FOLDER                           policies, root and rows of a moment as a folder
-  pdpd-log diff --domain D --from TIME --to TIME                       what differs between two moments
+  pdpd-log diff --domain D --from TIME --to TIME                       what differs between two moments; and, by
+      [--requests FILE] [--random N]                                   requests, which answers, as `policy diff` says
   pdpd-log check                                                       chain, checksums, checkpoints, replies by replay
   pdpd-log verify [--hours N] [--note FILE] DECISIONS                  each line of a decision log, worked out again
   pdpd-log receive --listen unix:PATH --bytes N --days N FOLDER        keeps the lines that HAProxy sends, for ever
@@ -11,8 +12,8 @@
   pdpd-log forget --domain D                                           makes what a removed domain had unreadable
 
 --archive FOLDER names the folder of an archive, and may stand several times: without it those below PDPD_ARCHIVES, or
-/var/lib/pdpd-replica, are read. PDPD names the program that replays. TIME is as 2026-11-29T15:00:00Z, or seconds since
-1970.
+/var/lib/pdpd-replica, are read. PDPD names the program that replays, and POLICY the author's desk. TIME is as
+2026-11-29T15:00:00Z, or seconds since 1970.
 Exit status: 0 as it was said, 1 something isn't, 2 usage or an archive that can't be read.
 """
 from __future__ import annotations
@@ -24,7 +25,7 @@ import pathlib
 import sys
 import time
 
-from . import audit, checking, decisions, domains, receiving
+from . import audit, checking, decisions, desk, domains, receiving
 from .domains import Forgotten
 from .history import Unknown, by_archive
 from .messages import TOKEN, kept_token
@@ -83,9 +84,11 @@ def state(given: argparse.Namespace) -> int:
 def diff(given: argparse.Namespace) -> int:
     held = past(given)
     old, new = (state_before(held, audit.time_in(word))[0] for word in (given.since, given.until))
-    for line in audit.differences(old, new):
+    for line in audit.kept_differences(old, new):
         print(line)
-    return 0
+    words = [*(["--requests", str(given.requests.resolve())] if given.requests else []),
+             *(["--random", str(given.random)] if given.random else [])]
+    return desk.compared(old, new, given.domain, words)
 
 
 def check(given: argparse.Namespace) -> int:
@@ -179,6 +182,8 @@ def words_in(words: list[str]) -> argparse.Namespace:
     made = command(diff, of_one)
     made.add_argument("--from", required=True, dest="since", metavar="TIME")
     made.add_argument("--to", required=True, dest="until", metavar="TIME")
+    made.add_argument("--requests", type=pathlib.Path, metavar="FILE", help="requests, for the desk's `diff`")
+    made.add_argument("--random", type=int, metavar="N", help="has it make N requests")
     command(check, every)
     made = command(verify, every)
     made.add_argument("--hours", type=float, metavar="N", help="the lines of the last hours alone")

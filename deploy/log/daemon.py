@@ -1,10 +1,10 @@
 """Takes the changes of one shard: each is appended to the archive, applied to pdpd, and answered with pdpd's reply."""
 from __future__ import annotations
 
+import collections
 import json
 import os
 import pathlib
-import queue
 import sys
 import threading
 import time
@@ -34,26 +34,43 @@ class Waiting:
     """A change that waits: for its turn, then for its reply."""
 
     def __init__(self, head: dict, body: bytes):
-        self.head, self.body = head, body
-        self.lock, self.done = threading.Lock(), threading.Event()
-        self.is_taken = self.is_withdrawn = False
+        self.head, self.body, self.done = head, body, threading.Event()
         self.reply = UNAVAILABLE
-
-    def take(self) -> bool:
-        """Whether its client still waits for its turn."""
-        with self.lock:
-            self.is_taken = not self.is_withdrawn
-            return self.is_taken
-
-    def withdraw(self) -> bool:
-        """Whether it had no turn yet, and gets none."""
-        with self.lock:
-            self.is_withdrawn = not self.is_taken
-            return self.is_withdrawn
 
     def end(self, reply_bytes: bytes) -> None:
         self.reply = reply_bytes
         self.done.set()
+
+
+class Turns:
+    """Changes that wait for their turn, in order. Nothing is held of one that is withdrawn."""
+
+    def __init__(self) -> None:
+        self.held: collections.deque[Waiting] = collections.deque()
+        self.lock = threading.Condition()
+
+    def __len__(self) -> int:
+        return len(self.held)
+
+    def add(self, change: Waiting) -> None:
+        with self.lock:
+            self.held.append(change)
+            self.lock.notify()
+
+    def next(self) -> Waiting:
+        """Takes the first one, once there is one."""
+        with self.lock:
+            while not self.held:
+                self.lock.wait()
+            return self.held.popleft()
+
+    def withdraw(self, change: Waiting) -> bool:
+        """Whether it had no turn yet, and gets none."""
+        with self.lock:
+            if change not in self.held:
+                return False
+            self.held.remove(change)
+            return True
 
 
 class Daemon:
@@ -63,7 +80,7 @@ class Daemon:
                  end: Callable[[int], None] = os._exit):
         self.archive, self.pdpd, self.token_file, self.room, self.end = archive, pdpd, token_file, room, end
         self.keeping = Keeping(archive, self.say)
-        self.waiting: queue.Queue[Waiting] = queue.Queue()
+        self.waiting = Turns()
         self.asking = threading.Lock()
 
     def say(self, what: str) -> None:
@@ -130,8 +147,8 @@ class Daemon:
         if refused is not None or who is None:
             return refused or UNAVAILABLE
         change = Waiting(*entry_of(message, domain, who))
-        self.waiting.put(change)
-        if not change.done.wait(TURN) and change.withdraw():
+        self.waiting.add(change)
+        if not change.done.wait(TURN) and self.waiting.withdraw(change):
             return UNAVAILABLE
         return change.reply if change.done.wait(APPLIED) else UNKNOWN
 
@@ -139,7 +156,7 @@ class Daemon:
         """How far it is, as JSON; HAProxy leads no client here."""
         archive = self.archive
         body = json.dumps({
-            "position": archive.position, "pending": int(archive.pending is not None), "waiting": self.waiting.qsize(),
+            "position": archive.position, "pending": int(archive.pending is not None), "waiting": len(self.waiting),
             "archive_bytes": sum(segment.path.stat().st_size for segment in segments_in([archive.folder])),
             "room_bytes": archive.room() - self.room}).encode()
         return b"HTTP/1.1 200 OK\r\nContent-Type: application/json\r\nContent-Length: %d\r\n\r\n%s" % (len(body), body)
@@ -181,9 +198,7 @@ class Daemon:
             time.sleep(min(1.0, 0.02 * tries))
 
     def make(self, change: Waiting) -> None:
-        """Makes one change, if its client still waits for its turn."""
-        if not change.take():
-            return
+        """Makes one change, which has its turn."""
         if self.archive.room() < self.room:
             self.say(f"the disk of {self.archive.folder} has less than {self.room} bytes left: no change is taken")
             change.end(UNAVAILABLE)
@@ -206,7 +221,7 @@ class Daemon:
                 self.apply(pending, Change(pending, None, self.archive.folder).body(), is_again=True)
             self.say(f"at entry {self.archive.position}")
             while True:
-                self.make(self.waiting.get())
+                self.make(self.waiting.next())
         except Broken as fault:
             self.say(str(fault))
             self.end(EXIT_BROKEN)

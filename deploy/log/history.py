@@ -113,6 +113,14 @@ def changes_in(segments: list[Segment]) -> Iterator[Change]:
         yield Change(entry, None, segments[0].home)
 
 
+def look_at_end(folder: pathlib.Path) -> None:
+    """Reads what a start reads of an archive, and changes nothing; an error where it is damaged."""
+    for segment in reversed(segments_in([folder])):
+        segment.refuse_packed()
+        if sum(1 for _ in changes_in([segment])):
+            return
+
+
 def version_of(text: str) -> str:
     """A version without leading zeros."""
     return ".".join(str(int(part)) for part in text.split("."))

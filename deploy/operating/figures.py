@@ -4,17 +4,15 @@ Each second each shard is asked for a decision, in its turn behind all that wait
 client waits. HAProxy leads who asks for figures to a socket here, which nobody else may connect to.
 """
 import contextlib
-import http.client
 import json
 import os
 import pathlib
 import shutil
-import socket
 import socketserver
 import threading
 import time
 
-from . import applied, status, supervisor, talk, trial
+from . import applied, replicas, status, supervisor, talk, trial
 from . import settings as setting
 from .findings import Findings
 
@@ -23,7 +21,6 @@ PAUSE, PATIENCE = 1.0, 25.0
 COUNTED = 60.0
 SOCKET = setting.LOCKS / "figures.sock"
 LONGEST_HEAD = 16_384
-OF_REPLICA = ("position", "waiting", "pending", "archive_bytes", "room_bytes")
 KINDS = ("same", "other", "refused", "unverified")
 # name, kind, what it is
 HELP = {
@@ -115,29 +112,14 @@ def of_shard(settings, shard):
     yield "pdpd_shard_backup_age_seconds", label, None if old is None else round(old, 1)
 
 
-class OverSocket(http.client.HTTPConnection):
-    """A connection to the daemon of a shard."""
-
-    def __init__(self, path):
-        super().__init__("pdpd-replica", timeout=2)
-        self.path = str(path)
-
-    def connect(self):
-        self.sock = socket.socket(socket.AF_UNIX)
-        self.sock.settimeout(self.timeout)
-        self.sock.connect(self.path)
-
-
 def of_replica(settings, shard):
     """What the daemon tells of itself."""
-    connection = OverSocket(pathlib.Path(settings.audit_run) / str(shard) / "socket")
-    try:
-        connection.request("GET", "/figures")
-        held = json.loads(connection.getresponse().read(4_096))
-        found = [(f"pdpd_replica_{name}", float(held[name])) for name in OF_REPLICA]
-    except (*talk.NO_REPLY, ValueError, KeyError, TypeError):
+    held = None
+    with contextlib.suppress(PermissionError):
+        held = replicas.figures(settings, shard)
+    if held is None:
         return [("pdpd_replica_up", 0)]
-    return [("pdpd_replica_up", 1), *found]
+    return [("pdpd_replica_up", 1), *((f"pdpd_replica_{name}", value) for name, value in held.items())]
 
 
 def verified(settings):

@@ -8,7 +8,7 @@ import pathlib
 import time
 from typing import NamedTuple
 
-from . import applied, front, listener, room, standing, supervisor, talk, trial
+from . import applied, front, listener, replicas, room, standing, supervisor, talk, trial
 from .backups import COPIED, backups_of, emptied, is_beyond
 from .findings import Findings
 from .settings import FILE, MARK, BadToken, Settings, Wrong, read, words_of
@@ -17,7 +17,7 @@ from .settings import FILE, MARK, BadToken, Settings, Wrong, read, words_of
 OLD = 2 * 3600 + 600
 # so many digits of a program's SHA-256 are shown
 SHOWN = 12
-HEADS = "shard", "state", "domains", "file MiB", "log MiB", "backup", "program"
+HEADS = "shard", "state", "domains", "file MiB", "log MiB", "entry", "backup", "program"
 
 
 class Shard(NamedTuple):
@@ -30,13 +30,14 @@ class Shard(NamedTuple):
     disk_free_bytes: int | None
     backup_seconds: float | None
     program: str | None
+    position: int | None
 
     def cells(self) -> list[str]:
         """Its row of the table."""
         sizes = ["?" if size is None else f"{size / 2 ** 20:.1f}" for size in (self.file_bytes, self.log_bytes)]
         old = "none" if self.backup_seconds is None else f"{self.backup_seconds / 60:.0f} min ago"
-        count = "-" if self.domains is None else str(self.domains)
-        return [str(self.shard), self.state or "?", count, *sizes, old, (self.program or "?")[:SHOWN]]
+        count, entry = ("-" if number is None else str(number) for number in (self.domains, self.position))
+        return [str(self.shard), self.state or "?", count, *sizes, entry, old, (self.program or "?")[:SHOWN]]
 
 
 class Report(NamedTuple):
@@ -235,7 +236,8 @@ def shard_report(settings: Settings, shard: int, lists: dict[int, list[str]], in
         standing.look_at_store(settings, shard, findings)
     state, count = state_of(settings, shard, lists, findings)
     return Shard(shard, state, count, *sizes(settings, shard, findings), look_at_disk(settings, shard, findings),
-                 age_of_backup(settings, shard, findings), program_of(settings, shard, installed, findings))
+                 age_of_backup(settings, shard, findings), program_of(settings, shard, installed, findings),
+                 replicas.look(settings, shard, findings))
 
 
 def report(settings: Settings) -> Report:
@@ -250,6 +252,7 @@ def report(settings: Settings) -> Report:
         led_elsewhere(settings, shard, known, lists, findings)
     look_at_disks(settings, findings)
     standing.look(settings, findings)
+    replicas.look_at_decisions(settings, findings)
     days = front.look(settings, findings)
     with findings.looking("the shards' ports"):
         if found := listener.warning(settings):

@@ -1,6 +1,7 @@
 """What an archive has of each domain beside its records: checkpoints, places, keys; and domains that are forgotten."""
 import base64
 import contextlib
+import gzip
 import hashlib
 import json
 import os
@@ -8,14 +9,17 @@ import random
 import shutil
 
 from log import audit, checking, decisions, keeping
-from log.archive import segments_in
+from log.archive import Archive, segments_in
 from log.domains import Forgotten, checkpoints_in, folder_of, keys_in
 from log.history import Unknown, by_archive
 from log.past import Past, state_before
 from log.sealing import counted, opened, sealed
+from sent import DONE
+from serving import UNAVAILABLE
 
 from .generated import BEGIN, WARD, Clock, Writer, table, write_year
-from .shared import PROGRAM, SEED, expect, log
+from .shared import PROGRAM, SEED, Logged, expect, log
+from .shared import kept as shown_token
 from .shared import memory as folder
 
 REQUEST = (WARD / "request-alice.json").read_bytes()
@@ -112,6 +116,61 @@ def spoilt_places(path, moments, wanted):
     expect("a start mends what stands at the end", compared(copy).wrong, [])
 
 
+def moved_away():
+    """Old months that are packed and moved into another folder are read there: what was decided is the same."""
+    os.environ["PDPD"] = PROGRAM
+    path, away = folder / "moved", folder / "moved-away"
+    with often(10):
+        last = write_year(path, 60, 12)
+    chance = random.Random(SEED)
+    moments = [chance.uniform(BEGIN + 1, last) for _ in range(MOMENTS)]
+    wanted = answers(past_in(path), moments, audit.decide_by_all)
+    expect("more than one answer", len({str(one) for one in wanted}) > 1, True)
+    segments = segments_in([path])
+    expect("a file for each month", [one.month for one in segments], [f"2026-{month:02d}" for month in range(1, 13)])
+    away.mkdir()
+    for one in segments[:8]:
+        if int(one.month[-2:]) % 2:
+            (away / f"{one.path.name}.gz").write_bytes(gzip.compress(one.path.read_bytes()))
+            one.path.unlink()
+        else:
+            shutil.move(one.path, away)
+    for what, folders in (("the archive first", [path, away]), ("the other folder first", [away, path])):
+        past = Past(by_archive(folders)[0], "acme")
+        numbers = [past.places[index].number for index in range(len(past.places))]
+        expect(f"{what}: each by its place", [past.change_at(index).number() for index in range(len(numbers))], numbers)
+        for how in (audit.decide, audit.decide_by_all):
+            expect(f"{what}, {how.__name__}", answers(past, moments, how), wanted)
+    begin = next(one for one in moments if one < BEGIN + 200 * 86_400)
+    words = ["--domain", "acme", "--at", str(begin)]
+    ran = log("state", "--archive", path, "--archive", away, *words, folder / "moved-then")
+    expect("by the command", (ran[0], ran[2]), (0, ""))
+    ran = log("decide", "--all", "--archive", path, *words, WARD / "request-alice.json")
+    expect("without that folder", (ran[0], "isn't there: name its folder by --archive" in ran[2]), (2, True))
+
+
+def other_reply():
+    """`check` names an entry that a replay answers otherwise, though chain and checksums are right."""
+    with Logged("other-reply") as logged:
+        logged.make_domain()
+        logged.kill_daemon()
+        archive = Archive(logged.archive)
+        kept = keeping.Keeping(archive, print)
+        body = b'{"PolicyIdReference":{"Id":"urn:example:ward:records"}}'
+        for status, reply in ((200, DONE), (409, UNAVAILABLE)):
+            more, key = kept.before("acme", archive.position + 1)
+            fields = [["content-type", "application/json"], ["authorization", f"Bearer {shown_token('acme-admin-1')}"]]
+            head = {"domain": "acme", "who": "admin", "method": "PUT", "path": "/domains/acme/pap/root",
+                    "fields": fields, **more}
+            kept.behind(archive.add_entry(head, sealed(key, body)), archive.add_reply(status, reply, is_again=False))
+        archive.close()
+        status, out, said = log("check", "--archive", logged.archive)
+        first, second = out.decode().splitlines()
+        expect("one of nine", (status, first, said), (1, f"{logged.archive}: 9 changes, 1 replies that replay gives "
+                                                         "otherwise, 0 checkpoints", ""))
+        expect("which one", second.startswith("  entry 9 was answered"), True)
+
+
 def forgetting():
     """What a removed domain had can't be read once it is forgotten, also not in the next one of that name; the chain
     holds, and others stay."""
@@ -170,4 +229,4 @@ def raised(call):
     return None
 
 
-PARTS = (sealing, checkpoints, forgetting)
+PARTS = (sealing, checkpoints, moved_away, other_reply, forgetting)

@@ -5,6 +5,7 @@ are those of the model of the server in tests/model, which gets the archive's me
 of that model; and each decision that HAProxy has logged meanwhile is worked out again.
 """
 import collections
+import concurrent.futures
 import hashlib
 import json
 import os
@@ -91,21 +92,16 @@ KILLED = (("daemon",), ("pdpd",), ("haproxy",), ("daemon", "pdpd"), ("daemon", "
 
 
 def disturb(logged, chance):
-    """Kills the daemon, pdpd, HAProxy or several of them, and starts them again; which it were."""
-    which = chance.choice(KILLED)
-    if "haproxy" in which:
-        logged.haproxy.kill()
-        logged.haproxy.wait()
-    if "daemon" in which:
-        logged.kill_daemon()
-    if "pdpd" in which:
-        logged.pdpd.kill()
-        time.sleep(chance.random() * 0.2)
-        logged.start_pdpd()
-    if "daemon" in which:
-        logged.start_daemon()
-    if "haproxy" in which:
-        logged.run_haproxy()
+    """Kills the daemon, pdpd, HAProxy or several of them, and starts them again, all at once; which it were."""
+    which, pause = chance.choice(KILLED), chance.random() * 0.2
+    kill = {"haproxy": logged.kill_haproxy, "daemon": logged.kill_daemon, "pdpd": logged.pdpd.kill}
+    start = {"haproxy": logged.run_haproxy, "daemon": logged.start_daemon, "pdpd": logged.start_pdpd}
+    for name in reversed(which):
+        kill[name]()
+    time.sleep(pause)
+    with concurrent.futures.ThreadPoolExecutor() as starting:
+        for one in [starting.submit(start[name]) for name in which]:
+            one.result()
     return which
 
 
@@ -262,10 +258,14 @@ def record(summary, told):
         return
     commit = subprocess.run(["git", "-C", TOP, "rev-parse", "HEAD"], capture_output=True, text=True, check=False).stdout
     digest = hashlib.sha256(pathlib.Path(PROGRAM).read_bytes()).hexdigest()
+    # (as `cat deploy/log/*.py | sha256sum`)
+    daemon = hashlib.sha256(b"".join(path.read_bytes() for path in sorted((TOP / "deploy" / "log").glob("*.py"))))
     lines = [f"tests/audit.py PDPD kills --kills {GIVEN.kills} --seconds {GIVEN.seconds:g} --askers {GIVEN.askers} "
              f"--seed {SEED}, on {os.cpu_count()} cores with a load of {os.getloadavg()[0]:.0f}",
              time.strftime("%Y-%m-%dT%H:%M:%SZ", time.gmtime()), f"behind commit {commit.strip() or 'unknown'}",
-             f"pdpd of SHA-256 {digest}", summary, f"{checks.failed} of {checks.count} checks failed", "",
+             f"pdpd of SHA-256 {digest}",
+             f"deploy/log/*.py, one behind another, of SHA-256 {daemon.hexdigest()}", summary,
+             f"{checks.failed} of {checks.count} checks failed", "",
              "seconds  changes answered  killed"]
     GIVEN.record.parent.mkdir(parents=True, exist_ok=True)
     lines += [f"{at:7.1f}  {count:16d}  {which}" for at, count, which in told]

@@ -58,6 +58,10 @@ class Proxied(Logged):
                                             stdin=subprocess.DEVNULL, stdout=said, stderr=said)
         wait_until(lambda: status_of(self.front_reply(message("GET", "/operator/domains", "-"))) == 401)
 
+    def kill_haproxy(self):
+        self.haproxy.kill()
+        self.haproxy.wait()
+
     def front_reply(self, data):
         """HAProxy's reply to a client's message."""
         try:

@@ -4,7 +4,9 @@ import hashlib
 import json
 import os
 import random
+import re
 import shutil
+import subprocess
 import time
 
 from log import audit
@@ -149,11 +151,15 @@ def states(archive, told):
     changes = [change for change in changes_in(segments_in([archive])) if change.domain() == "acme"]
     ends = [f"{changes[place].ended():.6f}" for place in (2, 3, 6)]
     of_acme = ["--archive", archive, "--domain", "acme"]
+    for more in (["--random", "40"], ["--requests", ALICE]):
+        expect(f"what is made of an upload, {more[0]}", *compared(of_acme, ends[1], ends[2], more))
     expect("what an upload makes", log("diff", *of_acme, "--from", ends[0], "--to", ends[1]),
-           (0, b"uploaded   policy urn:example:ward:records 1.0\n", ""))
-    expect("what is made of it", log("diff", *of_acme, "--from", ends[1], "--to", ends[2]),
-           (0, b'activated  policy urn:example:ward:records 1.0\nroot       {"PolicyIdReference":{"Id":'
-               b'"urn:example:ward:records"}}, before {}\nrows       0 went, 8 came\n', ""))
+           (0, b"kept       policy urn:example:ward:records 1.0, not active\n"
+               b"Documents, root and rows are the same.\n", ""))
+    status, out, _ = log("diff", *of_acme, "--from", "0", "--to", ends[0])
+    expect("what the first changes make", (status, [line.split()[0] for line in out.decode().splitlines()]),
+           (0, ["the", "token", "token", "Documents,"]))
+    explained(archive, ends[2])
     admin = hashlib.sha256(kept("acme-admin-1").encode()).hexdigest()[:8]
     status, out, said = log("changes", "--archive", archive, "--domain", "acme", "--until", ends[2])
     expect("the changes", (status, [line.split("  ", 2)[2] for line in out.decode().splitlines()], said), (0, [
@@ -163,6 +169,10 @@ def states(archive, told):
         f"admin {admin}  activates policy urn:example:ward:records 1.0  200",
         f'admin {admin}  sets the root {{"PolicyIdReference":{{"Id":"urn:example:ward:records"}}}}  200',
         f"admin {admin}  sets the rows: 0 went, 8 came  200"], ""))
+    for since, until, wanted in ((repr(changes[4].began()), repr(changes[5].began()), [5, 6]),
+                                 (repr(changes[5].ended()), ends[2], [7])):
+        _, out, _ = log("changes", "--archive", archive, "--domain", "acme", "--since", since, "--until", until)
+        expect("changes from a moment on", [int(line.split()[0]) for line in out.decode().splitlines()], wanted)
     status, out, said = log("changes", "--archive", archive, "--domain", "acme", "--json")
     expect("all changes", (status, [json.loads(line)["entry"] for line in out.splitlines()]),
            (0, [change.number() for change in changes]))
@@ -170,6 +180,36 @@ def states(archive, told):
                                                repr(changes[5].began()), ALICE)[1].count(b"\n"), 2)
     expect("before the root was set", log("decide", "--archive", archive, "--domain", "acme", "--at",
                                           repr(changes[4].ended()), ALICE), (0, DEAD, ""))
+
+
+def compared(of_acme, begin, end, more):
+    """The lines of `pdpd-log diff` about what differs, and those that the desk's `diff` has of folders of the two
+    moments, which end alike; then what was wanted of both."""
+    folders = []
+    for at in (begin, end):
+        folders.append(folder / f"diff-{at}-{more[0]}")
+        log("state", *of_acme, "--at", at, folders[-1])
+    status, out, _ = log("diff", *of_acme, "--from", begin, "--to", end, *more)
+    found = out.decode().splitlines()
+    ran = subprocess.run([TOP / "tools" / "policy" / "policy.py", "diff", *folders, *more], capture_output=True,
+                         text=True, check=False)
+    wanted = ["new        policy urn:example:ward:records 1.0",
+              "root       policy urn:example:ward:records; before no root",
+              "rows       0 before, 8 after; 8 new, 0 gone"]
+    changes = any(re.fullmatch(r"[1-9][0-9]* of [0-9]+ answers? changes?, by .*", line) for line in found)
+    return (status, found[:3], found, changes), (ran.returncode, wanted, ran.stdout.splitlines(), True)
+
+
+def explained(archive, at):
+    """The desk explains in the folder of a state what `decide` says: the root and the rows are those of then."""
+    to = folder / "explained"
+    log("state", "--archive", archive, "--domain", "acme", "--at", at, to)
+    body = json.loads(log("decide", "--archive", archive, "--domain", "acme", "--at", at, ALICE)[1])
+    words = ["explain", "--policy", to, "--request", ALICE, "--at", str(int(float(at))), "--json"]
+    ran = subprocess.run([TOP / "tools" / "policy" / "policy.py", *words], capture_output=True, text=True, check=False)
+    found = json.loads(ran.stdout)
+    expect("the explanation comes to the decision", (ran.returncode, found["response"]), (0, body))
+    expect("and names the policy", "urn:example:ward:records" in json.dumps(found["results"]), True)
 
 
 def faults(archive):

@@ -1,13 +1,15 @@
 """The log of changes and the decision log: the commands of the page, over what is installed."""
+import collections
 import json
 import pathlib
 import re
 import subprocess
 import time
 
-from .machine import LIBRARY, PAGE, PLAIN, SETTINGS, TOP, sh, shards, wait_until
+from .clients import Load
+from .machine import LIBRARY, PAGE, PLAIN, SETTINGS, TOP, backs_up, sh, shards, wait_until
 
-DECISIONS = pathlib.Path("/var/log/pdpd-decisions")
+DECISIONS, ARCHIVES = pathlib.Path("/var/log/pdpd-decisions"), pathlib.Path("/var/lib/pdpd-replica")
 # HAProxy's logs, each of its kinds of lines (docs/guide/OPERATING.md, Logs)
 LOGS = pathlib.Path("/var/log/pdpd")
 WARD = TOP / "examples" / "ward"
@@ -61,33 +63,75 @@ def audit(machine, checks):
     put = sh("echo before-admin-1 | pdpd-log token").strip()
     for token in ("before-admin-1", put):
         sent("POST", "/operator/domains/before/tokens", operator, json.dumps({"Role": "admin", "Token": token}))
+    found = collections.Counter()
+
+    def ask(_):
+        found[sent("GET", "/domains/before/pip", "before-admin-1")[0]] += 1
     checks.expect("before", sent("GET", "/domains/before/pip", "before-admin-1")[0], 200)
-    for line in switch_on(machine):
-        checks.say(line)
-    wait_until(lambda: sent("GET", "/domains/before/pip", "before-admin-1")[0] == 200, "the tenant isn't let in again")
+    with Load(ask, 1):
+        for line in switch_on(machine):
+            checks.say(line)
+        seen = found[200]
+        wait_until(lambda: found[200] > seen + 5, "the tenant isn't let in")
+    checks.expect("what the tenant gets all the time", set(found), {200})
     wait_until(lambda: sent("PUT", "/operator/domains/behind", operator)[0] in (201, 409), "no change is taken")
-    checks.expect("a domain", make_ward(operator), [201, 200, 200, 201, 200, 200, 200])
-    decided = sent("POST", "/domains/ward/pdp", TOKENS["ask"], (WARD / "request-alice.json").read_text())
-    # the commands name whole seconds
-    second = int(time.time()) + 1
-    wait_until(lambda: time.time() >= second, "the clock stands still")
-    wait_until(lambda: count_of_decisions() > 0, "no decision is logged")
+    decided = decided_of_ward(operator, DECISIONS, checks)
     in_logs_of_proxy(checks)
+    backs_up()
+    looked_at(checks)
     folder = machine.folder / "audit"
     folder.mkdir()
+    said = said_by_page(lambda command: sh(command, cwd=folder), operator, checks)
+    compare(said, decided, folder / "ward-then", checks)
+    kept(operator, checks)
+
+
+def decided_of_ward(operator, decisions, checks):
+    """Makes the domain anew, and gives a decision of it, once its line is there and the next second has begun: the
+    page's commands name whole ones."""
+    checks.expect("a domain", make_ward(operator), [201, 200, 200, 201, 200, 200, 200])
+    decided = sent("POST", "/domains/ward/pdp", TOKENS["ask"], (WARD / "request-alice.json").read_text())
+    second = int(time.time()) + 1
+    wait_until(lambda: time.time() >= second, "the clock stands still")
+    wait_until(lambda: count_of_decisions(decisions) > 0, "no decision is logged")
+    return decided
+
+
+def said_by_page(run, operator, checks):
+    """Gives the page's commands behind those that switch the log on, as they stand; what each says, by its word."""
     said = {}
     for command in commands("Audit")[SWITCH:]:
         if command.startswith("pdpd-log forget"):
             checks.expect("the domain is removed", sent("DELETE", "/operator/domains/ward", operator)[0], 200)
-        said[command.split()[1]] = sh(command, cwd=folder)
+        said[command.split()[1]] = run(command)
         checks.say(f"$ {command}\n    " + "\n    ".join(said[command.split()[1]].splitlines()[-3:]))
-    compare(said, decided, folder, checks)
-    kept(operator, checks)
+    return said
 
 
-def count_of_decisions():
+def count_of_decisions(decisions=DECISIONS):
     """The lines of decisions."""
-    return sum(len(path.read_text().splitlines()) for path in DECISIONS.glob("*.log"))
+    return sum(len(path.read_text().splitlines()) for path in decisions.glob("*.log"))
+
+
+def looked_at(checks):
+    """`pdpd-shards status` tells the last entry of each shard, and what logs nothing."""
+    shard = int(shards("where", "ward"))
+    found = re.search(rf"(?m)^{shard} +up .* (\d+) +\S+ min ago", shards("status"))
+    checks.expect("the last entry of the shard, beyond those of the domain", found and int(found[1]) >= 7, True)
+    away = f"no change of shard {shard} is taken: pdpd-replica doesn't answer"
+    for service, told in ((f"pdpd-replica-{shard}", away), ("pdpd-decisions", "no line of a decision is kept")):
+        sh(f"sv down /etc/service/{service}")
+        checks.expect(f"without {service}", f"WRONG: {told}" in shards("status", status=1), True)
+        sh(f"sv up /etc/service/{service}")
+    (path,) = (ARCHIVES / str(shard)).glob("*.log")
+    held = path.read_bytes()
+    path.write_bytes(held[:40] + b"x" + held[41:])
+    sh(f"sv restart /etc/service/pdpd-replica-{shard} || true")
+    told = f"WRONG: no change of shard {shard} is taken: {path} is damaged at byte 0, and whole records"
+    checks.expect("a damaged archive", told in shards("status", status=1), True)
+    path.write_bytes(held)
+    sh(f"sv up /etc/service/pdpd-replica-{shard}")
+    wait_until(lambda: "no change" not in sh("pdpd-shards status || true"), "the daemon isn't there again")
 
 
 def has_line(folder, words):
@@ -122,13 +166,13 @@ def in_logs_of_proxy(checks):
     checks.expect("logs of HAProxy that have a decision", given, [])
 
 
-def compare(said, decided, folder, checks):
-    """What the commands say."""
+def compare(said, decided, state, checks):
+    """What the commands say; the last state is in that folder."""
     checks.expect("the changes", len(said["changes"].splitlines()) >= 7, True)
     what = re.compile(r'"Decision":"\w+"')
     checks.expect("the decision", what.findall(said["decide"]), what.findall(decided[1]))
-    checks.expect("the state", (folder / "ward-then" / "domain.json").exists(), True)
-    checks.expect("the difference", "uploaded   policy urn:example:ward:records 1.0, active" in said["diff"], True)
+    checks.expect("the state", (state / "domain.json").exists(), True)
+    checks.expect("the difference", "new        policy urn:example:ward:records 1.0" in said["diff"], True)
     found = re.findall(r"(\d+) replies that replay gives otherwise", said["check"])
     checks.expect("check", (len(found) > 0, set(found)), (True, {"0"}))
     checks.expect("verify", re.findall(r"[1-9]\d* same, 0 other", said["verify"]) != [], True)
@@ -138,7 +182,8 @@ def compare(said, decided, folder, checks):
 def kept(operator, checks):
     """What stands on the disk, and who may read it."""
     words = "|".join([*TOKENS.values(), operator])
-    secret = sh(f"grep -rlE '{words}' /var/lib/pdpd-replica /var/lib/pdpd /var/log/pdpd {DECISIONS} || true")
+    places = f"/var/lib/pdpd-replica /var/lib/pdpd /var/lib/pdpd-backups /var/log/pdpd {DECISIONS}"
+    secret = sh(f"grep -rlE '{words}' {places} || true")
     checks.expect("files that have a token", secret, "")
     clear = sh("grep -rlE 'urn:example:role|PolicyId' /var/lib/pdpd-replica || true")
     checks.expect("files of the archive that have policies or rows", clear, "")

@@ -9,13 +9,15 @@ import urllib.error
 import urllib.parse
 import urllib.request
 
-from . import audit
-from .machine import LIBRARY, PAGE, SETTINGS, as_user, pid, sh, shards, wait_until
+from . import audit, drawn
+from .machine import LIBRARY, PAGE, SETTINGS, TOP, as_user, pid, sh, shards, wait_until
 
 INSIDE = "http://127.0.0.1:8405"
 PROMETHEUS = "http://127.0.0.1:9090"
 VERIFIED = pathlib.Path("/var/lib/pdpd-replica/verified")
 DECISIONS = pathlib.Path("/var/log/pdpd-decisions")
+# the dashboard of the last run
+DRAWN = TOP / "build" / "dashboard.svg"
 NIGHTLY = f"setpriv --reuid=pdpd-replica --regid=pdpd-replica --clear-groups {LIBRARY}/pdpd-replica-run verify"
 
 
@@ -180,8 +182,18 @@ def rules():
     return dict(re.findall(r"alert: (\w+)\n +expr: (.+)", text))
 
 
+def draw(board, began):
+    """Draws the dashboard of what Prometheus has seen since a moment."""
+    now = time.time()
+    span = {"start": began, "end": now, "step": max(1, int((now - began) / 90))}
+
+    def found(expression):
+        return asked("query_range", query=expression, **span)["result"]
+    DRAWN.write_text(drawn.drawn(board, found, began, now))
+
+
 def metrics(machine, checks):
-    """Each alert fires once, and each expression of the dashboard finds something."""
+    """Each alert fires once, and each expression of the dashboard finds something, which is drawn."""
     audit.switch_on(machine)
     for command in audit.commands("Metrics"):
         checks.say(f"$ {command}\n    {sh(command).strip()[-300:]}")
@@ -193,6 +205,7 @@ def metrics(machine, checks):
     wait_until(lambda: any(path.stat().st_size for path in DECISIONS.glob("*.log")), "no decision is logged")
     sh(NIGHTLY)
     shards("backup")
+    began = time.time()
     with prometheus(machine.folder):
         seen = {name for name in firing() if name not in ("DiskFull", "ShardRestarts")}
         checks.expect("what fires though all is well", seen, set())
@@ -207,4 +220,5 @@ def metrics(machine, checks):
         empty = [target["expr"] for panel in board["panels"] for target in panel["targets"]
                  if not asked("query", query=target["expr"])["result"]]
         checks.expect("expressions of the dashboard that find nothing", empty, [])
+        draw(board, began)
     wait_until(lambda: status_of("/ready") == 200, "it isn't ready again")

@@ -6,15 +6,13 @@ import time
 
 from checks import Between
 
-from .audit import SWITCH, commands
 from .booting import booted
 from .clients import Makers, Operator, decision, once
+from .logged_units import logs, units
 from .machine import PAGE, PLAIN, commands_of_page, wait_until
 
 SHARDS = range(4)
 SERVICES = (*(f"pdpd@{shard}" for shard in SHARDS), "pdpd-watchdog", "haproxy")
-# those that some settings switch on
-FURTHER = (*(f"pdpd-replica@{shard}" for shard in SHARDS), "pdpd-decisions", "pdpd-figures", "pdpd-verify.timer")
 LIST = ('curl --silent --cacert /etc/haproxy/pdpd.crt -H "Authorization: Bearer $(cat /etc/pdpd/token)" '
         "https://localhost/operator/domains")
 # the right CAP_NET_BIND_SERVICE alone (capability.h)
@@ -64,7 +62,7 @@ def systemd(made, checks):
     with booted(made.folder / "systemd") as machine:
         walk(machine, checks, archive)
         operator = Operator(machine.sh("cat /etc/pdpd/token"))
-        for part in (confinement, kills, stuck, stops, tokens, backups, moves, logs, restarts,
+        for part in (confinement, kills, stuck, stops, tokens, backups, moves, logs, unfailed, restarts,
                      removal):
             began = time.time()
             part(machine, checks, operator)
@@ -225,30 +223,12 @@ def moves(machine, checks, operator):
     checks.expect("what has failed", machine.failed(), [])
 
 
-def logs(machine, checks, operator):
-    """The units of the log of changes, of decisions and of figures, by the page's commands: each does its work, and
-    hasn't failed once it is stopped."""
-    for command in (*commands("Audit")[:SWITCH], *commands("Metrics")):
-        machine.sh(command)
-    wait_until(operator.is_answered, machine.tail)
-    for unit in FURTHER:
-        checks.expect(unit, (machine.show(unit, "ActiveState"), machine.show(unit, "UnitFileState")),
-                      ("active", "enabled"))
-    checks.expect("a decision", decision(once(operator.makes("logged"))), "Permit")
-    changes = machine.sh("pdpd-log changes --domain logged")
-    checks.expect(f"the change is logged: {changes}", "operator  creates the domain  201" in changes, True)
-    machine.wait_for("grep -q logged /var/log/pdpd-decisions/*.log", "the decision isn't logged")
-    machine.wait_for("curl --silent --fail http://127.0.0.1:8405/ready", "it isn't ready")
-    figures = machine.sh("curl --silent http://127.0.0.1:8405/shards")
-    checks.expect("shards by the figures", re.findall(r"(?m)^pdpd_shard_up\{.*\} (\S+)", figures), ["1"] * 5)
-    machine.sh("systemctl start pdpd-verify")
-    said = machine.sh("journalctl --no-pager -o cat -u pdpd-verify")
-    checks.expect(f"what was decided is worked out again: {said[-500:]}",
-                  re.search(r"[1-9]\d* same, 0 other", said) is not None, True)
-    units = [*FURTHER, "pdpd-verify"]
-    machine.sh(f"systemctl stop {' '.join(units)}")
-    checks.expect("they are stopped", [machine.state(unit) for unit in units], [("inactive", "success")] * len(units))
-    machine.sh(f"systemctl start {' '.join(FURTHER)}")
+def unfailed(machine, checks, operator):
+    """The units of the logs haven't failed once they are stopped."""
+    stopped = [*units(machine), "pdpd-verify"]
+    machine.sh(f"systemctl stop {' '.join(stopped)}")
+    checks.expect("they are stopped", [machine.state(unit) for unit in stopped], [("inactive", "success")] * len(stopped))
+    machine.sh(f"systemctl start {' '.join(units(machine))}")
     wait_until(operator.is_answered, machine.tail)
 
 
@@ -263,7 +243,7 @@ def restarts(machine, checks, operator):
     checks.expect("all domains are there", operator.names(), before)
     checks.expect("what has failed", machine.failed(), [])
     machine.wait_for("pdpd-shards status", "its status tells of something wrong")
-    for unit in (*SERVICES, *FURTHER, "pdpd-backup@0.timer"):
+    for unit in (*SERVICES, "pdpd-backup@0.timer", *units(machine)):
         checks.expect(unit, machine.show(unit, "ActiveState"), "active")
     token = machine.sh("cat /etc/pdpd/token")
     logged = machine.run(f"journalctl --no-pager | grep -c -- {token}").stdout.strip()

@@ -7,8 +7,8 @@ import sys
 from collections.abc import Callable
 
 from . import (
-    ask, asking, cases, deploy, deploy_words, diff, exchange, explain, explained, files, laid_out, lints, packed,
-    program, setting, text, together)
+    ask, asking, cases, deploy, deploy_words, diff, domain, exchange, explain, explained, files, laid_out, lints,
+    packed, program, setting, text, together, two_domains)
 from .check import Checked, Disagreement, Rows
 from .faults import Remark, Remarks
 from .live import weighed
@@ -56,8 +56,16 @@ def check(options: argparse.Namespace) -> int:
 # ask and explain
 
 
+def domain_at(options: argparse.Namespace, path: str) -> bool:
+    """Whether a domain's folder says what decides: its documents, its root and its rows."""
+    return options.root is None and options.rows is None and domain.is_domain(path)
+
+
 def setting_of(options: argparse.Namespace, paths: list[str]) -> setting.Setting | None:
     """What decides; None where a file has faults, which are said."""
+    if len(paths) == 1 and domain_at(options, paths[0]):
+        held = deploy.read_domain(paths[0], is_deployed=False)
+        return held and held.setting()
     documents, rows = files.documents(paths), files.rows(options.rows)
     faults = [remark for one in documents for remark in one.remarks.faults()] + (rows.remarks.faults() if rows else [])
     if not faults:
@@ -263,10 +271,23 @@ def diff_run(options: argparse.Namespace) -> int:
         return options.live_run(options)
     if options.new is None or options.json:
         raise setting.Usage("diff needs OLD and NEW, or --live, with which --json goes")
+    if domain_at(options, options.old) and domain_at(options, options.new):
+        return domains_diff(options)
     old, new = setting_of(options, [options.old]), setting_of(options, [options.new])
     if old is None or new is None:
         return FAULTS
     return diff.run(old, new, options, chosen_program(options))
+
+
+def domains_diff(options: argparse.Namespace) -> int:
+    """Answers `diff` of two folders that are domains: also without requests."""
+    old, new = (deploy.read_domain(path, is_deployed=False) for path in (options.old, options.new))
+    if old is None or new is None:
+        return FAULTS
+    differs = two_domains.print_differences(old, new)
+    if options.requests or options.random:
+        return diff.run(old.setting(), new.setting(), options, chosen_program(options))
+    return FAULTS if differs and options.strict else FINE
 
 
 def main(words: list[str] | None = None) -> int:

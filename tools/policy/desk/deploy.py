@@ -50,9 +50,11 @@ def beside(options: argparse.Namespace) -> contextlib.AbstractContextManager:
     return contextlib.redirect_stdout(sys.stderr if options.json else sys.stdout)
 
 
-def read_domain(folder: str) -> Domain | None:
+def read_domain(folder: str, *, is_deployed: bool = True) -> Domain | None:
     """The domain that the folder is; None where its files have faults, which are said."""
     found, remarks = domain_of(folder)
+    if is_deployed and found is not None and found.root is not None and not found.documents:
+        remarks.fault("domain", found.root_node, "A root needs documents.")
     faults = remarks.faults() + (found.faults() if found else [])
     if found is not None and not faults:
         together.Together(found.documents).doubles()

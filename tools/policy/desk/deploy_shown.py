@@ -1,7 +1,7 @@
 """What the words that speak with a server write: what a domain has, and what changes, step by step."""
 from __future__ import annotations
 
-from . import records, text
+from . import records, text, two_domains
 from .changes import Action, Changes
 from .domain import listed_shown
 from .live import Key, Live, bytes_left, key_shown, row_lines, version_shown
@@ -84,14 +84,10 @@ def print_verdict(changes: Changes, is_same: bool) -> None:
     print(text.wrapped(said, "folder     ", " " * 11))
 
 
-def rows_told(changes: Changes) -> str:
-    """How rows change."""
+def rows_shown(changes: Changes) -> str:
+    """How rows change, and how many more there may be."""
     old, new = row_lines(changes.live.rows), row_lines(changes.target.rows)
-    more = len(new) - sum(line in set(old) for line in new)
-    fewer = len(old) - sum(line in set(new) for line in old)
-    found = f"{len(old)} before, {len(new)} after; {more} new, {fewer} gone"
-    return (found + ("" if more or fewer else ", in another order")
-            + f"; {bytes_left(new):,} bytes of a body are left")
+    return f"{two_domains.rows_told(old, new)}; {bytes_left(new):,} bytes of a body are left"
 
 
 def clash_told(changes: Changes, key: Key) -> str:
@@ -153,7 +149,7 @@ def print_changes(changes: Changes, actions: list[Action]) -> None:
                            f"{'it' if len(idle) == 1 else 'them'}, so uploaded and not active",
                            "idle       ", " " * 11))
     if changes.has_rows():
-        print(text.wrapped(rows_told(changes), "rows       ", " " * 11))
+        print(text.wrapped(rows_shown(changes), "rows       ", " " * 11))
     for place, action in enumerate(actions, 1):
         if action.do != "forget":
             print(text.wrapped(action.shown, f"{place:9}{'*' if action.is_mixed else ' '} ", " " * 11))

@@ -103,8 +103,6 @@ class DomainReader(cases.CaseReader):
         found = [path for path in (self.text(item) for item in self.items(node.at("Cases")))
                  if path is not None]
         root = self.root(node, documents)
-        if root is not None and not documents:
-            self.fault(node, "A root needs documents.")
         keep = self.number(node.at("Keep"))
         if self.remarks.faults():
             return None
@@ -194,6 +192,11 @@ def domain_of(folder: str) -> tuple[Domain | None, Remarks]:
     reader.source.path = files.shown(path / FILE)
     found = reader.domain()
     return found, reader.remarks
+
+
+def is_domain(folder: str) -> bool:
+    """Whether the folder has such a file."""
+    return (pathlib.Path(folder) / FILE).is_file()
 
 
 def named(folder: str) -> tuple[str, str] | None:

@@ -1,0 +1,111 @@
+"""What logs changes and decisions, with AUDIT and DECISIONS: how far it is, and why it isn't there."""
+from __future__ import annotations
+
+import http.client
+import json
+import pathlib
+import socket
+import time
+
+from log.history import look_at_end
+from log.record import Damaged
+
+from .findings import Findings
+from .settings import Settings
+
+FIGURES = ("position", "waiting", "pending", "archive_bytes", "room_bytes")
+LONGEST = 4_096
+# how long a question waits, and an entry may be without its reply before that is told, in seconds
+PATIENCE, PENDING = 2.0, 3.0
+# what is raised where nothing is told
+UNTOLD = OSError, http.client.HTTPException, ValueError, KeyError, TypeError, RecursionError
+
+
+class OverSocket(http.client.HTTPConnection):
+    """A connection to the daemon of a shard."""
+
+    def __init__(self, path: pathlib.Path):
+        super().__init__("pdpd-replica", timeout=PATIENCE)
+        self.path = path
+
+    def connect(self) -> None:
+        self.sock = connected(self.path)
+
+
+def connected(path: pathlib.Path) -> socket.socket:
+    """A connection to a socket; an error where nobody takes it."""
+    made = socket.socket(socket.AF_UNIX)
+    made.settimeout(PATIENCE)
+    try:
+        made.connect(str(path))
+    except OSError:
+        made.close()
+        raise
+    return made
+
+
+def figures(settings: Settings, shard: int) -> dict[str, float] | None:
+    """What the daemon of a shard tells of itself; nothing where it doesn't answer. (Its user may answer anything.)"""
+    connection = OverSocket(pathlib.Path(settings.audit_run) / str(shard) / "socket")
+    try:
+        connection.request("GET", "/figures")
+        held = json.loads(connection.getresponse().read(LONGEST))
+        return {name: float(held[name]) for name in FIGURES}
+    except PermissionError:
+        raise
+    except UNTOLD:
+        return None
+    finally:
+        connection.close()
+
+
+def why_away(settings: Settings, shard: int) -> str:
+    """Why the daemon of a shard doesn't answer."""
+    folder = pathlib.Path(settings.archives) / str(shard)
+    try:
+        if folder.is_dir():
+            look_at_end(folder)
+    except PermissionError:
+        raise
+    except Damaged as fault:
+        return str(fault)
+    except UNTOLD as fault:
+        return f"{folder} can't be read ({fault!r})"
+    return f"pdpd-replica doesn't answer: the log of pdpd-replica-{shard} says why"
+
+
+def look(settings: Settings, shard: int, findings: Findings) -> int | None:
+    """The last entry of a shard that is answered. It tells why no change is taken, where none is."""
+    if not settings.audit:
+        return None
+    with findings.looking(f"the log of changes of shard {shard}"):
+        found = figures(settings, shard)
+        end = time.monotonic() + PENDING
+        while found and found["pending"] and time.monotonic() < end:
+            time.sleep(0.2)
+            before, found = found, figures(settings, shard)
+            if found and found["position"] != before["position"]:
+                break
+        if found is None:
+            findings.add(f"no change of shard {shard} is taken: {why_away(settings, shard)}")
+            return None
+        position = int(found["position"])
+        if found["pending"] and time.monotonic() >= end:
+            findings.add(f"entry {position + 1} of shard {shard} gets no reply, and no change passes it: the log of "
+                         f"pdpd-replica-{shard} says why")
+        if found["room_bytes"] < 0:
+            findings.add(f"no change of shard {shard} is taken: the disk of {settings.archives} has less than "
+                         f"{settings.room} bytes left (ROOM)")
+        return position
+    return None
+
+
+def look_at_decisions(settings: Settings, findings: Findings) -> None:
+    """Whether lines of decisions are taken."""
+    if not settings.decisions:
+        return
+    with findings.looking("the log of decisions"):
+        try:
+            connected(pathlib.Path(settings.audit_run) / "decisions" / "socket").close()
+        except (FileNotFoundError, ConnectionError, TimeoutError):
+            findings.add("no line of a decision is kept: pdpd-decisions isn't there, and its log says why")
