@@ -227,7 +227,8 @@ def unfailed(machine, checks, operator):
     """The units of the logs haven't failed once they are stopped."""
     stopped = [*units(machine), "pdpd-verify"]
     machine.sh(f"systemctl stop {' '.join(stopped)}")
-    checks.expect("they are stopped", [machine.state(unit) for unit in stopped], [("inactive", "success")] * len(stopped))
+    checks.expect("they are stopped", [machine.state(unit) for unit in stopped],
+                  [("inactive", "success")] * len(stopped))
     machine.sh(f"systemctl start {' '.join(units(machine))}")
     wait_until(operator.is_answered, machine.tail)
 
