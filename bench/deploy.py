@@ -68,7 +68,7 @@ http {{ access_log off; default_type application/xacml+json; client_body_temp_pa
 def domains_over(made, count):
     """Has so many shards serve all domains, and gives the script of their asks."""
     pathlib.Path("/etc/haproxy/haproxy.cfg").unlink()
-    made.set(SHARDS=count, PLAIN_BIND="127.0.0.1:8080")
+    made.set(SHARDS=count, PLAIN_BIND=f"127.0.0.1:{machine.PLAIN}")
     made.operator.clear()
     return clients.script_of(made.folder / "asks.lua", [ward(made.operator, f"w{number}") for number in range(DOMAINS)])
 

@@ -32,9 +32,9 @@ sys.path.insert(0, str(TOP / "tests"))
 
 from checks import Checks  # noqa: E402
 from deployed import (  # noqa: E402
-    attacks_front, attacks_local, attacks_pdpd, attacks_proxy, audit, backups, booting, changes, clients, containers,
-    deb, enforcement, failures, machine, metrics, mistakes, observed, removal, replies, slowness, states, systemd,
-    units)
+    attacks_front, attacks_local, attacks_logs, attacks_most, attacks_pdpd, attacks_proxy, audit, backups, booting,
+    changes, clients, containers, deb, enforcement, failures, machine, metrics, mistakes, observed, removal, replies,
+    slowness, states, systemd, units)
 
 PARTS = (
     units.walk, units.decision, units.configurations, units.installed, units.calls,
@@ -46,15 +46,18 @@ PARTS = (
     changes.moves, changes.crossed, changes.killed, changes.keeping, enforcement.clients,
     *states.STATES, *mistakes.MISTAKES, *observed.OBSERVED,
     *attacks_front.ATTACKS, *attacks_local.ATTACKS, *attacks_pdpd.ATTACKS, *attacks_proxy.ATTACKS,
+    *attacks_logs.ATTACKS, *attacks_most.ATTACKS,
     units.certificate, units.want_of_memory, units.upgrade, changes.growth, changes.miscounted, units.status,
-    audit.audit, audit.killed_logged, metrics.metrics, units.secrets, removal.removal)
+    audit.audit, *attacks_logs.AUDITED, audit.killed_logged, metrics.metrics, units.secrets, removal.removal)
 # those that have a machine of their own each, with the commands that they want and Debian's packages of these
 ALONE = {systemd.systemd: booting.WANTED, deb.deb: booting.WANTED, containers.containers: containers.WANTED}
 # words that name several of them
 GROUPS = {"states": states.STATES, "attacks_front": attacks_front.ATTACKS,
-          "attacks_local": attacks_local.ATTACKS,
+          "attacks_local": attacks_local.ATTACKS, "attacks_logs": (*attacks_logs.ATTACKS, *attacks_logs.AUDITED),
+          "attacks_most": attacks_most.ATTACKS,
           "attacks_pdpd": attacks_pdpd.ATTACKS, "attacks_proxy": attacks_proxy.ATTACKS,
-          "attacks": (*attacks_front.ATTACKS, *attacks_local.ATTACKS, *attacks_pdpd.ATTACKS, *attacks_proxy.ATTACKS)}
+          "attacks": (*attacks_front.ATTACKS, *attacks_local.ATTACKS, *attacks_pdpd.ATTACKS, *attacks_proxy.ATTACKS,
+                      *attacks_logs.ATTACKS, *attacks_most.ATTACKS, *attacks_logs.AUDITED)}
 
 
 # of so many names is told what became of them, and so many lines of each log are kept

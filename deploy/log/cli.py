@@ -46,6 +46,11 @@ def folders_of(given: argparse.Namespace) -> list[pathlib.Path]:
     return named
 
 
+def harmless(text: str) -> str:
+    """A line as it is printed: what a tenant has written in it steers no terminal, and begins no line."""
+    return "".join(one if one.isprintable() else ascii(one)[1:-1] for one in text)
+
+
 def past(given: argparse.Namespace) -> Past:
     """The archive of the domain that is named."""
     return past_of(by_archive(folders_of(given)), given.domain)
@@ -55,7 +60,7 @@ def changes(given: argparse.Namespace) -> int:
     since = audit.time_in(given.since) if given.since else 0.0
     until = audit.time_in(given.until) if given.until else float("inf")
     for one in audit.changes_shown(past(given), since, until):
-        print(json.dumps(one) if given.json else "  ".join(map(str, one.values())))
+        print(json.dumps(one) if given.json else harmless("  ".join(map(str, one.values()))))
     return 0
 
 
@@ -85,7 +90,7 @@ def diff(given: argparse.Namespace) -> int:
     held = past(given)
     old, new = (state_before(held, audit.time_in(word))[0] for word in (given.since, given.until))
     for line in audit.kept_differences(old, new):
-        print(line)
+        print(harmless(line))
     words = [*(["--requests", str(given.requests.resolve())] if given.requests else []),
              *(["--random", str(given.random)] if given.random else [])]
     return desk.compared(old, new, given.domain, words)
@@ -99,8 +104,8 @@ def check(given: argparse.Namespace) -> int:
               f"{found.checkpoints} checkpoints")
         for why, names in (("were there before the archive began", found.older), ("were forgotten", found.forgotten)):
             if names:
-                print(f"  left out, since they {why}: {', '.join(sorted(names))}")
-        print("".join(f"  {line}\n" for line in found.wrong[:20]), end="")
+                print(harmless(f"  left out, since they {why}: {', '.join(sorted(names))}"))
+        print("".join(f"  {harmless(line)}\n" for line in found.wrong[:20]), end="")
         is_wrong = is_wrong or bool(found.wrong)
     return int(is_wrong)
 
@@ -134,7 +139,7 @@ def verify(given: argparse.Namespace) -> int:
     for kind, line in decisions.verify(by_archive(folders_of(given)), decisions.lines_of(given.decisions, since)):
         counts[kind] += 1
         if kind == "other":
-            print(f"other: {line}")
+            print(f"other: {harmless(line)}")
     print(", ".join(f"{count} {kind}" for kind, count in counts.items()))
     if given.note:
         domains.write_synced(given.note, json.dumps({"at": time.time(), **counts}).encode() + b"\n")
@@ -205,5 +210,5 @@ def main(words: list[str]) -> int:
     try:
         return given.call(given)
     except (Unknown, Damaged, Failed, Forgotten, Sealing, OSError) as fault:
-        print(f"pdpd-log: {fault}", file=sys.stderr)
+        print(f"pdpd-log: {harmless(str(fault))}", file=sys.stderr)
         return 2

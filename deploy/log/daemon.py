@@ -10,12 +10,14 @@ import threading
 import time
 from collections.abc import Callable
 
+from operating.listener import at_port
+
 from .archive import Archive, Broken, NoRoom, segments_in
 from .domains import Forgotten
 from .history import Change
 from .keeping import Keeping
 from .messages import Message, bytes_of, bytes_of_entry, entry_of, is_one_of, route_of, token_in
-from .pdpd import Lost, NotSent, Reply, replies, reply
+from .pdpd import Lost, NotSent, Reply, replies
 from .record import Record
 from .sealing import sealed
 from .server import answer
@@ -77,8 +79,11 @@ class Daemon:
     """The changes of one shard."""
 
     def __init__(self, archive: Archive, pdpd: str, token_file: pathlib.Path, room: int,
-                 end: Callable[[int], None] = os._exit):
+                 end: Callable[[int], None] = os._exit, user: int | None = None):
+        """`user` is whose program takes connections at pdpd's port; anybody's, if none is given."""
         self.archive, self.pdpd, self.token_file, self.room, self.end = archive, pdpd, token_file, room, end
+        self.user = user
+        self.other: int | None = None
         self.keeping = Keeping(archive, self.say)
         self.waiting = Turns()
         self.asking = threading.Lock()
@@ -94,6 +99,19 @@ class Daemon:
             self.say(f"{self.token_file} can't be read: {fault}")
             return []
         return [line.strip() for line in lines if line.strip()]
+
+    def replies(self, data: bytes, count: int) -> list[Reply]:
+        """pdpd's replies. Another user's program at its port is sent nothing: it would be shown tokens, and answer in
+        pdpd's place."""
+        found = at_port(int(self.pdpd.rpartition(":")[2])) if self.user is not None else None
+        other = found.uid if found and found.uid != self.user else None
+        if other != self.other:
+            self.other = other
+            self.say("pdpd's port is its own again" if other is None else
+                     f"a program of user {other} has pdpd's port {self.pdpd}: nothing is sent there")
+        if other is not None:
+            raise NotSent("another program has its port")
+        return replies(self.pdpd, data, count, LONGEST)
 
     # ---- who may make a change
 
@@ -128,7 +146,7 @@ class Daemon:
         while time.monotonic() < end:
             try:
                 with self.asking:
-                    found = replies(self.pdpd, data, count, LONGEST)
+                    found = self.replies(data, count)
                 if len(found) == count or found[0].status != 401:
                     return found
             except (NotSent, Lost):
@@ -183,7 +201,7 @@ class Daemon:
         while True:
             for token in self.operators() if head["who"] == "operator" else [""]:
                 try:
-                    found = reply(self.pdpd, bytes_of_entry(head, body, token, is_last=True), LONGEST)
+                    (found,) = self.replies(bytes_of_entry(head, body, token, is_last=True), 1)
                 except NotSent:
                     break
                 except Lost:

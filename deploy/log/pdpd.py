@@ -79,8 +79,3 @@ def replies(address: str, data: bytes, count: int, seconds: float) -> list[Reply
     if not found:
         raise Lost("it ended before a reply")
     return found[:count]
-
-
-def reply(address: str, data: bytes, seconds: float) -> Reply:
-    """The reply to one message."""
-    return replies(address, data, 1, seconds)[0]

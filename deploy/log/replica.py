@@ -1,15 +1,18 @@
 """pdpd-replica: keeps a log of the changes of one shard, and applies each to pdpd once it is in the log.
 
   pdpd-replica --archive FOLDER --listen ADDRESS --pdpd HOST:PORT --token FILE [--room BYTES]
+      [--user NAME]
 
 HAProxy sends it each change (PUT, POST and DELETE, but for requests for decisions). ADDRESS is HOST:PORT or unix:PATH.
 FILE's lines are the operator's tokens. No change is taken while the disk has fewer than BYTES left (64,000,000).
+NAME is the user of pdpd: nothing is sent to another one's program at its port.
 Exit status: 2 usage, 3 the archive isn't what was written, 4 the disk failed; else it runs until it is killed.
 """
 from __future__ import annotations
 
 import argparse
 import pathlib
+import pwd
 import sys
 
 from .archive import Archive
@@ -28,6 +31,7 @@ def options_in(words: list[str]) -> argparse.Namespace:
     parser.add_argument("--pdpd", required=True, metavar="HOST:PORT")
     parser.add_argument("--token", type=pathlib.Path, required=True, metavar="FILE")
     parser.add_argument("--room", type=int, default=64_000_000, metavar="BYTES")
+    parser.add_argument("--user", metavar="NAME")
     return parser.parse_args(words)
 
 
@@ -35,12 +39,13 @@ def main(words: list[str]) -> int:
     given = options_in(words)
     try:
         archive = Archive(given.archive)
-        daemon = Daemon(archive, given.pdpd, given.token, given.room)
+        user = pwd.getpwnam(given.user).pw_uid if given.user else None
+        daemon = Daemon(archive, given.pdpd, given.token, given.room, user=user)
         server = Server(given.listen, daemon.reply_to)
     except Damaged as fault:
         print(f"pdpd-replica: {fault}", file=sys.stderr)
         return EXIT_DAMAGED
-    except (OSError, ValueError) as fault:
+    except (OSError, ValueError, KeyError) as fault:
         print(f"pdpd-replica: {fault}", file=sys.stderr)
         return EXIT_DISK
     daemon.start()

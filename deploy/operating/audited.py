@@ -86,12 +86,13 @@ ring decisions
 """
 
 
-def backends(settings):
-    """The daemons."""
+def backends(settings, rules):
+    """The daemons, with rules of the proxy's."""
     if not settings.audit:
         return ""
     return "".join(f"""
 backend changes{shard}
     timeout server {CHANGE_TIMEOUT}
+{rules}\
     server replica unix@{settings.audit_run}/{shard}/socket
 """ for shard in range(settings.shards))

@@ -7,8 +7,10 @@ with. Exit status: 0 the domain is in the second file alone, 3 neither has it, 4
 5 nothing was changed, for a reason that is written; with any other one the rows may have been copied.
 """
 import contextlib
+import os
 import pathlib
 import sqlite3
+import stat
 import sys
 
 NEITHER, BOTH, NOT_BEGUN = 3, 4, 5
@@ -40,10 +42,20 @@ def as_not_begun(what):
         raise NotBegun(f"{what}: {fault}") from None
 
 
+def refuse_other(path):
+    """An error where a store's file, or one beside it, is something else: SQLite would wait for who writes into a pipe,
+    while both shards are away."""
+    for file in (path, f"{path}-wal", f"{path}-shm"):
+        with contextlib.suppress(FileNotFoundError):
+            if not stat.S_ISREG(os.lstat(file).st_mode):
+                raise NotBegun(f"{file} can't be opened, since it is no file: look who put it there")
+
+
 @contextlib.contextmanager
 def open_store(path):
     """A store's file. All that is written stays in its log, where pdpd gives each page the sum that SQLite doesn't
     know: a second connection, which only reads, is closed last, and can't write the log back."""
+    refuse_other(path)
     uri = pathlib.Path(path).as_uri()
     with as_not_begun(f"{path} can't be opened"):
         reader = sqlite3.connect(f"{uri}?mode=ro", uri=True)

@@ -39,7 +39,7 @@ def say(what):
 
 
 def warn(settings):
-    """Tells where other users of the machine can take the shards' ports."""
+    """Tells where other users of the machine can take the shards' ports, or HAProxy's."""
     if found := listener.warning(settings):
         print(f"pdpd-shards: WARNING: {found}", file=sys.stderr, flush=True)
 

@@ -125,8 +125,8 @@ def of_replica(settings, shard):
 def verified(settings):
     """What the nightly job has found. (Its user may have written anything there.)"""
     try:
-        with open(os.open(pathlib.Path(settings.archives) / "verified", os.O_RDONLY | os.O_NOFOLLOW | os.O_NONBLOCK),
-                  encoding="ascii") as file:
+        path = pathlib.Path(settings.decision_log) / "verified"
+        with open(os.open(path, os.O_RDONLY | os.O_NOFOLLOW | os.O_NONBLOCK), encoding="ascii") as file:
             held = json.loads(file.read(4_096))
         return [("pdpd_decisions_verified", f'kind="{kind}"', float(held[kind])) for kind in KINDS] + [
             ("pdpd_decisions_verified_at_seconds", "", float(held["at"]))]

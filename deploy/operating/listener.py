@@ -10,6 +10,7 @@ import contextlib
 import os
 import pathlib
 import pwd
+import re
 import time
 from collections.abc import Iterator
 from typing import NamedTuple
@@ -25,6 +26,8 @@ LISTENS = "0A"
 AGAIN = 0.2
 # says from which port on every user may take one; one below wants the right CAP_NET_BIND_SERVICE
 FREE = pathlib.Path("/proc/sys/net/ipv4/ip_unprivileged_port_start")
+# a port in an address at which HAProxy listens
+PORT = re.compile(r":(\d{1,5})(?=[,\s-]|$)")
 
 
 class Listener(NamedTuple):
@@ -141,11 +144,21 @@ def is_own(settings, shard: int) -> bool:
     return found is not None and is_of(settings, shard, found)
 
 
+def open_bind(settings, free: int) -> str | None:
+    """What is told where they can take a port of HAProxy's: it doesn't start without each of its own."""
+    for name in ("TLS_BIND", "PLAIN_BIND", "METRICS"):
+        bind = getattr(settings, name.lower())
+        if any(int(port) >= free for port in PORT.findall(bind)):
+            return (f"every user of this machine can take the port of {name} ({bind}) while HAProxy restarts, and keep "
+                    f"it away: ports from {free} on are everybody's")
+    return None
+
+
 def warning(settings) -> str | None:
-    """What is told where other users of the machine can take the shards' ports."""
+    """What is told where other users of the machine can take the shards' ports, or HAProxy's."""
     free = int(FREE.read_text(encoding="ascii"))
     if settings.port(settings.shards - 1) < free:
-        return None
+        return open_bind(settings, free)
     return (f"every user of this machine can take a shard's port while its program restarts, and answer in its place: "
             f"FIRST_PORT is {settings.first_port}, and ports from {free} on are everybody's. OPERATING.md says under "
             "Ports how they become others")

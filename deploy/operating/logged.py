@@ -15,14 +15,17 @@ def level(settings):
 
 def kind_rules():
     """What a message's line in the log begins with: `change`, `decision` or `reading`; `refused` (4xx) or `fault` (5xx)
-    where nothing was changed. A change that nobody has answered (502, 504, or the client went) stays a change."""
+    where nothing was changed. A change that nobody has answered (502, 504) stays a change. `lost` is a message whose
+    client went before the reply: so much is logged of whoever sends without a token and ends, as often as he can."""
     return """\
     acl is_ask path_reg ^/domains/[^/]+/pdp$
-    http-request set-var(txn.kind) str(change)
-    http-request set-var(txn.kind) str(decision) if METH_POST is_ask
-    http-request set-var(txn.kind) str(reading) if METH_GET or METH_HEAD or METH_OPTIONS
+    http-request set-var(txn.what) str(change)
+    http-request set-var(txn.what) str(decision) if METH_POST is_ask
+    http-request set-var(txn.what) str(reading) if METH_GET or METH_HEAD or METH_OPTIONS
+    http-request set-var(txn.kind) str(lost)
     acl may_be_made status 502 504
-    acl of_change var(txn.kind) -m str change
+    acl of_change var(txn.what) -m str change
+    http-after-response set-var(txn.kind) var(txn.what)
     http-after-response set-var(txn.kind) str(refused) if { status 400:499 }
     http-after-response set-var(txn.kind) str(fault) if { status 500:599 } !of_change
     http-after-response set-var(txn.kind) str(fault) if { status 500:599 } !may_be_made
@@ -30,10 +33,20 @@ def kind_rules():
 
 
 def level_rules(settings):
-    """Without LOG_DECISIONS what has the level info isn't logged: all but changes, and what failed (err)."""
+    """Without LOG_DECISIONS what has the level info isn't logged: all but changes, and what failed. A message without a
+    reply, or with one that HAProxy makes itself behind these rules, is logged only if its token is known: who has none
+    may send many, and go."""
     if settings.log_decisions:
         return ""
     return """\
-    http-request set-log-level notice if { var(txn.kind) -m str change }
-    http-response set-log-level info if { status 400:499 }
+    http-request set-log-level notice if is_accepted
+    http-response set-log-level info
+    http-response set-log-level notice if of_change !{ status 400:499 }
+    http-response set-log-level err if { status 500:599 }
 """
+
+
+def errors_apart(settings):
+    """What HAProxy can't read, and handshakes that fail, have the level err only where all is logged: else whoever
+    sends such without a token would fill the log."""
+    return "    # what failed has the level err\n    option log-separate-errors\n" if settings.log_decisions else ""

@@ -107,8 +107,7 @@ defaults
     mode http
     log global
     option dontlognull
-    # what failed has the level err
-    option log-separate-errors
+{logged.errors_apart(settings)}\
     log-format "{logged.LINE}"
     timeout http-request 5s
     # how long a handshake of TLS may take, a connection may be idle, and a client may take nothing of its reply
@@ -139,15 +138,12 @@ def binds(settings):
 
 
 def source_rules(settings):
-    """What one client may have at a time."""
+    """How many connections one client may have at a time."""
     most = settings.of_source
     connections_end = f"    tcp-request connection reject if {{ sc0_conn_cur gt {most} }}\n" if most else ""
-    messages_end = f"    http-request {answers(429, 'TooMany')} if {{ sc1_conn_cur gt {most} }}\n" if most else ""
     return f"""\
     tcp-request connection track-sc0 {SOURCE} table connections_of_source
-{connections_end}\
-    http-request track-sc1 {SOURCE} table messages_of_source
-{messages_end}"""
+{connections_end}"""
 
 
 DOMAIN_RULES = """\
@@ -181,10 +177,15 @@ def head_rules():
 def token_rules(settings):
     """What a token may ask that was accepted lately, and what is left to those without one.
 
-    The digest of a token and of its domain (of none, if it is the operator's) is kept once a reply was success. So
-    nobody uses up what is another's.
+    The digest of a token and of its domain (of none, if it is the operator's) is kept once a reply was success
+    (`accepts`). So nobody uses up what is another's. A message has the counters 1 and 2: 0 is its connection's, and is
+    tracked for that alone. 1 counts by token, if that was accepted, and else by source; 2 counts all messages.
     """
-    refuses, rate = "", ""
+    refuses, rate, of_source = "", "", ""
+    if settings.of_source:
+        of_source = f"""\
+    http-request {answers(429, "TooMany")} if !is_accepted {{ sc1_conn_cur gt {settings.of_source} }}
+"""
     if settings.refusals:
         refuses = f"""\
     http-request {answers(429, "TooMany", how="tarpit")} if !is_accepted {{ sc1_gpc0_rate gt {settings.refusals} }}
@@ -192,28 +193,40 @@ def token_rules(settings):
 """
     if settings.rate:
         rate = f"""\
-    http-request {answers(429, "TooMany")} if is_accepted of_tenant {{ sc2_http_req_rate gt {settings.rate} }}
+    http-request {answers(429, "TooMany")} if is_accepted of_tenant {{ sc1_http_req_rate gt {settings.rate} }}
 """
     return f"""\
     acl of_tenant path_beg /domains/
     http-request set-var(txn.tenant) path,field(3,/) if of_tenant
     acl has_one_token req.fhdr_cnt(authorization) eq 1
     http-request set-var(txn.who) "req.fhdr(authorization),word(-1,' '),concat(/,txn.tenant),sha2(256)" if has_one_token
-    http-request set-var(txn.accepted) int(1) if {{ var(txn.who),table_gpt0(accepted) eq 1 }}
+    acl was_accepted var(txn.who),in_table(accepted) -m bool
+    acl was_refused_since var(txn.who),table_gpt0(accepted) eq 1
+    http-request set-var(txn.accepted) int(1) if has_one_token was_accepted !was_refused_since
     acl is_accepted var(txn.accepted) -m found
-    http-request track-sc2 var(txn.who) table accepted if is_accepted
+    http-request track-sc1 var(txn.who) table accepted if is_accepted
+    http-request track-sc1 {SOURCE} table messages_of_source if !is_accepted
+{of_source}\
     http-request sc-inc-gpc1(1) if !is_accepted
-    # All together. (A message has counters of its own beside those of its connection.)
-    http-request track-sc0 int(0) table messages_under_way
-    http-request {answers(503, "Unavailable")} if {{ sc0_conn_cur gt {settings.under_way} }}
-    http-request {answers(503, "Unavailable")} if !is_accepted {{ sc0_conn_cur gt {settings.under_way // 2} }}
+    http-request track-sc2 int(0) table messages_under_way
+    http-request {answers(503, "Unavailable")} if {{ sc2_conn_cur gt {settings.under_way} }}
+    http-request {answers(503, "Unavailable")} if !is_accepted {{ sc2_conn_cur gt {settings.under_way // 2} }}
 {refuses}{rate}\
-    acl has_success status 200:299
-    http-response track-sc2 var(txn.who) table accepted if has_success {{ var(txn.who) -m found }}
-    http-response sc-set-gpt0(2) 1 if has_success
-    http-response sc-set-gpt0(2) 0 if {{ status 401 }}
+    http-response sc-set-gpt0(1) 1 if is_accepted {{ status 401 }}
     http-response sc-inc-gpc0(1) if {{ status 400:499 }} !is_accepted
 """
+
+
+# in a backend: keeps that a token was accepted, unless it was refused since. (No counter is left that would.)
+ACCEPTS = """\
+    acl was_refused_since var(txn.who),table_gpt0(accepted) eq 1
+    stick store-response var(txn.who) table accepted if { status 200:299 } { var(txn.who) -m found } !was_refused_since
+"""
+
+
+def accepts(settings):
+    """Those rules, for each backend that messages of clients are led to first."""
+    return "" if has_two_steps(settings) else ACCEPTS
 
 
 def body_rules():
@@ -289,6 +302,7 @@ frontend pdp
 backend again
     http-reuse never
     option http-server-close
+{ACCEPTS}\
 {again if settings.retry else ""}\
     # held back, in the queue, until the shard is back, and for the reply
     timeout server 40s
@@ -323,6 +337,7 @@ frontend inner
 # A few lists are put together at a time, and the others wait.
 backend lists
     timeout server 40s
+{accepts(settings)}\
     server self unix@{settings.haproxy_run}/lists.sock maxconn {LISTS}
 
 frontend list
@@ -337,14 +352,14 @@ backend shardmoving
 backend connections_of_source
     stick-table type ipv6 size 100k expire 60s store conn_cur
 
-# without a token that was accepted lately: gpc1 all messages, gpc0 those that a shard answered with 4xx
+# of messages without a token that was accepted lately: gpc1 all, gpc0 those that a shard answered with 4xx
 backend messages_of_source
     stick-table type ipv6 size 100k expire 60s store conn_cur,gpc0_rate(10s),gpc1_rate(10s)
 
 backend messages_under_way
     stick-table type integer size 1 expire 60s store conn_cur
 
-# by the digest of a token and a domain; gpt0 is 0 once it is refused
+# by the digest of a token and a domain; gpt0 is 1 once it is refused
 backend accepted
     stick-table type binary len 32 size 100k expire 10m store gpt0,http_req_rate(10s)
 """
@@ -353,6 +368,7 @@ backend accepted
 def backends(settings):
     return "".join(f"""
 backend shard{shard}
+{accepts(settings)}\
     server pdpd 127.0.0.1:{settings.port(shard)} maxconn {settings.maxconn}
 """ for shard in range(settings.shards))
 
@@ -369,6 +385,6 @@ def configuration(settings):
         f"# Written by `pdpd-shards config`, of {setting.FILE}: what is changed here is lost. Sections of your own stand "
         f"in {settings.haproxy_etc}/{OWN}.\n",
         global_part(settings), defaults_part(settings), frontends(settings), other_parts(settings),
-        backends(settings), audited.backends(settings), audited.decision_ring(settings), monitored.frontend(settings),
-        own_part(settings)))
+        backends(settings), audited.backends(settings, accepts(settings)), audited.decision_ring(settings),
+        monitored.frontend(settings), own_part(settings)))
     return text.replace(DIGEST, hashlib.sha256(text.encode()).hexdigest()[:16])

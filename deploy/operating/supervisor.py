@@ -44,6 +44,20 @@ def refuse_no_user(settings):
                     "--home-dir /nonexistent --shell /usr/sbin/nologin pdpd-replica") from None
 
 
+def close_archives_folder(settings):
+    """Has root alone put anything into the folder of the archives: what stands in a shard's place there is given to the
+    daemon's user. (Versions before this one had left it the folder.)"""
+    place = pathlib.Path(settings.archives)
+    if not settings.audit or not place.is_dir():
+        return
+    refuse_no_user(settings)
+    os.chown(place, 0, pwd.getpwnam("pdpd-replica").pw_gid)
+    place.chmod(0o751)
+    for path in place.iterdir():
+        if path.is_symlink() and path.lstat().st_uid:
+            raise Wrong(f"{path} is a link: look who put it there, and take it away")
+
+
 def further(settings):
     """The services that some settings switch on."""
     return [*(["pdpd-decisions"] if settings.decisions else []), *(["pdpd-figures"] if settings.metrics else [])]
@@ -105,6 +119,7 @@ class Systemd:
         self.allow_backups()
         self.close_sockets_folder()
         refuse_no_user(self.settings)
+        close_archives_folder(self.settings)
         run("systemctl", "daemon-reload")
         run("systemctl", "enable", "--now", *(f"pdpd@{shard}" for shard in shards), *self.beside(shards))
 
@@ -116,6 +131,7 @@ class Systemd:
         """Has services run what is installed now, but for the shards and HAProxy."""
         self.allow_backups()
         self.close_sockets_folder()
+        close_archives_folder(self.settings)
         run("systemctl", "daemon-reload")
         run("systemctl", "restart", "pdpd-watchdog", *further(self.settings))
 
@@ -223,6 +239,7 @@ class Runit:
 
     def renew(self):
         close_sockets_folder(self.settings)
+        close_archives_folder(self.settings)
         for name in (*further(self.settings), *self.BESIDE, "haproxy/log"):
             self.sv("restart", name)
 

@@ -294,7 +294,8 @@ def memory(machine, checks):
     checks.expect("a token is accepted", decision(once(ask)), "Permit")
     before = proxy_mebibytes()[0]
     head = b"POST /domains/acme/pdp HTTP/1.1\r\nHost: h\r\nContent-Length: 524288\r\n\r\n"
-    with outsiders(4, 50, head) as held:
+    # (of each address fewer than have room)
+    with outsiders(20, 10, head) as held:
         for client in held:
             # (who was turned away takes nothing more)
             with contextlib.suppress(OSError):

@@ -312,8 +312,8 @@ def things(machine, checks, place, name):
 
 
 def moved(machine, checks):
-    """A move between shards of which one has a link to a store of root's in its place: that is neither read nor
-    changed, and the domain stays."""
+    """A move between shards of which one has a link to a store of root's in its place, a pipe, a folder or what has no
+    end: nothing of root's is read or changed, nothing is waited for, and the domain stays."""
     machine.operator.clear()
     ask = machine.operator.makes("mover")
     one = int(shards("where", "mover"))
@@ -330,12 +330,37 @@ def moved(machine, checks):
     checks.expect(f"a store of root's: {said}", "can't be" in said, True)
     found = sh("sha256sum /var/only-root.db; ls /var/only-root.db*")
     checks.expect("it is as it was", found, f"{digest}/var/only-root.db\n")
-    sh(f"cd {place}; rm -f pdpd.db*; mv kept/* .; rmdir kept; sv up /etc/service/pdpd-{other}")
-    wait_until(machine.operator.is_answered, "the shard isn't there again")
+    make_secret()
+    for what, command in THINGS.items():
+        sh(f"sv -w 60 stop /etc/service/pdpd-{other}")
+        as_user("pdpd", f"cd {place}; rm -rf pdpd.db*; {command.format('pdpd.db')}")
+        began = time.time()
+        said = shards("move", "mover", one, other, status=1)
+        checks.expect(f"{what} in place of the other store: {said}", "look who put it there" in said, True)
+        checks.within(f"{what}: the seconds", time.time() - began, Between(0, 60))
+    checks.expect("the file of root's", owner_and_mode("/var/only-root"), "root root 600 regular file")
+    sh(f"sv -w 60 stop /etc/service/pdpd-{other}")
+    sh(f"cd {place}; rm -rf pdpd.db*; mv kept/* .; rmdir kept")
+    # (behind a program that has ended at once runit hears an order a second later, and one before that does nothing)
+    wait_until(lambda: sh(f"sv up /etc/service/pdpd-{other}") and machine.operator.is_answered(),
+               "the shard isn't there again")
     checks.expect("the domain is where it was", (int(shards("where", "mover")), decision(once(ask))), (one, "Permit"))
     shards("move", "mover", one, other)
     checks.expect("and moves", (int(shards("where", "mover")), decision(once(ask))), (other, "Permit"))
     sh("rm -f /var/only-root*")
+
+
+def reserves(_machine, checks):
+    """The room that is kept, while pdpd has other things in its place: they go, and nothing that they lead to."""
+    secret, file = make_secret(), pathlib.Path("/var/lib/pdpd/3/reserve")
+    for what, command in THINGS.items():
+        for word, is_kept in (("reserve", True), ("make-room", False)):
+            as_user("pdpd", f"rm -rf {file}; {command.format(file)}")
+            shards(word, 3)
+            found = owner_and_mode(file) if os.path.lexists(file) else "nothing"
+            checks.expect(f"{word}, {what}", found, "pdpd pdpd 600 regular file" if is_kept else "nothing")
+    checks.expect("the file of root's", owner_and_mode("/var/only-root"), secret)
+    shards("reserve", 3)
 
 
 def copies_of_token(machine, checks):
@@ -370,4 +395,4 @@ def listed(_machine, checks):
     checks.expect("a list of two", settings.domains_in(b'{"Domain":["acme","b-2"]}', "it"), ["acme", "b-2"])
 
 
-ATTACKS = (backed_up, swapped, by_hand, put_backs, moved, copies_of_token, listed)
+ATTACKS = (backed_up, swapped, by_hand, put_backs, moved, reserves, copies_of_token, listed)

@@ -150,7 +150,7 @@ def in_logs_of_proxy(checks):
     LOG_DECISIONS=0 it is there, too."""
     checks.expect("a token that isn't the domain's", ask_ward("ward-nobody"), 401)
     refused = r'(?m) refused .* POST "/domains/ward/pdp" 401 '
-    wait_until(lambda: has_line("decisions", refused), "what was refused isn't logged")
+    wait_until(lambda: has_line("refused", refused), "what was refused isn't logged")
     change = r'(?m) change .* changes\d+/?\S* PUT "/domains/ward/pip" 200 '
     wait_until(lambda: has_line("changes", change), "the change isn't logged")
     before, text = count_of_decisions(), SETTINGS.read_text()

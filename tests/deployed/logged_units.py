@@ -29,7 +29,7 @@ printf '[Service]\\nExecStart=\\nExecStart=/bin/sh /usr/local/lib/probe\\nRestar
 systemctl daemon-reload; systemctl restart pdpd-replica@0"""
 AS_BEFORE = ("rm -r /run/systemd/system/pdpd-replica@0.service.d; systemctl daemon-reload; "
              "systemctl restart pdpd-replica@0")
-FIGURES = "curl --silent --fail http://127.0.0.1:8405"
+FIGURES = "curl --silent --fail http://127.0.0.1:405"
 
 
 def units(machine):
@@ -98,7 +98,7 @@ def killed(machine, checks, operator):
 def nightly(machine, checks, operator):
     """The nightly job finds all decisions the same; a forged one fails it."""
     machine.sh("systemctl start pdpd-verify")
-    held = json.loads(machine.sh(f"cat {ARCHIVES}/verified"))
+    held = json.loads(machine.sh("cat /var/log/pdpd-decisions/verified"))
     checks.expect("what it has found", (held["same"] > 0, held["other"]), (True, 0))
     checks.expect("when it comes", machine.show("pdpd-verify.timer", "NextElapseUSecRealtime") != "", True)
     (path,) = machine.sh("ls /var/log/pdpd-decisions/*.log").splitlines()[-1:]

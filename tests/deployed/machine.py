@@ -32,7 +32,7 @@ WANTED = {
     "sqlite3": "sqlite3",
 }
 INSIDE = "DEPLOY_TEST_FOLDER"
-PLAIN = 8080
+PLAIN = 80
 # how long a command may take on a machine that others use as well, in seconds
 PATIENCE = 600
 # What stands on a machine that has deploy/ already, or something else of those names: a path and its text. The test

@@ -12,10 +12,10 @@ import urllib.request
 from . import audit, drawn
 from .machine import LIBRARY, PAGE, SETTINGS, TOP, as_user, pid, sh, shards, wait_until
 
-INSIDE = "http://127.0.0.1:8405"
+INSIDE = "http://127.0.0.1:405"
 PROMETHEUS = "http://127.0.0.1:9090"
-VERIFIED = pathlib.Path("/var/lib/pdpd-replica/verified")
 DECISIONS = pathlib.Path("/var/log/pdpd-decisions")
+VERIFIED = DECISIONS / "verified"
 # the dashboard of the last run
 DRAWN = TOP / "build" / "dashboard.svg"
 NIGHTLY = f"setpriv --reuid=pdpd-replica --regid=pdpd-replica --clear-groups {LIBRARY}/pdpd-replica-run verify"

@@ -12,14 +12,14 @@ from checks import Between
 
 from .clients import Deciders, Makers, Operator, making, many, message, once
 from .clients import status as status_of
-from .machine import LIBRARY, PAGE, SETTINGS, TOP, as_user, backs_up, pid, sh, shards, wait_until
+from .machine import LIBRARY, PAGE, PLAIN, SETTINGS, TOP, as_user, backs_up, pid, sh, shards, wait_until
 
 SWITCHES = ("KEEP=1", "RETRY=1", "THREADS=4", "MAXCONN=4", "RATE=100", "PLAIN_BIND=127.0.0.1:8081",
             "TLS_BIND=;PLAIN_BIND=127.0.0.1:8081", "TLS_BIND=[::]:443 v4v6", "HAPROXY_USER=", "LOG=/dev/log local0",
             "LOG=/dev/log local0;LOG_DECISIONS=0", "RETRY=1;THREADS=4;RATE=5;LOG_DECISIONS=0",
             "CLIENTS=10;UNDER_WAY=10;OF_SOURCE=0;REFUSALS=0", "AUDIT=1", "AUDIT=1;RETRY=1",
             *(f"DECISIONS=1;DECISION_REQUESTS={words}" for words in ("whole", "digest", "none")),
-            "DECISIONS=1;LOG_DECISIONS=0", "AUDIT=1;METRICS=127.0.0.1:8405", "METRICS=127.0.0.1:8405")
+            "DECISIONS=1;LOG_DECISIONS=0", "AUDIT=1;METRICS=127.0.0.1:405", "METRICS=127.0.0.1:405")
 CURL = "curl --silent --show-error --cacert /etc/haproxy/pdpd.crt"
 DOMAINS = "https://localhost/operator/domains"
 TRACED = 7198
@@ -42,7 +42,7 @@ def walk(machine, checks):
     checks.expect("whose the programs are", {owner(pid(shard)) for shard in range(4)}, {"pdpd"})
     files = pathlib.Path("/var/lib/pdpd").glob("[0-3]/*")
     checks.expect("who may read the files", {mode(path) for path in files}, {"600"})
-    machine.set(PLAIN_BIND="127.0.0.1:8080")
+    machine.set(PLAIN_BIND=f"127.0.0.1:{PLAIN}")
     machine.operator = Operator(pathlib.Path("/etc/pdpd/token").read_text().strip())
 
 

@@ -1,0 +1,252 @@
+"""What reaches who looks after the deployment: lines of logs that somebody pushes out or forges, and the folders of the
+user that keeps them."""
+import contextlib
+import json
+import pathlib
+import re
+import socket
+import struct
+import sys
+
+from . import audit
+from .attacking import Outsider, is_there, outside
+from .attacks_local import THIEF, Local, asked_status, owner_and_mode
+from .clients import decision, message, once, policy
+from .machine import LIBRARY, PLAIN, SETTINGS, as_user, pid, port, sh, shards, wait_until
+from .observed import LOGS, lines_in
+
+TLS = 443
+# how often each is sent
+TIMES = 20
+LONG = b"x" * 4000
+# What an outsider sends before he goes, and to which port: a change, a decision, a reading, and what is no message.
+GONE = {
+    "a change": (b"PUT /domains/acme/pip?%b HTTP/1.1\r\nHost: h\r\nContent-Length: 2\r\n\r\n{}" % LONG, PLAIN),
+    "a change of nothing": (b"PUT /domains/%b HTTP/1.1\r\nHost: h\r\nContent-Length: 0\r\n\r\n" % LONG, PLAIN),
+    "a decision": (b"POST /domains/acme/pdp HTTP/1.1\r\nHost: h\r\nContent-Length: 2\r\n\r\n{}", PLAIN),
+    "a reading": (b"GET /%b HTTP/1.1\r\nHost: h\r\n\r\n" % LONG, PLAIN),
+    "a part of a change": (b"PUT /domains/acme/pip HTTP/1.1\r\nHost: h\r\nContent-Length: 9\r\n\r\n{", PLAIN),
+    "no message": (b"\0\1\2\r\n\r\n", PLAIN),
+    "a bad head": (b"GET / HTTP/1.1\r\nno field\r\n\r\n", PLAIN),
+    "no handshake": (b"GET / HTTP/1.1\r\n\r\n", TLS),
+    "half a handshake": (b"\x16\x03\x01\x02\0\1", TLS),
+}
+
+
+# what an earlier version has written into the folders of logs
+EARLIER = {
+    "haproxy": ("s1000000", "t86400", "n100", "-change *", "-decision *", "-reading *", "-refused *",
+                "--:- [*] <HTTPCLIENT> *"),
+    "decisions": ("s10000000", "n20", "-*", "+decision *", "+reading *", "+refused *", "+-:- [*] <HTTPCLIENT> *"),
+}
+
+
+def renews(checks):
+    """Folders of logs that an earlier version has made are kept as this one has them."""
+    wanted = {name: (LOGS / name / "config").read_text() for name in EARLIER}
+    for name, lines in EARLIER.items():
+        (LOGS / name / "config").write_text("\n".join((*lines, "")))
+    sh("sv restart /etc/service/haproxy/log")
+    found = lambda: {name: (LOGS / name / "config").read_text() for name in EARLIER}
+    wait_until(lambda: found() == wanted, lambda: f"they are kept so: {found()}", 30)
+    checks.expect("both are other than before", [wanted[name].splitlines() == [*EARLIER[name]] for name in EARLIER],
+                  [False, False])
+
+
+def goes(client):
+    """Ends a connection by a reset."""
+    client.socket.setsockopt(socket.SOL_SOCKET, socket.SO_LINGER, struct.pack("ii", 1, 0))
+    client.close()
+
+
+def floods():
+    """Sends each as often as is said, and goes before there is a reply."""
+    for data, to in GONE.values():
+        for _ in range(TIMES):
+            with contextlib.suppress(OSError):
+                client = Outsider(0, to)
+                client.send(data)
+                goes(client)
+
+
+def outsiders_lines(folder):
+    """How many lines of a folder are about the outsider."""
+    return sum(f"{outside(0)}:" in line for line in lines_in(folder))
+
+
+def pushed(machine, checks):
+    """An outsider who sends and goes has no line in the logs of changes, of decisions, and of what failed, so he pushes
+    none out. Without LOG_DECISIONS he has none at all; a change of a token that is known has one."""
+    machine.operator.clear()
+    ask, folders = machine.operator.makes("acme"), ("changes", "haproxy", "decisions")
+    checks.expect("a tenant", decision(once(ask)), "Permit")
+    renews(checks)
+    before = [outsiders_lines(name) for name in (*folders, "refused")]
+    floods()
+    wait_until(lambda: outsiders_lines("refused") - before[3] > TIMES * len(GONE) // 2, "what was sent isn't logged")
+    checks.expect("a tenant beside it", decision(once(ask)), "Permit")
+    once(machine.operator.creates("behind"))
+    wait_until(lambda: any("/behind" in line for line in lines_in("changes")), "a change isn't logged")
+    found = [outsiders_lines(name) - count for name, count in zip(folders, before)]
+    checks.expect(f"lines of the outsider in {folders}", found, [0, 0, 0])
+    config = (LOGS / "refused" / "config").read_text()
+    checks.expect("what was refused has a limit", re.findall(r"(?m)^[sn]\d+$", config), ["s10000000", "n20"])
+    machine.set(LOG_DECISIONS=0)
+    checks.expect("a tenant", decision(once(ask)), "Permit")
+    before = [outsiders_lines(name) for name in (*folders, "refused")]
+    floods()
+    left_by_tenant(checks)
+    found = [outsiders_lines(name) for name in (*folders, "refused")]
+    checks.expect("his lines without LOG_DECISIONS", found, before)
+    machine.set(LOG_DECISIONS="")
+
+
+def left_by_tenant(checks):
+    """A tenant whose token is known makes a change and goes: it is logged as lost."""
+    lost = r'lost .* PUT "/domains/acme/pip" -1 '
+    end = sum(bool(re.match(lost, line)) for line in lines_in("refused"))
+    service = f"/etc/service/pdpd-{shards('where', 'acme').strip()}"
+    sh(f"sv pause {service}")
+    client = Outsider(1)
+    client.send(message("PUT", "/domains/acme/pip", "acme-token-1", '{"Row":[]}'))
+    checks.expect("its change waits", client.is_silent(1), True)
+    goes(client)
+    sh(f"sv cont {service}")
+    wait_until(lambda: sum(bool(re.match(lost, line)) for line in lines_in("refused")) > end, "it isn't logged")
+
+
+# ---- the user that keeps the logs
+
+ARCHIVES = pathlib.Path("/var/lib/pdpd-replica")
+
+
+def archives(machine, checks):
+    """The user pdpd-replica puts nothing in the place of a shard's archive. Where an earlier version left it the folder
+    of all, the next start of its daemon takes that back, and gives away nothing that a link leads to."""
+    audit.switch_on(machine)
+    wait_until(lambda: (ARCHIVES / "3").is_dir(), "there is no archive")
+    secret, link = pathlib.Path("/var/only-root"), ARCHIVES / "3"
+    sh(f"umask 077; rm -rf {secret}; mkdir {secret}; echo secret > {secret}/file")
+    tries = f"mv {link} {ARCHIVES}/moved", f"ln -s {secret} {ARCHIVES}/4", f"touch {ARCHIVES}/more"
+    said = as_user("pdpd-replica", "; ".join(f"{command} 2>&1 || true" for command in tries))
+    checks.expect(f"what it puts there: {said}", said.count("Permission denied"), 3)
+    sh(f"chown pdpd-replica {ARCHIVES}; sv down /etc/service/pdpd-replica-3; sleep 1")
+    as_user("pdpd-replica", f"cd {ARCHIVES}; mv 3 moved; ln -s {secret} 3")
+    sh("sv up /etc/service/pdpd-replica-3")
+    refusal = f"{link} is a link: look who put it there"
+    wait_until(lambda: any(refusal in line for line in lines_in("pdpd-replica-3")), "the link isn't told")
+    found = owner_and_mode(ARCHIVES), owner_and_mode(secret), sh(f"ls {secret}")
+    wanted = "root pdpd-replica 751 directory", "root root 700 directory", "file\n"
+    checks.expect("whose the folders are", found, wanted)
+    sys.path.insert(0, str(LIBRARY))
+    from operating import settings, supervisor
+    try:
+        said = supervisor.close_archives_folder(settings.read())
+    except settings.Wrong as fault:
+        said = str(fault)
+    checks.expect("what the tools say", refusal in str(said), True)
+    sh(f"rm {link}; mv {ARCHIVES}/moved {link}; rm -r {secret}")
+    wait_until(lambda: all(audit.sent("PUT", f"/operator/domains/a{number}", machine.operator.token)[0] in (201, 409)
+                           for number in range(8)), "no change is taken")
+
+
+def handed(machine, checks):
+    """Where ports are everybody's, a program that takes a shard's is shown no token by the daemon that logs changes,
+    and answers none."""
+    audit.switch_on(machine)
+    low = port(0)
+    name = next(f"h{number}" for number in range(99) if shards("where", f"h{number}").strip() == "1")
+    machine.set(FIRST_PORT=7100)
+    shards("restart")
+    wait_until(lambda: audit.sent("PUT", f"/operator/domains/{name}", machine.operator.token)[0] in (201, 409),
+               "no change is taken")
+    sh("sv down /etc/service/pdpd-1")
+    wait_until(lambda: not pid(1), "a shard isn't ended")
+    with Local("nobody", THIEF, port(1)) as thief:
+        wait_until(lambda: "taken" in thief.said(), "the thief doesn't get the port")
+        found = [audit.sent("PUT", f"/operator/domains/{name}", machine.operator.token)[0],
+                 audit.sent("PUT", f"/domains/{name}/pip", "some-token-1", '{"Row":[]}')[0]]
+        checks.expect("changes meanwhile", found, [503, 503])
+        shown = re.findall(r"(?i)Bearer (?!-\\r)\S+", thief.said())
+        checks.expect("tokens that it is shown", shown, [])
+    told = [line for line in lines_in("pdpd-replica-1") if "a program of user 65534 has pdpd's port" in line]
+    checks.expect("what the daemon tells", len(told) > 0, True)
+    machine.set(FIRST_PORT=low)
+    shards("restart")
+    wait_until(lambda: audit.sent("PUT", f"/operator/domains/{name}", machine.operator.token)[0] in (201, 409),
+               "no change is taken again")
+
+
+# ---- who reads the log of changes
+
+# It would clear a terminal's screen, set its title, begin a line of another change, and turn and hide letters.
+HOSTILE = "\x1b[2J\x1b]0;owned\x07\n9  2026-01-01T00:00:00.000Z  operator  removes the domain  200\u202e\u200b\x9b"
+
+
+def forged(machine, checks):
+    """What a tenant writes, taken or refused, begins no line of `pdpd-log`, and steers no terminal of who reads it."""
+    audit.switch_on(machine)
+    operator, token = machine.operator.token, audit.TOKENS["admin"]
+    wait_until(lambda: audit.make_ward(operator) == [201, 200, 200, 201, 200, 200, 200], "no change is taken")
+    found = [audit.sent("PUT", "/domains/ward/pap/root", token, HOSTILE)[0]]
+    text = policy("Permit").replace('"urn:p"', json.dumps(f"urn:{HOSTILE}"))
+    found.append(audit.sent("POST", "/domains/ward/pap/policies", token, text)[0])
+    found.append(audit.sent("DELETE", "/domains/ward/pap/policy/urn%1b%5b2J%0a9%20%20operator/1.0", token)[0])
+    checks.expect("a root that is none, a policy of such a name, and one that isn't there", found, [400, 201, 404])
+    for words in ("changes --domain ward", "diff --domain ward --from 2026-01-01T00:00:00Z --to 2036-01-01T00:00:00Z"):
+        said = sh(f"pdpd-log {words}")
+        bad = sorted({letter for letter in said if not letter.isprintable() and letter != "\n"})
+        checks.expect(f"{words}: letters that steer", bad, [])
+        checks.expect(f"{words}: what is told of it", "\\x1b[2J" in said, True)
+    lines = sh("pdpd-log changes --domain ward").splitlines()
+    count = len(sh("pdpd-log changes --domain ward --json").splitlines())
+    line = re.compile(r"\d+  \S+Z  (operator|admin \w{8})  \S")
+    checks.expect("lines", (len(lines), [one for one in lines if not line.match(one)]), (count, []))
+
+
+# ---- HAProxy's own ports
+
+# It waits until it may take connections at a port, and keeps it.
+KEEPER = """
+import socket, sys, time
+while True:
+    taken = socket.socket()
+    taken.setsockopt(socket.SOL_SOCKET, socket.SO_REUSEADDR, 1)
+    try:
+        taken.bind(("127.0.0.1", int(sys.argv[1])))
+        break
+    except OSError as fault:
+        taken.close()
+        print(fault.errno, flush=True)
+        time.sleep(0.001)
+taken.listen(9)
+print("taken", flush=True)
+time.sleep(1000)
+"""
+
+
+def squatters(machine, checks):
+    """With METRICS as the page has it no user gets the port while HAProxy restarts. `status` tells of one that is
+    everybody's, by which anybody could keep HAProxy away."""
+    sh(next(command for command in audit.commands("Metrics") if command.startswith("sed ")))
+    machine.set()
+    shards("services")
+    address = re.search(r"(?m)^METRICS=127\.0\.0\.1:(\d+)$", SETTINGS.read_text())
+    with Local("nobody", KEEPER, address[1]) as keeper:
+        for _ in range(3):
+            sh("sv restart haproxy")
+            wait_until(is_there, "HAProxy stays away", 30)
+        checks.within("what the user gets", "taken" in keeper.said(), [False])
+    checks.expect("ports of everybody", "every user of this machine" in asked_status(), False)
+    for name, bind in (("METRICS", "127.0.0.1:8405"), ("PLAIN_BIND", "[::1]:8080")):
+        before = re.search(rf"(?m)^{name}=(.*)$", SETTINGS.read_text())[1].strip('"')
+        machine.set(**{name: bind})
+        said = shards("status", status=1)
+        told = f"WRONG: every user of this machine can take the port of {name} ({bind}) while HAProxy restarts"
+        checks.expect(f"{name}={bind}: {said}", told in said, True)
+        machine.set(**{name: before})
+
+
+ATTACKS = (pushed,)
+# those that have the log of changes on
+AUDITED = (archives, forged, handed, squatters)
