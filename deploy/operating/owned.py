@@ -9,6 +9,7 @@ from __future__ import annotations
 import contextlib
 import os
 import pathlib
+import pwd
 import shutil
 import signal
 import stat
@@ -30,6 +31,23 @@ class User(NamedTuple):
     """A user and its group, by their numbers."""
     uid: int
     gid: int
+
+
+def name_of(uid: int) -> str:
+    """A user's name, or its number where it has none."""
+    try:
+        return pwd.getpwuid(uid).pw_name
+    except KeyError:
+        return str(uid)
+
+
+def advice(path: pathlib.Path, found: os.stat_result, owner: int) -> str:
+    """What is to be done about what isn't its folder's owner's. A file without a second name may be a store that
+    somebody has copied there, which must not be taken away; with one, a chown would give away the other file too."""
+    if not stat.S_ISREG(found.st_mode) or found.st_nlink != 1:
+        return PLANTED
+    user = name_of(owner)
+    return f"look who put it there. If you did: chown -h {user}:{user} {path}"
 
 
 def owner_of(path: str | os.PathLike[str]) -> User:
@@ -88,7 +106,8 @@ class Folder:
             found = os.fstat(file)
             users = {self.owner.uid, *([os.geteuid()] if is_tools else [])}
             if not stat.S_ISREG(found.st_mode) or not (self.is_closed or found.st_uid in users):
-                raise Wrong(f"{self.path / name} is no file of the user who has the folder: {PLANTED}")
+                raise Wrong(f"{self.path / name} is no file of the user who has the folder: "
+                            f"{advice(self.path / name, found, self.owner.uid)}")
             yield file
         finally:
             os.close(file)

@@ -3,12 +3,12 @@ secret, stores that no shard has, and whether what looks after the shards runs."
 from __future__ import annotations
 
 import os
-import pwd
 import stat
 import time
 
 from . import supervisor, talk, trial
 from .findings import Findings
+from .owned import advice, name_of
 from .settings import Settings
 
 # after how long is looked again for a service that doesn't run: a supervisor starts it again within a second
@@ -47,19 +47,11 @@ def look_at_store(settings: Settings, shard: int, findings: Findings) -> None:
             continue
         user = name_of(owner)
         if stat.S_ISREG(found.st_mode) and found.st_uid != owner:
-            findings.add(f"{folder / name} isn't the user's who has its folder, and shard {shard} can't start with it. "
-                         f"If you put it there: chown -h {user}:{user} {folder / name}")
+            findings.add(f"{folder / name} isn't the user's who has its folder, and shard {shard} can't start with it: "
+                         f"{advice(folder / name, found, owner)}")
         elif found.st_mode & 0o077 and stat.S_ISREG(found.st_mode):
             findings.add(f"others than its owner can read {folder / name}: runuser -u {user} -- chmod 600 "
                          f"{folder / name}")
-
-
-def name_of(uid: int) -> str:
-    """A user's name, or its number where it has none."""
-    try:
-        return pwd.getpwuid(uid).pw_name
-    except KeyError:
-        return str(uid)
 
 
 def look_beyond(settings: Settings, findings: Findings) -> None:

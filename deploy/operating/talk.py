@@ -270,14 +270,15 @@ def keep_lease(settings):
     """What is held stays so meanwhile, and not for long where this process is killed."""
     is_over = threading.Event()
     thread = threading.Thread(target=renew_lease, args=(settings, is_over), daemon=True)
-    # a thread takes no signal that the tool has put off
-    with put_off_signals():
-        thread.start()
     try:
+        # a thread takes no signal that the tool has put off (one that has come meanwhile ends the tool from here)
+        with put_off_signals():
+            thread.start()
         yield
     finally:
         is_over.set()
-        thread.join()
+        if thread.is_alive():
+            thread.join()
 
 
 @contextlib.contextmanager

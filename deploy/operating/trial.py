@@ -91,9 +91,10 @@ def domains_at(port: int, token: str) -> list[str]:
         connection.request("GET", "/operator/domains", headers=fields)
         # what takes its time byte by byte holds the lock `alone` no longer than this
         timer = threading.Timer(PATIENCE, connection.sock.shutdown, [socket.SHUT_RDWR])
-        with put_off_signals():  # a thread takes no signal that the tool has put off
-            timer.start()
         try:
+            # a thread takes no signal that the tool has put off (one that has come meanwhile ends the tool from here)
+            with put_off_signals():
+                timer.start()
             reply = connection.getresponse()
             body = reply.read(MOST)
         finally:

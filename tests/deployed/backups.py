@@ -5,6 +5,7 @@ import re
 import shutil
 import signal
 import sqlite3
+import subprocess
 import sys
 import tempfile
 import threading
@@ -200,10 +201,10 @@ def emptied(machine, checks):
     told = f"WRONG: shard {shard} has no domain any more, and 1 in the backup before"
     checks.expect("with a domain", told in shards("backup", shard) + shards("status"), False)
     checks.expect("the domain is removed", status(once(machine.operator.message("DELETE", "/acme"))), 200)
-    before = shards("backups").count("\n")
     said = shards("backup", shard, status=1)
     checks.expect(f"without one: {said}", told in said, True)
-    checks.expect("it counts", shards("backups").count("\n"), before + 1)
+    made = re.search(rf"/{shard}/([^,]+), 0 domains", said)
+    checks.expect("it counts", made is not None and f"{shard} {made[1]}\n" in shards("backups"), True)
     said = shards("status", status=1)
     checks.expect(f"the status: {said}", told in said, True)
     shards("remap")
@@ -216,6 +217,7 @@ def emptied(machine, checks):
     sh("sv restart pdpd-backups")
     wait_until(lambda: log.read_text().count(told) > count, "the service that makes backups doesn't say so")
     unapplied(checks, log)
+    ended(checks)
 
 
 def unapplied(checks, log):
@@ -231,6 +233,38 @@ def unapplied(checks, log):
     said = log.read_text()[before:]
     found = f"SHARDS, DATA of {SETTINGS} isn't what was applied" in said, "NO BACKUP" in said, "shard 4" in said
     checks.expect(f"what isn't applied: {said}", found, (True, False, False))
+
+
+# A signal to end comes to a tool at the very moment at which it has begun a thread: is a thread left behind it?
+ENDED = """
+import os, signal, sys, threading
+sys.path.insert(0, sys.argv[1])
+from operating import cli, settings, talk, trial
+held, start = settings.read(), threading.Thread.start
+def start_and_end(thread):
+    start(thread)
+    os.kill(os.getpid(), signal.SIGTERM)
+def holds():
+    with talk.keep_lease(held):
+        print("goes on")
+cli.end_in_order()
+threading.Thread.start = start_and_end
+for call in (lambda: trial.domains_at(held.first_port, held.operator()), holds):
+    try:
+        call()
+    except SystemExit as end:
+        for thread in threading.enumerate()[1:]:
+            thread.join(5)
+        print(end.code, threading.active_count(), flush=True)
+"""
+
+
+def ended(checks):
+    """A tool that is told to end does so at once: no thread holds it."""
+    ran = subprocess.run([sys.executable, "-Bc", ENDED, LIBRARY], capture_output=True, text=True, check=False,
+                         stdin=subprocess.DEVNULL, timeout=120)
+    code = 128 + signal.SIGTERM
+    checks.expect(f"threads that are left: {ran.stderr}", ran.stdout, f"{code} 1\n" * 2)
 
 
 def anew(machine, checks):

@@ -51,12 +51,22 @@ def readable(machine, checks, ask):
 
 
 def others_own(machine, checks, ask):
-    """A shard's file is root's, as one that root has copied there is."""
-    store = STORES / "2" / "pdpd.db"
+    """A shard's file is root's, as one that root has copied there is. Nobody is told to take a store away, nor to give
+    a user what is another file as well."""
+    store, other = STORES / "2" / "pdpd.db", STORES / "second-name"
+    chown, away = f"look who put it there. If you did: chown -h pdpd:pdpd {store}", "and take it away"
     sh(f"chown root:root {store}")
+    for words in (("status",), ("backup", 2)):
+        found, said = asked(*words)
+        checks.expect(f"{words} of a store of root's: {said}", (found, chown in said, away in said), (1, True, False))
+    sh(f"ln {store} {other}")
+    for words in (("status",), ("backup", 2)):
+        found, said = asked(*words)
+        checks.expect(f"{words} of one of two names: {said}", (found, chown in said, away in said), (1, False, True))
+    sh(f"rm {other}")
     _, said = asked("status")
-    heals = re.search(r"shard 2 can't start with it\. If you put it there: (chown .*)", said)
-    checks.expect(f"a store of root's: {said}", heals is not None, True)
+    heals = re.search(r"shard 2 can't start with it: look who put it there\. If you did: (chown .*)", said)
+    checks.expect(f"what heals it: {said}", heals is not None, True)
     sh(heals[1] if heals else f"chown pdpd:pdpd {store}")
 
 
