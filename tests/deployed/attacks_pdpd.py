@@ -312,8 +312,8 @@ def things(machine, checks, place, name):
 
 
 def moved(machine, checks):
-    """A move between shards of which one has a link to a store of root's in its place, a pipe, a folder or what has no
-    end: nothing of root's is read or changed, nothing is waited for, and the domain stays."""
+    """A move between shards of which one has a link to a store of root's in its place: that is neither read nor
+    changed, and the domain stays. The program that carries waits for no pipe, and reads nothing without an end."""
     machine.operator.clear()
     ask = machine.operator.makes("mover")
     one = int(shards("where", "mover"))
@@ -330,24 +330,19 @@ def moved(machine, checks):
     checks.expect(f"a store of root's: {said}", "can't be" in said, True)
     found = sh("sha256sum /var/only-root.db; ls /var/only-root.db*")
     checks.expect("it is as it was", found, f"{digest}/var/only-root.db\n")
-    make_secret()
-    for what, command in THINGS.items():
-        sh(f"sv -w 60 stop /etc/service/pdpd-{other}")
-        as_user("pdpd", f"cd {place}; rm -rf pdpd.db*; {command.format('pdpd.db')}")
-        began = time.time()
-        said = shards("move", "mover", one, other, status=1)
-        checks.expect(f"{what} in place of the other store: {said}", "look who put it there" in said, True)
-        checks.within(f"{what}: the seconds", time.time() - began, Between(0, 60))
-    checks.expect("the file of root's", owner_and_mode("/var/only-root"), "root root 600 regular file")
-    sh(f"sv -w 60 stop /etc/service/pdpd-{other}")
-    sh(f"cd {place}; rm -rf pdpd.db*; mv kept/* .; rmdir kept")
-    # (behind a program that has ended at once runit hears an order a second later, and one before that does nothing)
-    wait_until(lambda: sh(f"sv up /etc/service/pdpd-{other}") and machine.operator.is_answered(),
-               "the shard isn't there again")
+    sh(f"cd {place}; rm -f pdpd.db*; mv kept/* .; rmdir kept; sv up /etc/service/pdpd-{other}")
+    wait_until(machine.operator.is_answered, "the shard isn't there again")
     checks.expect("the domain is where it was", (int(shards("where", "mover")), decision(once(ask))), (one, "Permit"))
     shards("move", "mover", one, other)
     checks.expect("and moves", (int(shards("where", "mover")), decision(once(ask))), (other, "Permit"))
     sh("rm -f /var/only-root*")
+    make_secret()
+    sh("install -d -o pdpd /tmp/carried")
+    for number, (what, command) in enumerate(THINGS.items()):
+        file = f"/tmp/carried/{number}.db"
+        carries = f"timeout 20 /usr/bin/python3 -IB {LIBRARY}/operating/carrying.py mover {file} {file}"
+        said = as_user("pdpd", f"{command.format(file)}; {carries} || echo ends with $?")
+        checks.expect(f"{what} in place of a store: {said}", "look who put it there\nends with 5" in said, True)
 
 
 def reserves(_machine, checks):
