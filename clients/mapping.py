@@ -21,7 +21,7 @@ NGINX_OWN = {"host", "connection", "content-length", "transfer-encoding", "upgra
 
 # Fields by which a server may take another method or path than those that were asked about, or another protocol.
 REFUSED = ("x-http-method-override", "x-http-method", "x-method-override", "x-original-url", "x-rewrite-url",
-           "script-name", "upgrade", "http2-settings")
+           "script-name", "x-script-name", "upgrade", "http2-settings")
 # What may stand in a decoded path, as a class of a regular expression: of ASCII what needs no encoding, and a space;
 # else letters of Latin, Greek, Cyrillic, Hebrew, Arabic, Japanese, Chinese and Korean, which no Unicode normalization
 # changes.
@@ -32,9 +32,12 @@ LETTERS = (
     r"\u30A1-\u30FA\u4E00-\u9FFF\uAC00-\uD7A3")
 
 
+BYTE = r"\x"  # with two digits, as a regular expression has it
+
+
 def coded(characters: str) -> str:
-    """A regular expression of one of some characters, as it stands in a form or encoded."""
-    return f"(?:{'|'.join(f'{before}{ord(each):02x}' for each in characters for before in (chr(92) + 'x', '%'))})"
+    """A regular expression of one of some characters, as it stands in a form or encoded, also as ASP.NET decodes it."""
+    return f"(?:{'|'.join(f'{before}{ord(each):02x}' for each in characters for before in (BYTE, '%', '%u00'))})"
 
 
 def coded_word(word: str) -> str:
@@ -46,7 +49,7 @@ def coded_word(word: str) -> str:
 # be written so that some readers find another one. Without regard to small letters and capitals.
 # (Each blank matches in one way, 40 of them are refused, and of what stands before a bracket 200 characters count: so
 # no form takes long to look at.)
-BLANK = r"(?:\s|%20|\+|%2b)"
+BLANK = r"(?:\s|\+|%(?:u00)?(?:20|2b))"
 NAMES_METHOD = (f"(?:{BLANK}{{40}}|{BLANK}{{0,39}}(?:{coded('_. +')}|{coded_word('x')}{coded('-_. +')}"
                 f"(?:{coded_word('http')}{coded('-_. +')})?){coded_word('method')})")
 FIELD_NAMES_METHOD = f"(?:^|[&;?])(?:[^&;?=]{{0,200}}{coded('[')})?{NAMES_METHOD}"

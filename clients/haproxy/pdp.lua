@@ -50,9 +50,9 @@ local function path_of(raw)
     return path
 end
 
--- A text, in which each percent and two digits stand for a byte.
+-- A text, in which each percent and two digits stand for a byte, also as ASP.NET decodes it.
 local function unescaped(text)
-    return (text:gsub("%%(%x%x)", function(digits)
+    return (text:gsub("%%[uU]00(%x%x)", "%%%1"):gsub("%%(%x%x)", function(digits)
         return string.char(tonumber(digits, 16))
     end))
 end
@@ -205,19 +205,22 @@ local function refuse_form(fetch, head)
     local form, told = fetch:req_body() or "", fields(head, "content-length")[1] or "0"
     if tonumber(told) ~= #form then
         refuse(413, "a form that isn't whole in the buffer")
-    elseif form_names_method(kind, form) then
+    elseif #form > 0 and #fields(head, "content-encoding") > 0 or form_names_method(kind, form) then
         refuse(400, "another method in a form")
     end
+end
+
+-- The path and the query of a request. HTTP/2 has scheme and authority apart, and HAProxy makes an address of them.
+-- (What a request line says of its version is the client's word.)
+local function target_of(fetch)
+    local target = fetch:url()
+    return fetch:fc_http_major() ~= 1 and target:match("^https?://[%w.:%[%]_-]*(/.*)$") or target
 end
 
 -- The request for the decision.
 local function question(txn, subject, head)
     local fetch = txn.f
-    local target = fetch:url()
-    if fetch:req_ver():sub(1, 1) == "2" then
-        target = fetch:pathq() -- HTTP/2 has the authority apart
-    end
-    local raw, query = target:match("^([^?]*)%??(.*)$")
+    local raw, query = target_of(fetch):match("^([^?]*)%??(.*)$")
     refuse_others(head, query)
     local action = map.Action[fetch:method()]
     if not action then

@@ -87,11 +87,11 @@ function refuse_form(r) {
     } catch (e) {  // nginx has it in a file
         throw refusal(413, 'a form of more than a MiB');
     }
-    if (!body) {
+    if (!body || !body.length) {  // (one of no bytes can't be read)
         return;
     }
     const form = body.toString();
-    if (/charset(?!\s*=\s*"?utf-8"?\s*(?:;|$))/i.test(kind)
+    if (/charset(?!\s*=\s*"?utf-8"?\s*(?:;|$))/i.test(kind) || fields(r, 'Content-Encoding').length
             || (/multipart/i.test(kind) ? parts_name_method(form) : FIELD_NAMES_METHOD.test(form))) {
         throw refusal(400, 'another method in a form');
     }
@@ -117,7 +117,7 @@ function parts_name_method(form) {
 
 // Whether a query names another method, as `_method=`, `a[_method]=` or `X-HTTP-Method-Override=` in some encoding.
 function names_method(query) {
-    const decoded = query.replace(/%([0-9A-Fa-f]{2})/g, (_, digits) => String.fromCharCode(parseInt(digits, 16)));
+    const decoded = query.replace(/%(?:u00)?([0-9a-f]{2})/gi, (_, digits) => String.fromCharCode(parseInt(digits, 16)));
     return /(?:^|[&;?[])[\s+]*(?:[_. +]|x[-_. +](?:http[-_. +])?)method/i.test(decoded);
 }
 
@@ -153,7 +153,7 @@ function permitted(reply) {
         throw refusal(503, 'the server answers with ' + reply.status);
     }
     const length = reply.headersOut['Content-Length'];
-    if (length !== undefined && Number(length) !== reply.responseBuffer.length) {
+    if (length === undefined || Number(length) !== reply.responseBuffer.length) {
         throw refusal(503, 'a response that isn\'t whole');
     }
     let results;
@@ -162,7 +162,10 @@ function permitted(reply) {
     } catch (e) {
         throw refusal(503, 'a response that isn\'t whole');
     }
-    if (!Array.isArray(results) || results.length !== 1 || typeof results[0] !== 'object' || !results[0]) {
+    // (of two members of one name the reader takes the last)
+    const names = reply.responseText.match(/"(?:Response|Decision)"\s*:/g) || [];
+    if (!Array.isArray(results) || results.length !== 1 || typeof results[0] !== 'object' || !results[0]
+            || names.length > 2) {
         throw refusal(503, 'not one result');
     }
     if (results[0].Decision !== 'Permit') {

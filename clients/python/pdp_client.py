@@ -286,11 +286,19 @@ def _checked(found: Any, kind: Any) -> Any:
     return found
 
 
+def _unique(members: List[Tuple[str, Any]]) -> Dict[str, Any]:
+    """An object of JSON, in which no member stands twice."""
+    held = dict(members)
+    if len(held) != len(members):
+        raise ValueError("a member stands twice")
+    return held
+
+
 def _decisions(body: bytes, count: int, understood: AbstractSet[str]) -> List[Decision]:
     """The results of a response to so many questions. One that is Indeterminate may stand for all."""
     held = []
     try:
-        for one in _checked(_checked(json.loads(body), dict)["Response"], list):
+        for one in _checked(_checked(json.loads(body, object_pairs_hook=_unique), dict)["Response"], list):
             status = _checked(one, dict).get("Status", {}).get("StatusCode", {}).get("Value", f"{STATUS}ok")
             if one["Decision"] not in ANSWERS:
                 raise ValueError(one["Decision"])

@@ -50,6 +50,8 @@ NO_DECISIONS = [
     (response(result("Permit", Obligations=[{"Id": "o", "AttributeAssignment": [{"AttributeId": "a"}]}])),
      "WrongReply"),
     (whole(b'{"Response":[{"Decision":"Permit","Status":7}]}'), "WrongReply"),
+    (whole(b'{"Response":[{"Decision":"Deny","Decision":"Permit"}]}'), "WrongReply"),
+    (whole(b'{"Response":[{"Decision":"Deny"}],"Response":[{"Decision":"Permit"}]}'), "WrongReply"),
 ]
 
 

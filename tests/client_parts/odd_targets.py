@@ -1,4 +1,5 @@
-"""Targets of requests that one server may read as another path than the next does, and such readings."""
+"""Targets of requests that one server may read as another path than the next does, such readings, and what is always
+refused with 400."""
 import os
 import re
 import unicodedata
@@ -33,3 +34,17 @@ READINGS = [urllib.parse.unquote, lambda path: urllib.parse.unquote(urllib.parse
             lambda path: re.sub(";[^/]*", "", path), lambda path: urllib.parse.urljoin("http://x/", path)[8:],
             lambda path: unicodedata.normalize("NFKC", urllib.parse.unquote(path)),
             lambda path: "/" + os.path.normpath(urllib.parse.unquote(path)).strip("/")]
+
+REFUSED_TARGETS = (
+    "/open//x", "/open/./x", "/open/../open/x", "/open/.", "/open/..", "/open/%2e/x", "/open/x%2fy", "/open/x%5cy",
+    "/open/x\\y", "/open/x;a=b", "/open/x%3ba", "/open/%25", "/open/%61", "/open/%00", "/open/%0a", "/open/%ef%ac%81",
+    "/open/e%cc%81", "/open/%e2%80%8b", "/open/%ff", "/open/%c0%ae", "/open/%ed%a0%80", "/open/|")
+REFUSED_FIELDS = (
+    "X-HTTP-Method-Override: POST", "X-HTTP-Method: POST", "X-Method-Override: POST", "Upgrade: websocket",
+    "Upgrade: h2c", "HTTP2-Settings: x", "X-Original-URL: /closed", "x-rewrite-url: /closed",
+    "Script-Name: /open", "X-Script-Name: /open")
+REFUSED_QUERIES = ("_method=POST", "a=1&_method=DELETE", "_METHOD=PUT", "a;_method=PUT", "%5fmethod=PUT",
+                   "%5F%6dethod=PUT", "_method[]=PUT", "+_method=PUT", "a=b?_method=PUT", ".method=PUT",
+                   "X-HTTP-Method-Override=PUT", "a=1&x-http-method%2doverride=PUT", "x_http_method=PUT",
+                   "X-Method-Override=PUT", "%u005fmethod=PUT", "%U0058-http-method=PUT", "a[_method]=PUT",
+                   "a%5B%5Fmethod%5d=PUT", "a[b][_method]=PUT")

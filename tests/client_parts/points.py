@@ -17,8 +17,8 @@ from concurrent.futures import ThreadPoolExecutor
 from serving import free_port
 
 from .guarded import LOG, MARK, OPEN, PATIENCE, Haproxy, Nginx, points, reads, ready, told
-from .odd_targets import READINGS, odd_targets
-from .servers import Scripted, is_silent, keeps, reset, response, result, whole
+from .odd_targets import READINGS, REFUSED_FIELDS, REFUSED_QUERIES, REFUSED_TARGETS, odd_targets
+from .servers import Scripted, in_pieces, is_silent, keeps, reset, response, result, whole
 from .shared import ASKS, TOP, Acme, expect
 
 
@@ -146,7 +146,12 @@ FAULTY = (
     ("204", whole({"Response": [result("Permit")]}, "204 No Content"), 503),
     ("a body that is cut", PERMIT[:-1], 503), ("a head alone", PERMIT[:30], 503), ("nothing", b"", 503),
     ("a whole body that is cut", whole({"Response": [result("Permit")]}, length="200"), 503),
-    ("no length, and an end", whole({"Response": [result("Deny")]}, length=""), (403, 503)),
+    ("no length, and an end", whole({"Response": [result("Permit")]}, length=""), 503),
+    ("pieces, of which the last isn't there", in_pieces({"Response": [result("Permit")]}), 503),
+    ("a way within the proxy", whole({"Response": [result("Deny")]}, fields=["X-Accel-Redirect: @pdp-protected"]), 403),
+    ("the same with an error", whole({}, "403 Forbidden", ["X-Accel-Redirect: @pdp-protected"]), 503),
+    ("a decision twice", whole(b'{"Response":[{"Decision":"Deny","Decision":"Permit"}]}'), 503),
+    ("responses twice", whole(b'{"Response":[{"Decision":"Deny"}],"Response":[{"Decision":"Permit"}]}'), 503),
     ("a second response in the body", whole(json.dumps({"Response": [result("Permit")]}).encode() * 2), 503),
     ("a member twice", whole(b'{"Response":[{"Decision":"Deny","Decision":"Permit"}],"Response":[]}'), 503),
     ("silence", is_silent, 503), ("no response", whole([]), 503),
@@ -207,20 +212,6 @@ def ended_meanwhile(point):
                 expect(f"{point.name}: the second", (guarded.sent("/open/x")[0], len(pdp.messages)), wanted)
 
 
-REFUSED_TARGETS = (
-    "/open//x", "/open/./x", "/open/../open/x", "/open/.", "/open/..", "/open/%2e/x", "/open/x%2fy", "/open/x%5cy",
-    "/open/x\\y", "/open/x;a=b", "/open/x%3ba", "/open/%25", "/open/%61", "/open/%00", "/open/%0a", "/open/%ef%ac%81",
-    "/open/e%cc%81", "/open/%e2%80%8b", "/open/%ff", "/open/%c0%ae", "/open/%ed%a0%80", "/open/|")
-REFUSED_FIELDS = (
-    "X-HTTP-Method-Override: POST", "X-HTTP-Method: POST", "X-Method-Override: POST", "Upgrade: websocket",
-    "Upgrade: h2c", "HTTP2-Settings: x", "X-Original-URL: /closed", "x-rewrite-url: /closed",
-    "Script-Name: /open")
-REFUSED_QUERIES = ("_method=POST", "a=1&_method=DELETE", "_METHOD=PUT", "a;_method=PUT", "%5fmethod=PUT",
-                   "%5F%6dethod=PUT", "_method[]=PUT", "+_method=PUT", "a=b?_method=PUT", ".method=PUT",
-                   "X-HTTP-Method-Override=PUT", "a=1&x-http-method%2doverride=PUT", "x_http_method=PUT",
-                   "X-Method-Override=PUT", "a[_method]=PUT", "a%5B%5Fmethod%5d=PUT", "a[b][_method]=PUT")
-
-
 def two_readings():
     """Some 400 odd requests: what goes through is permitted as the protected server has it, however that reads it."""
     targets = list(dict.fromkeys(odd_targets()))
@@ -251,6 +242,10 @@ def two_readings():
                 expect(f"{point.name}: {field}", guarded.sent("/open/x", field)[0], 400)
             for query in REFUSED_QUERIES:
                 expect(f"{point.name}: {query}", guarded.sent(f"/open/x?{query}")[0], 400)
+            for target in ("http://app.example/open/x", "http:///open/x", "*"):
+                # (the rest of the line is a field's value)
+                status = guarded.sent(f"{target} HTTP/2.0\r\nX-Rest:")[0]
+                expect(f"{point.name}: a line of HTTP/2 with {target}: {status}", status in (400, 505), True)
             expect(f"{point.name}: none of them arrived", len(echo.messages) - before, 0)
 
 

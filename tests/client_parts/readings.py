@@ -2,6 +2,7 @@
 some 400 paths, and all of them by other methods than that of the request line."""
 import asyncio
 import contextlib
+import gzip
 import json
 import os
 import socket
@@ -13,9 +14,9 @@ import urllib.parse
 from wsgiref.simple_server import WSGIRequestHandler, make_server
 
 from .guarded import Haproxy, Nginx, points, reads, ready
-from .odd_targets import READINGS, odd_targets
-from .points import REFUSED_TARGETS
+from .odd_targets import READINGS, REFUSED_TARGETS, odd_targets
 from .recipes import flask_elsewhere
+from .servers import starts_http2
 from .shared import TOP, Acme, expect
 
 import pdp_guards  # noqa: E402, found by shared
@@ -29,7 +30,7 @@ NAMED = ("_method=PUT", "a=1&_method=DELETE", "_METHOD=PUT", "a;_method=PUT", "%
          "_method[]=PUT", "+_method=PUT", "%20_method=PUT", "a=b?_method=PUT", ".method=PUT", "a[_method]=PUT",
          "a%5B%5Fmethod%5d=PUT", "a[b][_method]=PUT", "X-HTTP-Method-Override=PUT", "a=1&x-http-method%2doverride=PUT",
          "x_http_method=PUT", "X-Method-Override=PUT", "_method", "%5F%4DETHOD=PUT", "%20%20+_method=PUT",
-         "+" * 60 + "_method=PUT")
+         "+" * 60 + "_method=PUT", "%u005fmethod=PUT", "a=1&%U0058-HTTP-Method-Override=PUT", "%u005b_method=PUT")
 # the same in the head of a part of a form, as readers of RFC 2045 to 2047, 2231 and 7578 may have it
 HEADS = ('name="_method"', "name=_method", "name='_method'", 'NAME = "_Method"', "name*=utf-8''%5Fmethod",
          'name*0="_me"; name*1="thod"', 'name="%5fmethod"', 'name="\\_method"', 'filename="x"; name="_method"',
@@ -42,6 +43,7 @@ PLAIN_HEADS = ('name="a"', 'name="method"', 'name="payment_method"', 'name="f"; 
                "name=\"f\"; filename*=utf-8''_method.txt", 'name="f"; filename="a\\\\b"')
 FIELDS = ("X-HTTP-Method-Override: PUT", "X-HTTP-Method: PUT", "X-Method-Override: PUT", "x_http_method_override: PUT",
           "X-Original-URL: /closed", "X-Rewrite-URL: /closed", "Script-Name: /open", "SCRIPT_NAME: /open",
+          "X-Script-Name: /open",
           "Upgrade: websocket", "Upgrade: h2c", "HTTP2-Settings: x")
 METHODS = ("get", "Get", "gET", "G-ET")
 
@@ -236,6 +238,9 @@ def forms_of(name, served, most):
     for before in (b"\xc3", b"\xe2\x80", b"\xf0\x9f\x98"):
         expect(f"{name}: behind half a letter", served.sent("/open/x", body=b"a=" + before + b"&_method=PUT",
                                                             kind=URLENCODED), 400)
+    for kind, form in ((URLENCODED, b"_method=PUT"), (MULTIPART, in_parts('name="_method"')), ("", b"_method=PUT")):
+        expect(f"{name}: a form of {kind} that is packed",
+               served.sent("/open/x", "Content-Encoding: gzip", body=gzip.compress(form), kind=kind), 400)
     expect(f"{name}: letters in which a method is written otherwise",
            served.sent("/open/x", body=b"a=1", kind=f"{URLENCODED}; charset=utf-16"), 400)
     for kind, size, wanted in ((URLENCODED, most + 1, 413), (MULTIPART, most + 9, 413), ("", most + 1, 413)):
@@ -297,9 +302,12 @@ def odd_forms():
                     expect(f"{held.name}: {kind} {body[:80]!r}", served.sent("/open/x", body=body, kind=kind), 200)
                 arrived = [message.partition(b"\r\n\r\n")[2] for message in echo.messages]
                 expect(f"{held.name}: they arrive as they were sent", arrived == [body for _, body in bodies], True)
-                expect(f"{held.name}: without a body", guarded.sent("/open/x", method="POST")[0], 200)
+                expect(f"{held.name}: without a body",
+                       [guarded.sent("/open/x", *fields, method="POST")[0] for fields in ((), ("Content-Length: 0",))],
+                       [200, 200])
                 come_late(guarded)
                 over_http2(guarded)
+                addressed(guarded, echo)
                 statuses = {served.sent("/open/x", body=body, kind=kind) for kind in LONG for body in LONG[kind]}
                 expect(f"{held.name}: long ones are answered, and too many parts are refused: {statuses}",
                        {413} <= statuses <= {200, 400, 413}, True)
@@ -329,6 +337,19 @@ def over_http2(guarded):
              f"Content-Type: {URLENCODED}", "-H", "X-User: ann", "-o", os.devnull, "-w", "%{http_code} %{http_version}",
              f"http://127.0.0.1:{guarded.tls_port}/open/x"], input=form, capture_output=True, check=False)
         expect(f"{guarded.name}: {form!r} over HTTP/2", ran.stdout, f"{wanted} 2".encode())
+
+
+def addressed(guarded, echo):
+    """HTTP/2 tells scheme, host and path apart, and HAProxy makes an address of them, as which it may go on: what
+    arrives is a path."""
+    for scheme, host in (("http", "app.example:80"), ("http", "[::1]"), ("x", "app.example"), ("x", "a/closed"),
+                         ("http", "a/closed?"), ("x://a/closed?", "a")):
+        before = len(echo.messages)
+        starts_http2(guarded.tls_port, (":method", "GET"), (":scheme", scheme), (":authority", host),
+                     (":path", "/open/x"), ("x-user", "ann"))
+        arrived = [message.split(b" ")[1] for message in echo.messages[before:]]
+        wanted = [[b"/open/x"]] if len(scheme) > 1 and "/" not in scheme + host else [[], [b"/open/x"]]
+        expect(f"{guarded.name}: {scheme} of {host} over HTTP/2: {arrived}", arrived in wanted, True)
 
 
 def flask_readings():

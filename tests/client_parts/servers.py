@@ -27,6 +27,12 @@ def response(*results):
     return whole({"Response": list(results)})
 
 
+def in_pieces(body):
+    """The bytes of a reply in pieces (chunked), which ends before the last one."""
+    data = json.dumps(body).encode()
+    return b"HTTP/1.1 200 OK\r\nTransfer-Encoding: chunked\r\n\r\n%x\r\n%s\r\n" % (len(data), data)
+
+
 def message_of(connection):
     """The next message, whole; nothing, where the connection ends."""
     held = b""
@@ -167,3 +173,20 @@ def until(holds, seconds=PATIENCE):
             return False
         time.sleep(0.01)
     return True
+
+
+def starts_http2(port, *fields):
+    """Sends a request without a body over HTTP/2, of fields that no other client would send, and waits for the first
+    of its reply (RFC 9113; the fields without a table, RFC 7541, section 6.2.2)."""
+    def frame(kind, flags, stream, held=b""):
+        return struct.pack(">I", len(held))[1:] + bytes([kind, flags]) + struct.pack(">I", stream) + held
+    block = b"".join(bytes([0, len(name)]) + name.encode() + bytes([len(value)]) + value.encode()
+                     for name, value in fields)
+    with socket.create_connection(("127.0.0.1", port), PATIENCE) as connection:
+        # (settings that are the defaults, and the whole head of stream 1, which has no body)
+        connection.sendall(b"PRI * HTTP/2.0\r\n\r\nSM\r\n\r\n" + frame(4, 0, 0) + frame(1, 5, 1, block))
+        with connection.makefile("rb") as held:
+            while head := held.read(9):
+                held.read(int.from_bytes(head[:3], "big"))
+                if int.from_bytes(head[5:], "big") == 1 or head[3] == 7:
+                    return
