@@ -121,6 +121,8 @@ def answers_change(changes: Changes, options: argparse.Namespace, found: Program
     if old is None:
         print("Which answers change isn't known, since the root isn't: --live-root says what it is.")
         return FINE
+    if changes.root.is_open:
+        print("The root isn't known: what is shown as before is as if there were none.")
     return diff.run(old, changes.new_setting(), options, found)
 
 

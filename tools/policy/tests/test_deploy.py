@@ -330,7 +330,10 @@ class Words(DeployTest):
             self.deployed(folder)
         self.assertEqual(self.parts_of_records(), 40)
         self.assertEqual(self.policy("rollback", "--yes", "--to", "6", folder)[0], 0)
-        self.deployed(self.written(files(P1, rows=rows(row("z", "urn:a"))), "urn:p", Keep=3))
+        folder = self.written(files(P1, rows=rows(row("z", "urn:a"))), "urn:p", Keep=3)
+        self.deployed(folder)
+        self.assertEqual(self.parts_of_records(), 6)
+        self.assertEqual(self.policy("rollback", "--yes", folder)[0], 0)
         self.assertEqual(self.parts_of_records(), 6)
         for wrong in (1, 401, "3", 2.5, True):
             self.deployed(self.written(files(P1), "urn:p", Keep=wrong), status=1)

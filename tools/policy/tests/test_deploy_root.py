@@ -102,6 +102,10 @@ class ByHand(DeployTest):
             self.assertNotIn("Meanwhile", said)
             self.assertIn("Nothing is deployed", said)
         self.assertTrue(json.loads(self.policy("deploy", "--dry-run", "--json", folder)[1])["mixed"])
+        none = "The root isn't known: what is shown as before is as if there were none."
+        self.assertIn(none, self.told("diff", "--live", folder, "--random", "5", status=1))
+        said = self.told("diff", "--live", folder, "--random", "5", "--live-root", "urn:dark", status=1)
+        self.assertNotIn(none, said)
         found = []
         with self.between(lambda number: found.extend(self.asks(request("dave")))):
             self.deployed(folder)

@@ -6,6 +6,7 @@ import json
 import re
 import unittest
 from collections.abc import Iterator
+from unittest import mock
 
 from .desk_tests import TOP, DeskTest, run
 
@@ -159,6 +160,40 @@ class Random(DeskTest):
                     hidden.append(place)
         self.assertGreaterEqual(tried, 30)
         self.assertLessEqual(len(hidden), tried // 10, hidden)
+
+    def test_values_behind_variables(self) -> None:
+        """The attribute and its limit each stand in a variable, and one value alone shows the change."""
+        held = {"amount": AMOUNT, "limit": value("integer", 7301),
+                "late": {"VariableReference": {"VariableId": "limit"}}}
+        condition = apply("integer-less-than-or-equal", {"VariableReference": {"VariableId": "amount"}},
+                          {"VariableReference": {"VariableId": "late"}})
+        old = policy("urn:acme:limits", RULES % ("3.0", "deny-overrides"), [
+            rule("small", "Permit", target(("Action", ACTION, "pay")), condition)],
+            VariableDefinition=[{"VariableId": name, "Expression": one} for name, one in held.items()])
+        new = copy.deepcopy(old)
+        new["Policy"]["VariableDefinition"][1]["Expression"] = value("integer", 7302)
+        for seed in range(1, 6):
+            written, said = self.diff(old, new, 50, "--seed", str(seed))
+            self.assertIn("rule small of policy urn:acme:limits changes: reached in ", written)
+            self.assertNotRegex(written, r"\b0 of 50 answers change")
+            self.assertNotIn("no answer shows", said)
+
+    def test_values_of_rows(self) -> None:
+        """A condition that no literal makes true, but one row of many."""
+        badges = [{"Category": "AccessSubject", "Entity": f"e{number}", "AttributeId": "urn:acme:badge",
+                   "DataType": "string", "Value": f"{number:03}-{'gold' if number == 73 else 'iron'}"}
+                  for number in range(100)]
+        part = apply(F3 + "string-substring", one("AccessSubject", "urn:acme:badge", "string"), value("integer", 4),
+                     value("integer", -1))
+        old = policy("urn:acme:badges", RULES % ("3.0", "deny-overrides"), [
+            rule("gold", "Permit", None, apply("string-equal", part, value("string", "gold")))])
+        new = copy.deepcopy(old)
+        new["Policy"]["Rule"][0]["Effect"] = "Deny"
+        with mock.patch.dict(ROWS, Row=badges):
+            for seed in range(1, 6):
+                written, said = self.diff(old, new, 20, "--seed", str(seed))
+                self.assertNotRegex(written, r"\b0 of 20 answers change")
+                self.assertNotIn("no answer shows", said)
 
     def test_a_rule_that_none_reaches(self) -> None:
         """It is named; a change that answers show isn't."""
