@@ -120,8 +120,9 @@ def become_owner(folder: pathlib.Path) -> None:
 
 def forget(given: argparse.Namespace) -> int:
     """Of each time for which the domain was there, but for one that isn't over."""
-    become_owner(folders_of(given)[0])
-    held = pasts_of(by_archive(folders_of(given)), given.domain)
+    folders = folders_of(given)   # before this user is theirs, who can't list the folder that they stand in
+    become_owner(folders[0])
+    held = pasts_of(by_archive(folders), given.domain)
     if not held:
         raise Unknown(f"no archive has a change of the domain {given.domain!r}")
     for one in held:
