@@ -3,7 +3,7 @@ import resource
 import signal
 import threading
 
-from log.pdpd import reply
+from log.pdpd import replies
 from log.record import record_at
 from operating import replicas, status
 from operating.findings import Findings
@@ -28,7 +28,7 @@ class Looked(Logged):
                                  f"ARCHIVES={self.folder}/archives\n")
 
     def change(self, data):
-        return reply(self.address, data, 60).data
+        return replies(self.address, data, 1, 60)[0].data
 
     def found(self):
         """The position that is told, and what is wrong."""
