@@ -1,9 +1,9 @@
 #!/usr/bin/env python3
 """Runs all tests: every stored row, the stored transcript, a comparison of 2,000 random rows with the model, the real
-program from outside, both programs with each allocation refused in turn, the policy author's desk, the CI gate with
-kits of different abilities, whether each wrong body still applies, and whether what is generated in the pages is right.
-The last line is 'N passed, M failed'; each
-answer and each check counts as one.
+program from outside, 2,000 random schedules of connections beside the model, both programs with each allocation refused
+in turn, the policy author's desk, the CI gate with kits of different abilities, whether each wrong body still applies,
+and whether what is generated in the pages is right. The last line is 'N passed, M failed'; each answer and each check
+counts as one.
 
 usage: tests/all.py             over the programs that are proved and built of these very sources; where one
                                 isn't, it is compiled of them without proof
@@ -30,6 +30,8 @@ import programs  # noqa: E402
 
 # Rows of one run of the program, and of one comparison with the model; the comparisons together have 2,000.
 ROWS_A_RUN, ROWS_COMPARED, COMPARISONS = 250, 250, 8
+# Schedules that are compared.
+SCHEDULES = 2_000
 # How long a step may take by the clock, and a run of the program of the processor's time.
 SECONDS, PROCESSOR_SECONDS = 1800, 120
 SURROUNDINGS = {**os.environ, "PYTHONDONTWRITEBYTECODE": "1"}
@@ -137,6 +139,16 @@ def outside(program, name):
     return outcome_of([f"tests/{name}.py", program.path.result()])
 
 
+def at_once(program):
+    """What tests of connections one after another try, over connections that are served at once."""
+    return outcome_of(["tests/serve.py", "--listen", program.path.result()])
+
+
+def schedules(program):
+    """Worked and random schedules of connections, answered by the program and by the model."""
+    return outcome_of(["tests/schedules.py", program.path.result(), str(SCHEDULES)])
+
+
 def memory(pdpd, xa_trials):
     """Both programs, each of whose allocations fails in turn."""
     return outcome_of(["tests/memory.py", pdpd.path.result(), xa_trials.path.result()])
@@ -195,11 +207,12 @@ def stored_rows():
         yield asked[:words], at + 1, asked[at:at + ROWS_A_RUN], wanted[at:at + ROWS_A_RUN]
 
 
-def all_steps(pdpd, xa_trials):
+def all_steps(pdpd, xa_trials, xa_schedules):
     """The steps, in lanes: what stands in one is run one after another. Those come first that others wait
     for, and then those that take long."""
     yield [("pdpd", pdpd.find)]
     yield [("xa_trials", xa_trials.find)]
+    yield [("xa_schedules", xa_schedules.find), ("tests/schedules.py", schedules, xa_schedules)]
     static = [(name, outcome_of, [f"tests/{name}.py"]) for name in ("edits", "columns", "comments", "pages")]
     yield [*static, ("worked examples, by the model", model_alone)]
     yield [("tests/kits.py", outcome_of, ["tests/kits.py"])]
@@ -210,6 +223,7 @@ def all_steps(pdpd, xa_trials):
     yield [("tests/client.py", outside, pdpd, "client")]
     others = [(f"tests/{name}.py", outside, pdpd, name) for name in ("api", "serve", "tables")]
     yield [("stored transcript", transcript, pdpd), *others]
+    yield [("tests/serve.py --listen", at_once, pdpd), ("tests/listen.py", outside, pdpd, "listen")]
     for path in sorted((TOP / "tools" / "policy" / "tests").glob("test_*.py")):
         yield [(f"tools/policy/test.py tests.{path.stem}", desk, xa_trials, pdpd, path.stem)]
     for words, first, asked, wanted in stored_rows():
@@ -223,14 +237,14 @@ def main():
         print(__doc__, file=sys.stderr)
         return 2
     steps = Steps()
-    pdpd, xa_trials = (Program(name, "--proved" in sys.argv) for name in ("pdpd", "xa_trials"))
+    programs_tested = [Program(name, "--proved" in sys.argv) for name in ("pdpd", "xa_trials", "xa_schedules")]
     with ThreadPoolExecutor(max(2, len(os.sched_getaffinity(0)))) as pool:
         lanes = [pool.submit(lambda lane=lane: [steps.take(*step) for step in lane])
-                 for lane in all_steps(pdpd, xa_trials)]
+                 for lane in all_steps(*programs_tested)]
     for lane in lanes:
         lane.result()  # raises what has ended a lane, if anything has
     print("\n".join([f"The tests took {time.time() - steps.began:.0f} s.", *steps.untried]))
-    if pdpd.is_proved and xa_trials.is_proved:
+    if all(program.is_proved for program in programs_tested):
         print("The programs are proved, and built of these very sources.")
     else:
         print("NOTHING HERE IS PROVED: a program was compiled of these sources without proof, and tests show\n"

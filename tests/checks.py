@@ -12,7 +12,9 @@ MOST_SHOWN = 600  # characters of a value
 
 
 def program_named(words):
-    """The program that the first word of a command line names; if there is none, the one that is built."""
+    """The program that the first word of a command line names, behind its options; if there is none, the one that is
+    built."""
+    words = [word for word in words if not word.startswith("--")]
     return os.path.abspath(words[0] if words else BUILT)
 
 

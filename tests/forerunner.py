@@ -30,8 +30,8 @@ ROOM_WANTED = 10
 BEGINS_WITHIN = 180
 # The stages, one after another: crates that are proved side by side, each in a run of its own with those below it. In
 # one run by both names each of two crates that become ready together would get one job.
-STAGES = (("xa_link",), ("xa_records",), ("xa_server", "xa_store"), ("xa_trials",), ("pdpd",))
-# For memory the two programs come one after the other, and the judge stands still beside them: it would prove the
+STAGES = (("xa_link",), ("xa_records",), ("xa_server", "xa_store"), ("xa_schedules",), ("xa_trials",), ("pdpd",))
+# For memory the two large programs come one after the other, and the judge stands still beside them: it would prove the
 # other one, or try wrong bodies, which hold up to 4 GB each. It tries those that are left afterwards.
 ALONE = STAGES[-2:]
 # What is proved with one job, for memory.

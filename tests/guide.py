@@ -18,6 +18,7 @@ import pathlib
 import re
 import shutil
 import signal
+import socket
 import subprocess
 import sys
 import tempfile
@@ -134,6 +135,7 @@ def paste():
         started = run(["bash", "-c", "build/pdpd --version"], copy.folder)[1]
         expect("and so does what it leaves, when it is started", UNPROVED in started and "pdpd 0." in started, True)
         readme(copy.folder)
+        taken(copy.folder)
         said = pasted("docs/guide/RUNNING.md", copy.folder, free_port(), behind=f"wait $pid || true; {ENDS}")
         for wanted in ("listening 127.0.0.1:", '{"Domain":["acme"]}', "0 77\nHTTP/1.1 201 Created", CLOSED):
             expect(f"docs/guide/RUNNING.md shows {wanted}", wanted in said, True)
@@ -156,9 +158,17 @@ def readme(folder):
     expect("README.md: whoever starts the server is told what its program lacks", UNPROVED in said, True)
 
 
+def taken(folder):
+    """The commands of README.md that start a server say so and go on, where another program has its port."""
+    with socket.create_server(("127.0.0.1", 0)) as held:
+        port = held.getsockname()[1]
+        status, said = run(["bash", "-c", blocks("README.md")[0]], folder, WARD_PORT=str(port))
+    expect(f"README.md: no server starts: {said}", (status, f"pdpd listen: 127.0.0.1:{port}: " in said), (0, True))
+
+
 def policies(folder):
     """docs/guide/POLICIES.md goes from a recipe to a deployment and a decision, beside a server that stays."""
-    serve = "\n".join(re.findall(r"(?m)^(?:mkdir|make serve|timeout) .*", "\n".join(blocks("README.md"))))
+    serve = "\n".join(re.findall(r"(?m)^(?:mkdir|make serve|while) .*", "\n".join(blocks("README.md"))))
     said = pasted("docs/guide/POLICIES.md", folder, free_port(), before=serve, behind="kill %1; wait")
     for wanted in ("Deployed: number 1.", '"Decision":"Permit"', "0 failed"):
         expect(f"docs/guide/POLICIES.md shows {wanted}: {said[-3000:]}", wanted in said, True)
@@ -308,6 +318,23 @@ def ready():
             places["proved"].write_text("#!/bin/sh\necho another\n")
             expect("one of other sources isn't taken", run([programs.ready_program("pdpd")], TOP)[1].split()[-1],
                    "unproved")
+            named(programs.ready_program("pdpd"), top)
+
+
+def named(placed, top):
+    """A program that is named: that in build/ itself stays there as it is, and what can't be started is refused."""
+    before = placed.read_bytes()
+    expect("build/pdpd may be named", programs.ready_program("pdpd", placed), placed)
+    expect("and is left as it was", placed.read_bytes() == before, True)
+    text = top / "text"
+    text.write_text("no program\n")
+    for path in (top / "nothing", top, text):
+        try:
+            said = str(programs.ready_program("pdpd", path))
+        except programs.NotBuilt as fault:
+            said = str(fault)
+        expect(f"{path.name} is refused: {said}", "is no program that can be started" in said, True)
+        expect("and what was in build/ is left", placed.read_bytes() == before, True)
 
 
 def operator():

@@ -30,7 +30,8 @@ PLAIN = {**ABLE, "takes names": False, "has store": False}
 KEEPS_NONE = {**ABLE, "has store": False}
 # The crates of the small repository, which stand on each other as those of this one do.
 CRATES = {"xa_link": "", "xa_records": "xa_link", "xa_http": "", "xa_server": "xa_records xa_http",
-          "xa_store": "xa_records", "xa_trials": "xa_server xa_store", "pdpd": "xa_server xa_store"}
+          "xa_store": "xa_records", "xa_reactor": "xa_server", "xa_schedules": "xa_reactor",
+          "xa_trials": "xa_server xa_store", "pdpd": "xa_reactor xa_store"}
 SCRIPTS = ("prove.py", "forerunner.py", "kit.py", "watch.py", "programs.py")
 PASSING = "echo '3 passed, 0 failed'"
 # How many run side by side, and how long one may take, in seconds.

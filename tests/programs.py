@@ -270,8 +270,13 @@ def shortcoming(name, program):
 def ready_program(name, named=None):
     """Puts the program that is there soonest, or the one that is named, into build/: a copy of one that is proved;
     else a script that starts it, and says each time what it lacks."""
-    program = pathlib.Path(named).resolve() if named else soonest_program(name)
-    lacks, placed = shortcoming(name, program), TOP / "build" / name
+    program, placed = pathlib.Path(named).resolve() if named else soonest_program(name), TOP / "build" / name
+    if not (program.is_file() and os.access(program, os.X_OK)):
+        raise NotBuilt(f"{program} is no program that can be started. {placed.relative_to(TOP)} is left as it was.")
+    if program == placed:  # (a script that starts itself would never end)
+        say(f"# The program is {placed.relative_to(TOP)}, as it was.")
+        return placed
+    lacks = shortcoming(name, program)
     placed.parent.mkdir(exist_ok=True)
     made = placed.with_name(f"{name}.{os.getpid()}")
     if lacks:

@@ -120,7 +120,7 @@ def tell_machine(found):
 def main():
     """Runs the CI gate, and gives its status."""
     tell_machine(kit.machine())
-    watch, made_of = Watch(), programs.withdraw_notes(["pdpd", "xa_trials"])
+    watch, made_of = Watch(), programs.withdraw_notes(["pdpd", "xa_trials", "xa_schedules"])
     ended = [judged(watch)]
     watch.mark("rt ci ended")
     if outcome(*ended[0])[1] == 0:

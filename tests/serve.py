@@ -1,8 +1,10 @@
 #!/usr/bin/env python3
-"""Runs `pdpd serve` from outside, over real sockets and files in a temporary folder: what it answers, keeps and
-refuses, and that it goes on.
+"""Runs `pdpd serve` or `pdpd listen` from outside, over real sockets and files in a temporary folder: what it answers,
+keeps and refuses, and that it goes on.
 
-usage: tests/serve.py [PROGRAM [PART..]]     the program, crates/pdpd/out/pdpd if none is named: the CI gate and
+usage: tests/serve.py [--listen] [PROGRAM [PART..]]
+                                             by `pdpd serve`; or by `pdpd listen`, all but the parts of ONE_BY_ONE
+                                             the program, crates/pdpd/out/pdpd if none is named: the CI gate and
                                              `make pdpd` leave it there; and the parts that are run, all if none is
                                              named: functions of tests/serve_parts
 
@@ -19,15 +21,15 @@ from checks import is_program  # noqa: E402
 from serve_parts import (  # noqa: E402
     command_line, costs, disks, limits, memory, sizes, sockets, stores, streams, walks)
 from serve_parts.shared import PROGRAM, TOKEN_FILE, checks, folder  # noqa: E402
-from serving import OPERATOR  # noqa: E402
+from serving import COMMAND, OPERATOR  # noqa: E402
 
 PARTS = (
     walks.walk, walks.fewer_rows,
     streams.single_bytes, streams.cuts, streams.garbage, streams.silent, streams.mixed, streams.pipelined,
     streams.unread, streams.many_at_once, streams.large, streams.closing,
     disks.kills, disks.full_disk, disks.shut,
-    command_line.usages, command_line.addresses, command_line.settings, command_line.token_files,
-    command_line.shared_token, command_line.order_of_faults,
+    command_line.usages, command_line.addresses, command_line.settings, command_line.unknown_settings,
+    command_line.token_files, command_line.shared_token, command_line.order_of_faults,
     stores.no_databases, stores.no_stores, stores.half_stores, stores.lost_logs, stores.modes,
     sockets.sockets, sockets.taking, memory.memory, memory.refused_at_start,
     memory.connections_leave_nothing, memory.stack, memory.address_space, disks.file_size, sockets.idle,
@@ -35,13 +37,27 @@ PARTS = (
     sizes.long_parts, sizes.many_domains, sizes.long_text, sizes.many_assignments, sizes.full_domain,
     costs.single, costs.kept, sockets.last)
 
+# What holds of `pdpd serve` alone, and why; tests/listen.py has what holds of `pdpd listen` in its place.
+ONE_BY_ONE = {
+    "silent": "the next connection doesn't wait for one that is silent",
+    "last": "no connection is the last: any number is taken",
+    "memory": "want of memory for a piece or an answer ends that connection, and the program goes on",
+    "address_space": "as for memory",
+}
+
+
+def parts_of(command):
+    """The parts that hold of a command."""
+    return [part for part in PARTS if command == "serve" or part.__name__ not in ONE_BY_ONE]
+
 
 def main():
+    words = [word for word in sys.argv[1:] if word != "--listen"]
     try:
         if not is_program(checks.name, PROGRAM):
             return 2
         pathlib.Path(TOKEN_FILE).write_text(f"{OPERATOR}\n")
-        checks.run(PARTS, sys.argv[2:])
+        checks.run(parts_of(COMMAND), words[1:])
     finally:
         subprocess.run(["rm", "-rf", str(folder)], check=True)
     return checks.status()

@@ -1,9 +1,11 @@
-"""A running `pdpd serve`, and a client that writes bytes to it: what tests and benchmarks share."""
+"""A running `pdpd serve` or `pdpd listen`, and a client that writes bytes to it: what tests and benchmarks share."""
 import os
+import re
 import selectors
 import socket
 import struct
 import subprocess
+import sys
 import threading
 
 from sent import (  # noqa: F401
@@ -11,6 +13,8 @@ from sent import (  # noqa: F401
     making, message, policy, reply)
 
 MOST_CONNECTIONS = 1_000_000
+# The command that is tested.
+COMMAND = "listen" if "--listen" in sys.argv[1:] else "serve"
 PATIENCE = 30
 # How often the program is started before another port isn't tried, and its exit status where it can't listen.
 MOST_STARTS, STATUS_OF_SOCKET = 5, 5
@@ -100,11 +104,15 @@ def processor_seconds_of(pid):
 
 
 class Served:
-    """The program over a file, for so many connections. It is killed, if it still runs, at the end of
-    the `with` statement."""
+    """The program over a file, by `serve` for so many connections, by `listen` until its input ends. It is killed, if
+    it still runs, at the end of the `with` statement."""
 
-    def __init__(self, program, path, token_file, connections=MOST_CONNECTIONS, port=None, **more):
-        self.before, self.behind = [program, "serve", path], [token_file, str(connections)]
+    def __init__(self, program, path, token_file, connections=MOST_CONNECTIONS, port=None, command=COMMAND, **more):
+        self.command, self.input = command, subprocess.DEVNULL
+        self.before, self.behind = [program, command, path], [token_file, str(connections)]
+        if command == "listen":
+            self.behind, self.input = [token_file], subprocess.PIPE
+            more["env"] = {**(more.get("env") or os.environ), "PDPD_END": "input"}
         self.start(port or free_port(), more)
         for _ in range(MOST_STARTS - 1):
             if port or not self.port_is_taken():
@@ -114,8 +122,7 @@ class Served:
     def start(self, port, more):
         self.port, self.said = port, b""
         words = [*self.before, f"127.0.0.1:{port}", *self.behind]
-        self.process = subprocess.Popen(words, stdin=subprocess.DEVNULL, stdout=subprocess.PIPE,
-                                        stderr=subprocess.PIPE, **more)
+        self.process = subprocess.Popen(words, stdin=self.input, stdout=subprocess.PIPE, stderr=subprocess.PIPE, **more)
         self.first_line = self.process.stdout.readline()
         self.listens = self.first_line == f"listening 127.0.0.1:{port}\n".encode()
 
@@ -137,15 +144,22 @@ class Served:
             return [client.ask(one) for one in messages]
 
     def ended(self):
-        """What the program writes after its first line, what it says, and its exit status, once it
-        has ended by itself."""
+        """What the program writes after its first line, what it says but of connections, and its exit status, once it
+        has ended by itself; `listen` ends as its input does, and says when it begins and ends and whom it drops."""
         out, said = self.process.communicate(timeout=PATIENCE)
-        return out, said, self.process.returncode
+        of_connections = rb"(?m)^pdpd listen: 127\.0\.0\.1:%d: (begins|ends: |dropped ).*\n" % self.port
+        return out, re.sub(of_connections, b"", said), self.process.returncode
+
+    def failed(self):
+        """The same of a program that ends by a fault, whatever becomes of its input."""
+        self.process.wait(PATIENCE)
+        return self.ended()
 
     def kill(self):
-        """Ends the program; `said` is what it has said on standard error."""
+        """Ends the program; `said` is what it has said on standard error, but for the line of its beginning."""
         self.process.kill()
-        _, self.said = self.process.communicate()
+        _, said = self.process.communicate()
+        self.said = said.replace(b"pdpd listen: 127.0.0.1:%d: begins\n" % self.port, b"")
 
     def resident(self):
         """The most memory that it has held, in KiB."""

@@ -30,7 +30,8 @@ import subprocess
 import sys
 
 from . import (
-    applied, backups, figures, listener, metrics, moving, proxy, restoring, room, status, supervisor, talk, watchdog)
+    applied, backups, figures, listener, metrics, moving, proxy, restoring, room, status, supervisor, talk, watchdog,
+    written)
 from .settings import DOMAIN, ENDS, Wrong, alone, errors_of, harmless, number_in_word, read, words_of
 
 
@@ -61,7 +62,7 @@ def keep_room(settings):
 
 def config(settings, words):
     if words == ["--write"]:
-        talk.write_configuration(settings)
+        written.write_configuration(settings)
         warn(settings)
         say(f"{settings.haproxy_etc}/haproxy.cfg is written and valid; pdpd-shards reload has HAProxy read it")
     else:
@@ -122,9 +123,10 @@ def try_program(settings):
 def upgrade(settings, words):
     by = supervisor.of(settings)
     talk.refuse_other_count(settings)
+    talk.refuse_lost_map(settings)
     settings.operator()
     try_program(settings)
-    talk.write_configuration(settings)
+    written.write_configuration(settings)
     warn(settings)
     with alone():
         by.renew()

@@ -29,7 +29,16 @@ def kind_rules():
     http-after-response set-var(txn.kind) str(refused) if { status 400:499 }
     http-after-response set-var(txn.kind) str(fault) if { status 500:599 } !of_change
     http-after-response set-var(txn.kind) str(fault) if { status 500:599 } !may_be_made
+    # (newer versions say 400 of a client that went while its message was led on, where no rule here says it any more)
+    http-response set-var(txn.replied) int(1)
+    acl was_led var(txn.led) -m found
+    acl was_replied var(txn.replied) -m found
+    http-after-response set-var(txn.kind) str(lost) if { status 400:499 } was_led !was_replied
 """
+
+
+# behind it no rule answers with 4xx
+LED = "    http-request set-var(txn.led) int(1)\n"
 
 
 def level_rules(settings):

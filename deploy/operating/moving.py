@@ -9,7 +9,7 @@ import copy
 import sys
 import time
 
-from . import applied, carrying, listener, supervisor, talk
+from . import applied, carrying, listener, supervisor, talk, written
 from .owned import as_user, owner_of, run, surroundings
 from .settings import DOMAIN, NUMBERS, Wrong, errors_of, put_off_signals, set_in_file, set_in_text, write_whole
 
@@ -207,7 +207,7 @@ def grow(settings, shards):
     by.set_up(range(shards))
     larger = copy.copy(settings)
     larger.shards, larger.text = shards, set_in_text(settings.text, "SHARDS", shards)
-    talk.write_configuration(larger, is_growth=True)
+    written.write_configuration(larger, is_growth=True)
     talk.reload(larger, by)
     set_in_file("SHARDS", shards)
     for shard in range(shards):

@@ -86,9 +86,10 @@ class Folder:
         return True
 
     def has_file(self, name: str, user: User) -> bool:
-        """Whether there is a regular file of that name, and of the user's."""
+        """Whether there is a regular file of that name that is the user's, or that has no second name: another's file
+        to which the user has made a link has one."""
         found = os.lstat(name, dir_fd=self.fd) if self.has(name) else None
-        return found is not None and stat.S_ISREG(found.st_mode) and found.st_uid == user.uid
+        return found is not None and stat.S_ISREG(found.st_mode) and (found.st_uid == user.uid or found.st_nlink == 1)
 
     @contextlib.contextmanager
     def reading(self, name: str, *, is_tools: bool = False) -> Iterator[int]:

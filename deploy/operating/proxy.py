@@ -189,6 +189,8 @@ def token_rules(settings):
     if settings.refusals:
         refuses = f"""\
     http-request {answers(429, "TooMany", how="tarpit")} if !is_accepted {{ sc1_gpc0_rate gt {settings.refusals} }}
+    # (who sends more and ends each at once would push other lines out of the log)
+    http-request set-log-level silent if !is_accepted {{ sc1_gpc1_rate gt {10 * settings.refusals} }}
     http-request {answers(429, "TooMany", how="tarpit")} if !is_accepted {{ sc1_gpc1_rate gt {10 * settings.refusals} }}
 """
     if settings.rate:
@@ -283,7 +285,8 @@ def frontends(settings):
     """Where clients come in, up to the shards' queues."""
     first = (binds(settings) + audited.decision_log(settings, logged.LINE) + source_rules(settings)
              + logged.kind_rules() + DOMAIN_RULES + token_rules(settings) + head_rules() + body_rules()
-             + audited.token_rules(settings) + audited.decision_rules(settings) + logged.level_rules(settings))
+             + audited.token_rules(settings) + audited.decision_rules(settings) + logged.level_rules(settings)
+             + logged.LED)
     if not has_two_steps(settings):
         return f"\nfrontend pdp\n{first}{route_rules(settings)}"
     again = """\

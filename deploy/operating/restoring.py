@@ -36,7 +36,8 @@ def folder_aside(place: Folder) -> Folder:
 
 
 def keep_aside(place: Folder, aside: Folder, name: str) -> None:
-    """Moves one of a shard's files into the folder aside; what is no file of the shard's user isn't kept."""
+    """Moves one of a shard's files into the folder aside. One that another has copied there, who may have meant it for
+    the store, is kept as well; what is no file, or one of another's by a second name, isn't."""
     place.move(name, aside)
     if not aside.has_file(name, place.owner):
         aside.clear(name)

@@ -3,6 +3,7 @@ secret, stores that no shard has, and whether what looks after the shards runs."
 from __future__ import annotations
 
 import os
+import pathlib
 import stat
 import time
 
@@ -11,6 +12,8 @@ from .findings import Findings
 from .owned import advice, name_of
 from .settings import Settings
 
+# the user of the shards' programs, as their services have it
+USER = "pdpd"
 # after how long is looked again for a service that doesn't run: a supervisor starts it again within a second
 AGAIN = 1.5
 
@@ -37,10 +40,24 @@ def look_at_secrets(settings: Settings, findings: Findings) -> None:
                 findings.add(f"{path} isn't root's: chown root {path}, and replace what is in it")
 
 
+def look_at_folder(folder: pathlib.Path, shard: int, findings: Findings) -> bool:
+    """Whether a shard's folder is its user's. It tells where it isn't, and where others may come in."""
+    found = mode_of(folder)
+    if not found:
+        return True  # (what looks at the files tells it)
+    owner = name_of(found.st_uid)
+    if owner != USER:
+        findings.add(f"{folder} is the user {owner}'s, and the program of shard {shard} can't come into it: chown "
+                     f"{USER}:{USER} {folder}")
+    elif found.st_mode & 0o077:
+        findings.add(f"others than the user {USER} may come into {folder}, or change what is in it: chmod 700 {folder}")
+    return owner == USER
+
+
 def look_at_store(settings: Settings, shard: int, findings: Findings) -> None:
-    """Whether a shard's files are its user's, for that user alone."""
+    """Whether a shard's files and their folder are its user's, for that user alone."""
     folder = settings.folder(shard)
-    for name in trial.FILES:
+    for name in trial.FILES if look_at_folder(folder, shard, findings) else ():
         try:
             found, owner = os.lstat(folder / name), os.stat(folder).st_uid
         except FileNotFoundError:

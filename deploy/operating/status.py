@@ -211,8 +211,6 @@ def look_at_map(settings: Settings, findings: Findings) -> dict[str, str] | None
     known = None
     with findings.looking("the map"):
         talk.refuse_other_count(settings)
-        if not settings.map.exists():
-            raise Wrong(f"{settings.map} isn't there: pdpd-shards remap makes it anew, of where the domains are")
         known = talk.map_in_file(settings)
     for name, place in (known or {}).items():
         if place == "moving":

@@ -12,8 +12,7 @@ import zlib
 
 from . import applied, listener
 from .owned import owner_of
-from .proxy import configuration
-from .settings import DOMAIN, FILE, LIBRARY, Wrong, domains_in, put_off_signals, text_of, words_of, write_whole
+from .settings import DOMAIN, FILE, Wrong, domains_in, put_off_signals, text_of, words_of, write_whole
 
 # how long a message may wait for its turn, and then for its reply (`timeout queue`, `timeout server`)
 QUEUE, SERVER = 10, 12
@@ -178,6 +177,7 @@ def entry_of_line(settings, number, line):
 
 def map_in_file(settings):
     """What the map's file says: the shard of each domain in it. Of two lines HAProxy goes by the first."""
+    refuse_lost_map(settings)
     known = {}
     try:
         lines = text_of(settings.map).split("\n") if settings.map.exists() else []
@@ -187,6 +187,14 @@ def map_in_file(settings):
         if line.strip() and not line.lstrip().startswith("#"):
             known.setdefault(*entry_of_line(settings, number, line))
     return known
+
+
+def refuse_lost_map(settings):
+    """An error where the map was lost: without it domains that were moved would be looked for in other shards. (Before
+    there is a configuration there is no map.)"""
+    if not settings.map.exists() and shards_in_configuration(settings) is not None:
+        raise Wrong(f"{settings.map} isn't there: pdpd-shards remap makes it anew, of where the domains are. While "
+                    f"HAProxy doesn't run: echo NEW moving > {settings.map}; pdpd-shards services; pdpd-shards remap")
 
 
 def map_while_it_runs(settings):
@@ -333,23 +341,6 @@ def refuse_other_count(settings):
     """An error there."""
     if found := other_count(settings):
         raise Wrong(found)
-
-
-def write_configuration(settings, *, is_growth=False):
-    """Writes what HAProxy reads, if it finds no fault in it. A growth alone may change the number of shards."""
-    if not is_growth:
-        refuse_other_count(settings)
-    if not settings.tls_bind.strip() and not settings.plain_bind.strip():
-        raise Wrong(f"{FILE}: TLS_BIND and PLAIN_BIND are empty: no client could connect")
-    if not settings.map.exists():
-        write_whole(settings.map, "")
-    write_whole(settings.map.with_name("domains.lua"), (LIBRARY / "domains.lua").read_text())
-    new, place = (settings.map.with_name(name) for name in ("haproxy.cfg.new", "haproxy.cfg"))
-    write_whole(new, configuration(settings))
-    check(new)
-    if place.exists() and shards_in_configuration(settings) is None:
-        place.rename(place.with_name("haproxy.cfg.before-pdpd"))
-    new.rename(place)
 
 
 def shards_in_configuration(settings):

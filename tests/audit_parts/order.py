@@ -63,13 +63,13 @@ def synced():
 
     def to_pdpd(*_):
         told.append("pdpd gets it")
-        return daemons.Reply(200, DONE)
+        return [daemons.Reply(200, DONE)]
 
     def to_disk(file):
         real(file)
         told.append(f"{records(daemon)} records are on the disk")
 
-    with instead(archives.os, "fdatasync", to_disk) as real, instead(daemons, "reply", to_pdpd):
+    with instead(archives.os, "fdatasync", to_disk) as real, instead(daemons, "replies", to_pdpd):
         daemon.start()
         for number in (1, 2):
             expect(f"change {number}", daemon.reply_to(change()), DONE)
@@ -87,7 +87,7 @@ def withdrawn():
             expect("without a turn", daemon.reply_to(change(b"x" * 500_000)), UNAVAILABLE)
     expect("changes that are held", len(daemon.waiting), 0)
     expect("what is told of them", b'"waiting": 0' in daemon.figures(), True)
-    with instead(daemons, "reply", lambda *_: daemons.Reply(200, DONE)):
+    with instead(daemons, "replies", lambda *_: [daemons.Reply(200, DONE)]):
         daemon.start()
         expect("the next one", daemon.reply_to(change(b'{"Row":[]}')), DONE)
     expect("all that is appended", daemon.archive.position, 1)

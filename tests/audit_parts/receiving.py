@@ -47,7 +47,7 @@ def lines():
         path, _, log = made(f"pieces-{size}")
         sent(log, *(data[at:at + size] for at in range(0, len(data), size)))
         expect(f"pieces of {size} bytes", texts_in(path), ["".join(KEPT % number for number in (1, 2, 3))])
-    path, _, log = made("cut")
+    path, _, log = made("cut-frames")
     sent(log, framed(LINE % 1) + framed(LINE % 2)[:-1])
     sent(log, b"x" + framed(LINE % 3))
     sent(log, framed(LINE % 4))

@@ -1,5 +1,6 @@
 """What reaches who looks after the deployment: lines of logs that somebody pushes out or forges, and the folders of the
 user that keeps them."""
+import collections
 import contextlib
 import json
 import pathlib
@@ -7,11 +8,15 @@ import re
 import socket
 import struct
 import sys
+import time
+
+from checks import Between
 
 from . import audit
 from .attacking import Outsider, is_there, outside
 from .attacks_local import THIEF, Local, asked_status, owner_and_mode
-from .clients import decision, message, once, policy
+from .clients import Load, decision, message, once, policy, status
+from .http2 import ENDS_HEADERS, ENDS_STREAM, HEADERS, RESET, Http2, block, frame
 from .machine import LIBRARY, PLAIN, SETTINGS, as_user, pid, port, sh, shards, wait_until
 from .observed import LOGS, lines_in
 
@@ -103,7 +108,8 @@ def pushed(machine, checks):
 
 def left_by_tenant(checks):
     """A tenant whose token is known makes a change and goes: it is logged as lost."""
-    lost = r'lost .* PUT "/domains/acme/pip" -1 '
+    # (HAProxy 3.0 says 400)
+    lost = r'lost .* PUT "/domains/acme/pip" (-1|400) '
     end = sum(bool(re.match(lost, line)) for line in lines_in("refused"))
     service = f"/etc/service/pdpd-{shards('where', 'acme').strip()}"
     sh(f"sv pause {service}")
@@ -113,6 +119,42 @@ def left_by_tenant(checks):
     goes(client)
     sh(f"sv cont {service}")
     wait_until(lambda: sum(bool(re.match(lost, line)) for line in lines_in("refused")) > end, "it isn't logged")
+
+
+# the code of a stream that is ended by its client (RFC 9113, section 7), and how many there are at a time
+CANCEL, STREAMS = 8, 9
+
+
+def ends_streams(_number):
+    """Sends changes over HTTP/2 and ends each at once, as many as a connection's numbers of streams are for."""
+    fields, cancel = block(b"PUT", b"/domains/acme/pip"), struct.pack(">I", CANCEL)
+    with contextlib.suppress(OSError), Http2(PLAIN, source=outside(0)) as client:
+        for first in range(1, 20_000, 2 * STREAMS):
+            client.socket.sendall(b"".join(
+                frame(HEADERS, ENDS_HEADERS | ENDS_STREAM, stream, fields) + frame(RESET, 0, stream, cancel)
+                for stream in range(first, first + 2 * STREAMS, 2)))
+
+
+def drowned(machine, checks):
+    """Of somebody who ends what he sends as fast as he can no more is logged than an address may send; a tenant's
+    changes beside it are in the log."""
+    machine.operator.clear()
+    machine.operator.makes("acme")
+    before, began = outsiders_lines("refused"), time.time()
+    with Load(ends_streams, 3):
+        time.sleep(2)
+        for number in range(30):
+            checks.expect("a change beside it", status(once(machine.operator.creates(f"kept{number}"))), 201)
+        time.sleep(1)
+    lasted = time.time() - began
+    wait_until(lambda: any("/kept29" in line for line in lines_in("changes")), "no change is logged")
+    changes = "\n".join(lines_in("changes"))
+    missing = [number for number in range(30) if f'/kept{number}"' not in changes]
+    checks.expect("changes that aren't logged", missing, [])
+    found = outsiders_lines("refused") - before
+    checks.say(f"in {lasted:.1f} s {found} lines of his")
+    # (ten times REFUSALS in ten seconds, and what was sent within the ten before)
+    checks.within("his lines", found, Between(100, 1000 * (2 + lasted / 10)))
 
 
 # ---- the user that keeps the logs
@@ -175,6 +217,43 @@ def handed(machine, checks):
     shards("restart")
     wait_until(lambda: audit.sent("PUT", f"/operator/domains/{name}", machine.operator.token)[0] in (201, 409),
                "no change is taken again")
+
+
+# changes by that many connections of each of so many addresses
+EACH, ADDRESSES = 15, 12
+
+
+def awaited(machine, checks):
+    """Changes with a wrong token, by many connections of several addresses: the daemon has each of them looked at, and
+    a tenant's own are made meanwhile; his requests for decisions don't go there."""
+    audit.switch_on(machine)
+    wait_until(lambda: audit.make_ward(machine.operator.token) == [201, 200, 200, 201, 200, 200, 200],
+               "no change is taken")
+    rows, found = (audit.WARD / "rows.json").read_text(), collections.Counter()
+    wrong = message("PUT", "/domains/ward/pip", "wrong-token-1", '{"Row":[]}')
+
+    def sends(number):
+        with contextlib.suppress(OSError), Outsider(number % ADDRESSES) as client:
+            found[status(client.ask(wrong))] += 1
+    kinds = {"a change": lambda: audit.sent("PUT", "/domains/ward/pip", audit.TOKENS["admin"], rows)[0],
+             "a decision": lambda: audit.ask_ward(audit.TOKENS["ask"])}
+    took, answers = {what: [] for what in kinds}, {what: [] for what in kinds}
+    with Load(sends, EACH * ADDRESSES):
+        wait_until(lambda: sum(found.values()) > EACH * ADDRESSES, "none is answered")
+        for _ in range(8):
+            for what, makes in kinds.items():
+                began = time.time()
+                answers[what].append(makes())
+                took[what].append(time.time() - began)
+    checks.say(f"{EACH * ADDRESSES} connections of {ADDRESSES} addresses with changes and a wrong token: {dict(found)}")
+    for what, times in took.items():
+        checks.say(f"{what} of the tenant's: half within {sorted(times)[len(times) // 2]:.2f} s, the longest "
+                   f"{max(times):.2f} s")
+    checks.expect("his decisions", set(answers["a decision"]), {200})
+    # (one that has no turn within ten seconds isn't made)
+    checks.within("his changes", set(answers["a change"]), [{200}, {200, 503}])
+    checks.within("the seconds of his longest change", max(took["a change"]), Between(0, 15))
+    checks.within("the seconds of his longest decision", max(took["a decision"]), Between(0, 3))
 
 
 # ---- who reads the log of changes
@@ -247,6 +326,6 @@ def squatters(machine, checks):
         machine.set(**{name: before})
 
 
-ATTACKS = (pushed,)
+ATTACKS = (pushed, drowned)
 # those that have the log of changes on
-AUDITED = (archives, forged, handed, squatters)
+AUDITED = (archives, forged, handed, awaited, squatters)

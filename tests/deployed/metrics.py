@@ -1,4 +1,5 @@
 """Figures as Debian's Prometheus reads them, each alert made to fire, and whether decisions are answered."""
+import collections
 import contextlib
 import json
 import pathlib
@@ -9,7 +10,10 @@ import urllib.error
 import urllib.parse
 import urllib.request
 
+from checks import Between
+
 from . import audit, drawn
+from .clients import Load
 from .machine import LIBRARY, PAGE, SETTINGS, TOP, as_user, pid, sh, shards, wait_until
 
 INSIDE = "http://127.0.0.1:405"
@@ -42,12 +46,15 @@ def firing():
 
 @contextlib.contextmanager
 def prometheus(folder):
-    """Prometheus with the files that are installed: it reads figures each second, and waits for no alert's `for`."""
+    """Prometheus with the files that are installed: it looks at the rules each second, waits for no alert's `for`, and
+    reads figures each five seconds, which on a busy machine take more than one."""
     made, place = folder / "prometheus", LIBRARY / "prometheus"
     made.mkdir()
     rules = re.sub(r"(?m)^ +for: .*\n", "", (place / "alerts.yml").read_text())
     (made / "alerts.yml").write_text(rules)
-    text = (place / "prometheus.yml").read_text().replace("15s", "1s").replace(str(place), str(made))
+    text = (place / "prometheus.yml").read_text().replace(str(place), str(made))
+    text = text.replace("scrape_interval: 15s", "scrape_interval: 5s").replace("evaluation_interval: 15s",
+                                                                               "evaluation_interval: 1s")
     (made / "prometheus.yml").write_text(text)
     words = ["prometheus", f"--config.file={made}/prometheus.yml", f"--storage.tsdb.path={made}/data",
              "--web.listen-address=127.0.0.1:9090"]
@@ -94,9 +101,10 @@ def shard_restarts(machine, checks):
 
 
 def shard_waits(machine, checks):
+    """Again and again a shard stands for four seconds, and each of its messages waits."""
     process = pid(2)
-    sh(f"kill -STOP {process}; sleep 4; kill -CONT {process}")
-    yield "ShardWaits"
+    with Load(lambda _: sh(f"kill -STOP {process}; sleep 4; kill -CONT {process}; sleep 0.5"), 1):
+        yield "ShardWaits"
 
 
 def old_backup(machine, checks):
@@ -161,14 +169,43 @@ def not_verified(machine, checks):
     sh(NIGHTLY)
 
 
+def lines_lost(machine, checks):
+    """Nobody takes HAProxy's lines for a while."""
+    taker = pathlib.Path("/etc/service/haproxy/log/supervise/pid").read_text().strip()
+    sh(f"kill -STOP {taker}")
+    for _ in range(150):
+        audit.sent("GET", f"/operator/domains/{'x' * 900}", machine.operator.token)
+    yield "LinesLost"
+    sh(f"kill -CONT {taker}")
+
+
 def figures_gone(machine, checks):
     down("pdpd-figures")
     yield "FiguresGone"
     up("pdpd-figures")
 
 
-CAUSES = (shard_waits, shard_down, shard_restarts, old_backup, full_disk, replica_down, replica_stuck, no_room,
-          other_decision, not_verified, figures_gone)
+CAUSES = (shard_waits, shard_down, shard_restarts, lines_lost, old_backup, full_disk, replica_down, replica_stuck,
+          no_room, other_decision, not_verified, figures_gone)
+
+
+def flooded(checks):
+    """A user of the machine asks for figures as fast as he can: few are worked out in a second, and a tenant waits for
+    none of them."""
+    found, took, began = collections.Counter(), [], time.time()
+
+    def asks(number):
+        found[status_of(("/metrics", "/shards")[number % 2])] += 1
+    with Load(asks, 50):
+        while time.time() < began + 5 or not took:
+            at = time.time()
+            checks.expect("a tenant beside it", audit.ask_ward(audit.TOKENS["ask"]), 200)
+            took.append(time.time() - at)
+    lasted = time.time() - began
+    checks.say(f"50 connections that ask for figures: {dict(found)} in {lasted:.1f} s; a tenant's longest decision "
+               f"{max(took):.2f} s")
+    checks.within("figures that were given, of both kinds", found[200], Between(2, 2 * 10 * (lasted + 2)))
+    checks.within("those that weren't", found[429], Between(1))
 
 
 def told(page):
@@ -192,6 +229,19 @@ def draw(board, began):
     DRAWN.write_text(drawn.drawn(board, found, began, now))
 
 
+def empty(board):
+    """The expressions of the dashboard that find nothing. (Where a reading has taken too long its figures are away for
+    a moment.)"""
+    left = {target["expr"] for panel in board["panels"] for target in panel["targets"]}
+
+    def all_found():
+        left.difference_update({one for one in left if asked("query", query=one)["result"]})
+        return not left
+    with contextlib.suppress(RuntimeError):
+        wait_until(all_found, "", 60)
+    return sorted(left)
+
+
 def metrics(machine, checks):
     """Each alert fires once, and each expression of the dashboard finds something, which is drawn."""
     audit.switch_on(machine)
@@ -203,6 +253,7 @@ def metrics(machine, checks):
     checks.expect("a domain", audit.make_ward(machine.operator.token), [201, 200, 200, 201, 200, 200, 200])
     audit.sent("POST", "/domains/ward/pdp", audit.TOKENS["ask"], (audit.WARD / "request-alice.json").read_text())
     wait_until(lambda: any(path.stat().st_size for path in DECISIONS.glob("*.log")), "no decision is logged")
+    flooded(checks)
     sh(NIGHTLY)
     shards("backup")
     began = time.time()
@@ -217,8 +268,6 @@ def metrics(machine, checks):
         checks.expect("alerts that didn't fire", set(rules()) - fired, set())
         wait_until(is_ready, "the figures don't come back")
         board = json.loads((LIBRARY / "prometheus" / "dashboard.json").read_text())
-        empty = [target["expr"] for panel in board["panels"] for target in panel["targets"]
-                 if not asked("query", query=target["expr"])["result"]]
-        checks.expect("expressions of the dashboard that find nothing", empty, [])
+        checks.expect("expressions of the dashboard that find nothing", empty(board), [])
         draw(board, began)
     wait_until(lambda: status_of("/ready") == 200, "it isn't ready again")

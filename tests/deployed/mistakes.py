@@ -10,7 +10,8 @@ import signal
 from .clients import decision, once
 from .clients import status as status_of
 from .machine import LIBRARY, SETTINGS, backs_up, pid, sh, shards, wait_until
-from .states import CERTIFICATE, MAP, TOKEN, asked, is_well, tells
+from .owners import entered, kept_aside, others_own, readable
+from .states import CERTIFICATE, MAP, asked, is_well, tells
 
 STORES, BACKUPS = pathlib.Path("/var/lib/pdpd"), pathlib.Path("/var/lib/pdpd-backups")
 LOGS = pathlib.Path("/var/log/pdpd")
@@ -26,48 +27,11 @@ def mistaken(machine, checks):
     shards("remap")
     is_well(checks, "the beginning")
     checks.expect("as cron runs it", "WRONG" in sh("PATH=/usr/bin:/bin /usr/local/bin/pdpd-shards status"), False)
-    for mistake in (readable, others_own, unstartable, unwatched, taken_down, unmapped, garbled, no_binds, no_program,
-                    beyond, unread, services_go_on, not_begun):
+    for mistake in (readable, entered, others_own, kept_aside, unstartable, unwatched, taken_down, unmapped, lost_map,
+                    garbled, no_binds, refused_by_proxy, no_program, beyond, unread, services_go_on, not_begun):
         mistake(machine, checks, ask)
         is_well(checks, mistake.__name__)
     checks.expect("behind all of them", decision(once(ask)), "Permit")
-
-
-def readable(machine, checks, ask):
-    """What is secret can be read by others."""
-    for path in (TOKEN, CERTIFICATE):
-        path.chmod(0o644)
-        tells(checks, f"{path} for all", f"WRONG: others than root can read or change {path}: chmod 600 {path}")
-        sh(f"chmod 600 {path}; chown nobody {path}")
-        tells(checks, f"{path} of another", f"WRONG: {path} isn't root's: chown root {path}")
-        sh(f"chown root {path}")
-    store = STORES / "1" / "pdpd.db"
-    store.chmod(0o640)
-    _, said = asked("status")
-    heals = re.search(rf"others than its owner can read {store}: (runuser .*)", said)
-    checks.expect(f"a store for others: {said}", heals is not None, True)
-    if heals:
-        sh(heals[1])
-
-
-def others_own(machine, checks, ask):
-    """A shard's file is root's, as one that root has copied there is. Nobody is told to take a store away, nor to give
-    a user what is another file as well."""
-    store, other = STORES / "2" / "pdpd.db", STORES / "second-name"
-    chown, away = f"look who put it there. If you did: chown -h pdpd:pdpd {store}", "and take it away"
-    sh(f"chown root:root {store}")
-    for words in (("status",), ("backup", 2)):
-        found, said = asked(*words)
-        checks.expect(f"{words} of a store of root's: {said}", (found, chown in said, away in said), (1, True, False))
-    sh(f"ln {store} {other}")
-    for words in (("status",), ("backup", 2)):
-        found, said = asked(*words)
-        checks.expect(f"{words} of one of two names: {said}", (found, chown in said, away in said), (1, False, True))
-    sh(f"rm {other}")
-    _, said = asked("status")
-    heals = re.search(r"shard 2 can't start with it: look who put it there\. If you did: (chown .*)", said)
-    checks.expect(f"what heals it: {said}", heals is not None, True)
-    sh(heals[1] if heals else f"chown pdpd:pdpd {store}")
 
 
 def unstartable(machine, checks, ask):
@@ -148,6 +112,28 @@ def unmapped(machine, checks, ask):
     backs_up()
 
 
+def lost_map(machine, checks, ask):
+    """The map is away: no tool makes an empty one, by which a domain that was moved would be looked for elsewhere. What
+    is told heals, also where HAProxy doesn't run and can't start without it."""
+    place = int(shards("where", "ward"))
+    shards("move", "ward", place, (place + 1) % COUNT)
+    held = MAP.read_text()
+    MAP.unlink()
+    back = "move", "ward", (place + 1) % COUNT, place
+    for words in (("config", "--write"), ("upgrade",), ("grow", COUNT + 1), back):
+        found, said = asked(*words)
+        checks.expect(f"{words} without the map: {said}",
+                      (found, f"{MAP} isn't there: pdpd-shards remap" in said, MAP.exists()), (1, True, False))
+    sh("sv -w 60 force-stop /etc/service/haproxy")
+    _, said = asked("status")
+    heals = re.search(r"While HAProxy doesn't run: (echo .*)", said)
+    checks.expect(f"without HAProxy: {said}", heals is not None, True)
+    sh(heals[1] if heals else f"echo NEW moving > {MAP}; pdpd-shards services; pdpd-shards remap")
+    checks.expect("the map, and ward", (MAP.read_text(), decision(once(ask))), (held, "Permit"))
+    shards(*back)
+    shards("remap")
+
+
 def garbled(machine, checks, ask):
     """A map of letters that steer a terminal: it isn't read, and a remap heals a HAProxy that has read it."""
     MAP.write_bytes(bytes(range(1, 256)))
@@ -171,6 +157,29 @@ def no_binds(machine, checks, ask):
     tells(checks, "no place", "WRONG: TLS_BIND and PLAIN_BIND are empty: no client can connect")
     checks.expect("what is written", PROXY.read_text() == before, True)
     SETTINGS.write_text(held)
+
+
+def refused_by_proxy(machine, checks, ask):
+    """A configuration that HAProxy refuses leaves its files as they were, and none of the trial's; and no map where it
+    would have been the first one."""
+    held, rules = SETTINGS.read_text(), PROXY.with_name("domains.lua")
+    before = rules.read_text()
+    rules.write_text(f"{before}-- changed by hand\n")
+    files = {path.name: path.read_bytes() for path in PROXY.parent.iterdir() if path.is_file()}
+    SETTINGS.write_text(f"{held}TLS_BIND=256.0.0.1:443\n")
+    found, said = asked("config", "--write")
+    checks.expect(f"a wrong address: {said}", (found, "HAProxy doesn't take" in said, "invalid address" in said),
+                  (1, True, True))
+    left = {path.name: path.read_bytes() for path in PROXY.parent.iterdir() if path.is_file()}
+    checks.expect("files of HAProxy that are others", [name for name in {*files, *left}
+                                                       if files.get(name) != left.get(name)], [])
+    SETTINGS.write_text(held)
+    rules.write_text(before)
+    place = machine.folder / "first"
+    place.mkdir()
+    (place / "shards.conf").write_text(f"HAPROXY_ETC={place}\nTLS_BIND=256.0.0.1:443\n")
+    sh(f"! PDPD_SETTINGS={place}/shards.conf pdpd-shards config --write")
+    checks.expect("behind a first one", os.listdir(place), ["shards.conf"])
 
 
 def no_program(machine, checks, ask):

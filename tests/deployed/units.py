@@ -338,8 +338,8 @@ def secrets(machine, checks):
     name = re.findall(r"(?m)^1 (\S+)", shards("backups"))[-1]
     shards("put-back", 1, name, "--yes")
     token = pathlib.Path("/etc/pdpd/token").read_text().strip()
-    logs = sh("cat /var/log/pdpd/decisions/current")
-    checks.expect("HAProxy's log of what was refused has those messages", "/domains/d1/pip/none" in logs, True)
+    logs = sh("cat /var/log/pdpd/refused/current")
+    checks.expect("the log of what was refused has those messages", "/domains/d1/pip/none" in logs, True)
     for word in (token, wrong, *(f"d{number}-token-1" for number in range(8))):
         found = sh(f"grep -rlaF -- {word} /var/log/pdpd /var/lib/pdpd /var/lib/pdpd-backups || true")
         checks.expect(f"where the token {word[:6]}.. stands", found, "")

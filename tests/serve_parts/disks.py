@@ -166,7 +166,7 @@ def shut():
             count = found.count(CREATED)
             expect(f"{what}: each change has one, that whose sync fails is refused, and none behind it is answered",
                    (count <= spared, found), (True, PERMIT + CREATED * count + UNAVAILABLE))
-            expect(f"{what}: the program ends", served.ended(), (b"", line(folder / "shut.db", SHUT), 4))
+            expect(f"{what}: the program ends", served.failed(), (b"", line(folder / "shut.db", SHUT), 4))
         failing.unlink()
         with serving("shut.db") as served:
             found = names(served)

@@ -10,7 +10,7 @@ import sys
 import tempfile
 
 from checks import Checks, program_named
-from serving import OPERATOR, Served, decided, making, message, policy, reply
+from serving import COMMAND, OPERATOR, Served, decided, making, message, policy, reply
 
 TOP = pathlib.Path(__file__).resolve().parent.parent.parent
 PROGRAM = program_named(sys.argv[1:])
@@ -63,8 +63,8 @@ def environment(**settings):
 
 
 def words_to_serve(path, address=ELSEWHERE, token_file=TOKEN_FILE):
-    """The words of a command line that serves a file for one connection."""
-    return ["serve", str(path), address, str(token_file), "1"]
+    """The words of a command line that serves a file, by `serve` for one connection."""
+    return [COMMAND, str(path), address, str(token_file), *(["1"] if COMMAND == "serve" else [])]
 
 
 def serving(name, connections=1_000_000, token_file=TOKEN_FILE, **more):

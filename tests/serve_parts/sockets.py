@@ -90,7 +90,7 @@ def taking():
     for what, numbers in [("1,000 in a row", [errno.ECONNABORTED] * 1_000),
                           *((errno.errorcode[number], [number]) for number in OF_THE_LISTENER)]:
         with serving_by(numbers, 1) as served:
-            expect(f"no connection can be taken, {what}", served.ended(),
+            expect(f"no connection can be taken, {what}", served.failed(),
                    (b"", line(f"127.0.0.1:{served.port}", NOT_TAKEN), 5))
 
 
@@ -98,7 +98,7 @@ def taking():
 
 def gives_nothing():
     """Connections that give nothing, or stop within a message, under a limit of a second."""
-    with serving("idle.db", 4, env=environment(PDPD_IDLE="1")) as served:
+    with serving("idle.db", 4, env=environment(PDPD_IDLE="1", PDPD_MESSAGE="1")) as served:
         make_domain(served)
         for what, held in (("nothing", b""), ("half a head", b"GET / HTTP/1.1\r\nX: y"), ("half a body", ASK[:-3])):
             began = time.time()

@@ -1,6 +1,7 @@
 -- What is kept as serving begins, and what the files hold as it ends.
-use Rattle.std.proofs.Common.{◌≡◌, ℕ, List, Bool, false, Option, Result, Ok, Err, IsTrue, refl, sym, ap, subst, ◌∙◌}
+use Rattle.std.proofs.Common.{◌≡◌, ℕ, ℤ, List, Bool, false, Option, Result, Ok, Err, IsTrue, inl, inr, sym, ap, subst, ◌∙◌}
 use Rattle.std.specs.Prelude.{IfOk, MatchResult}
+use Rattle.sqlite.proofs.StateLemmas.{clean_if_open}
 use Rattle.sqlite.specs.Closing.{IsCopied}
 use Rattle.sqlite.specs.Effect.{Database}
 use Rattle.sqlite.specs.Files.{IsBlankAs, IsOpened, file_state, over_files}
@@ -18,15 +19,15 @@ use Rattle.sqlite_catalog.specs.Listing.{IsSound as ObeysRules}
 use Rattle.sqlite_disk.specs.declared.Disk as disk
 use Rattle.sqlite_disk.specs.declared.Files.{Files}
 use Rattle.sqlite_store.specs.declared.store.FileStore.{FileStore}
-use Rattle.xa_records.specs.Kept.{Kept, nothing_kept}
+use Rattle.sqlite_store.specs.Laws.{shut_if_dirty_at}
 use Rattle.xa_server.specs.Decisions.{nothing_cached}
 use Rattle.xa_server.specs.declared.front.Front.{Front}
-use Rattle.xa_server.specs.Front.{FrontState, front_state}
+use Rattle.xa_server.specs.Front.{front_is_clean, front_state}
 use Rattle.xa_server.specs.Lines.{none_open}
 use Rattle.xa_store.specs.Keeper.{Keeper, IsSound}
 use Rattle.xa_store.specs.KeeperReading.{custody_by, kept_by}
-use Rattle.xa_store.specs.Meaning.{kept_in, kept_in_schema_1}
-use Rattle.xa_store.specs.Opening.{IsBlank, no_tables}
+use Rattle.xa_store.specs.Meaning.{kept_in}
+use Rattle.xa_store.specs.Opening.{IsBlank, IsKnown, no_tables}
 use Rattle.xa_store.specs.Sound.{IsOurDatabase, OpensSoundly, RestsIn}
 use Rattle.xa_store.specs.Tables.{schema_1, schema_2}
 use Rattle.xa_store.specs.keeping.Migration.{IsSoundSchema1}
@@ -36,8 +37,9 @@ use Rattle.pdpd.specs.declared.fault.Fault.TheVariants.{Store}
 use Rattle.pdpd.specs.declared.fault.StoreFault.TheVariants.{MadeOtherwise}
 use Rattle.pdpd.specs.declared.store.closed.ClosedStore.{ClosedStore}
 use Rattle.pdpd.specs.Beginning.{Begins, HasCleanFiles, IsKeptIn, IsKeptOver, IsLeftIn}
-use Rattle.pdpd.specs.Connections.{AreIsolated, ServesFiles}
+use Rattle.pdpd.specs.Connections.{Clocked, ServesFiles, ServesFrom, at_clock}
 use Rattle.pdpd.specs.running.Opening.{IsKeeperFrom, IsKeeperOver}
+use Rattle.pdpd.specs.running.Serving.{Serves}
 use Rattle.pdpd.specs.Token.{IsOperatorIn}
 
 -- ---- a connection that was just opened
@@ -59,24 +61,26 @@ module _ (s : State) (fresh : IsJustOpened s) (live : IsLive s) where
   is_blank are = record { schema = schema_is no_tables are; settled = fresh.clean; idle = fresh.autocommit }
 
   -- what opening it gives is what the trees mean
-  kept_over : {S : Type 0} (g : Ghosts S) (k : Keeper S) → HasCleanDisk (state g k.conn) → IsKeeperOver g s k → IsKeptOver found (kept_by g k)
-  kept_over g k clean is = record {
-    ours = λ are.
-        let given = is.opens (rests_in schema_2 are) clean in
-        let sound : OpensSoundly s.now.trees = record {
-          database = subst (λ (d : Database). IsOurDatabase d.trees) (sym fresh.clean) are;
-          opens = given.0;
-        } in
-        (subst (λ (d : Database). OpensSoundly d.trees) fresh.clean sound, given.3);
-    ours_of_schema_1 = λ are.
-        let given = is.migrates (rests_in schema_1 are) clean in
-        let sound : IsSoundSchema1 s.now.trees = record {
-          database = subst (λ (d : Database). ObeysRules schema_1 d.trees) (sym fresh.clean) are;
-          opens = given.0;
-        } in
-        (subst (λ (d : Database). IsSoundSchema1 d.trees) fresh.clean sound, given.2.kept);
-    none = λ are. (is.makes (is_blank are) clean).2;
-  }
+  kept_over : {S : Type 0} (g : Ghosts S) (k : Keeper S) → HasCleanDisk (state g k.conn) → IsKeeperOver g s k → IsKeptOver (IsSound g k) found (kept_by g k)
+  kept_over g k clean is =
+      let sound_if : IsKnown s → IsSound g k = λ known. is.sound (is.stays clean known) in
+      record {
+        ours = λ are.
+            let given = is.opens (rests_in schema_2 are) clean in
+            let sound : OpensSoundly s.now.trees = record {
+              database = subst (λ (d : Database). IsOurDatabase d.trees) (sym fresh.clean) are;
+              opens = given.0;
+            } in
+            (subst (λ (d : Database). OpensSoundly d.trees) fresh.clean sound, given.3, sound_if (inl (rests_in schema_2 are)));
+        ours_of_schema_1 = λ are.
+            let given = is.migrates (rests_in schema_1 are) clean in
+            let sound : IsSoundSchema1 s.now.trees = record {
+              database = subst (λ (d : Database). ObeysRules schema_1 d.trees) (sym fresh.clean) are;
+              opens = given.0;
+            } in
+            (subst (λ (d : Database). IsSoundSchema1 d.trees) fresh.clean sound, given.2.kept, sound_if (inr (inl (rests_in schema_1 are))));
+        none = λ are. ((is.makes (is_blank are) clean).2, sound_if (inr (inr (is_blank are))));
+      }
 
 -- ---- a keeper that is opened
 
@@ -91,14 +95,13 @@ module _ {D : Type 0} {g : disk.Ghosts D} (image : Image) (sums : Bool) (conn : 
     (found : HasCleanDisk (file_state conn) → FindsIn image (file_state conn)) (summed : HasCleanDisk (file_state conn) → IsBlankAs sums image → (view conn.store).has_sums ≡ sums) where
   -- from the files
   pub keeper_from : (r : Result (Keeper (FileStore D g)) Fault) → IfOk r (IsKeeperOver over_files (file_state conn))
-      → IfOk r (λ k. IsTrue (file_state k.conn).is_open → HasCleanDisk (file_state k.conn) × HasCleanDisk (file_state conn))
-      → IfOk r (λ k. IsTrue (file_state k.conn).is_open → IsKeeperFrom image sums k)
-  keeper_from (Ok k) keeper clean = λ up.
-      let are = clean up in
-      record { conn = conn; is_opened = opened are.1; found = found are.1; sums = summed are.1; keeper = keeper; clean = are.0 }
+      → IfOk r (λ k. HasCleanDisk (file_state k.conn) → HasCleanDisk (file_state conn)) → IfOk r (λ k. HasCleanDisk (file_state k.conn) → IsKeeperFrom image sums k)
+  keeper_from (Ok k) keeper clean = λ now.
+      let before = clean now in
+      record { conn = conn; is_opened = opened before; found = found before; sums = summed before; keeper = keeper; clean = now }
   keeper_from (Err e) keeper clean = tt
 
-pub kept_from : {D : Type 0} {g : disk.Ghosts D} (image : Image) (sums : Bool) (k : Keeper (FileStore D g)) → IsKeeperFrom image sums k → IsKeptIn image (kept_by over_files k)
+pub kept_from : {D : Type 0} {g : disk.Ghosts D} (image : Image) (sums : Bool) (k : Keeper (FileStore D g)) → IsKeeperFrom image sums k → IsKeptIn (IsSound over_files k) image (kept_by over_files k)
 kept_from image sums k is = record {
   db = (file_state is.conn).committed.trees;
   holds = is.found.holds;
@@ -137,15 +140,15 @@ all_left_in k conn (Err e) same own on stays copies = tt
 -- ---- the front of the files
 
 module _ {D : Type 0} {g : disk.Ghosts D} (image : Image) (sums : Bool) (token : Option (List ℕ)) (operator : List ℕ) (records : Keeper (FileStore D g)) (is_operator : IsOperatorIn token operator)
-    (keeper : IsTrue (file_state records.conn).is_open → IsKeeperFrom image sums records) where
+    (keeper : HasCleanDisk (file_state records.conn) → IsKeeperFrom image sums records) where
   pub begins_from : (r : Result (Front (Keeper (FileStore D g))) Fault) → IfOk r (λ front. front.server.operator ≡ operator) → IfOk r (λ front. front.server.records ≡ records)
       → IfOk r (λ front. front.server.decisions ≡ nothing_cached) → IfOk r (λ front. front.lines ≡ none_open)
-      → IfOk r (λ front. IsSound over_files front.server.records → Begins image token (front_state (custody_by over_files) front))
-  begins_from (Ok front) of over cached closed = λ sound.
-      let held : IsTrue (file_state records.conn).is_open = subst (λ (k : Keeper (FileStore D g)). IsTrue (file_state k.conn).is_open) over sound.1.is_open in
+      → IfOk r (λ front. front_is_clean (custody_by over_files) front → Begins (IsSound over_files front.server.records) image token (front_state (custody_by over_files) front))
+  begins_from (Ok front) of over cached closed = λ clean.
+      let clean_over : HasCleanDisk (file_state records.conn) = subst (λ (k : Keeper (FileStore D g)). HasCleanDisk (file_state k.conn)) over clean in
       record {
         operator = subst (IsOperatorIn token) (sym of) is_operator;
-        is_kept = subst (λ (k : Keeper (FileStore D g)). IsKeptIn image (kept_by over_files k)) (sym over) (kept_from image sums records (keeper held));
+        is_kept = subst (λ (k : Keeper (FileStore D g)). IsKeptIn (IsSound over_files k) image (kept_by over_files k)) (sym over) (kept_from image sums records (keeper clean_over));
         decisions = cached;
         closed = closed;
       }
@@ -153,13 +156,30 @@ module _ {D : Type 0} {g : disk.Ghosts D} (image : Image) (sums : Bool) (token :
 
 -- ---- from the files to the files
 
-pub serves_files : {D : Type 0} {g : disk.Ghosts D} (image : Image) (token : Option (List ℕ)) (count : ℕ) (front : Front (Keeper (FileStore D g))) (records : Keeper (FileStore D g))
-    (r : Result (ClosedStore D g) Fault) → records ≡ front.server.records
-    → (IsSound over_files front.server.records → (old : FrontState) × Begins image token old × AreIsolated count old (front_state (custody_by over_files) front))
+pub serves_from : {D : Type 0} {g : disk.Ghosts D} (image : Image) (token : Option (List ℕ)) (told : Option (List (Option ℤ))) (count : ℕ) (result : Result (Unit {0}) Fault)
+    (old : Front (Keeper (FileStore D g))) (new : Clocked (Keeper (FileStore D g)))
+    → (front_is_clean (custody_by over_files) old → Begins (IsSound over_files old.server.records) image token (front_state (custody_by over_files) old))
+    → Serves (custody_by over_files) count result (at_clock old told) new → ServesFrom image token told count result new
+unfolding Serves
+serves_from image token told count result old new begins is = record { old = old; begins = begins; isolated = is }
+
+-- a sound keeper's disk has returned what was written
+pub sound_clean : {D : Type 0} {g : disk.Ghosts D} (k : Keeper (FileStore D g)) → IsSound over_files k → HasCleanDisk (file_state k.conn)
+sound_clean k sound = clean_if_open (view k.conn.store) (shut_if_dirty_at k.conn.store) sound.1.is_open
+
+pub serves_files : {D : Type 0} {g : disk.Ghosts D} (image : Image) (token : Option (List ℕ)) (told_old told_new : Option (List (Option ℤ))) (count : ℕ) (front : Front (Keeper (FileStore D g)))
+    (records : Keeper (FileStore D g)) (r : Result (ClosedStore D g) Fault) → records ≡ front.server.records → ServesFrom image token told_old count (Ok tt) (at_clock front told_new)
     → IfOk r (λ closed. HasCleanFiles closed → IsSound over_files records × IsLeftIn closed (kept_by over_files records))
-    → IfOk r (λ closed. HasCleanFiles closed → ServesFiles image token count closed)
-serves_files {D} {g} image token count front records (Ok closed) same served left = λ clean.
+    → IfOk r (λ closed. HasCleanFiles closed → ServesFiles image token told_old told_new count closed)
+serves_files {D} {g} image token told_old told_new count front records (Ok closed) same served left = λ clean.
     let is = subst (λ (k : Keeper (FileStore D g)). IsSound over_files k × IsLeftIn closed (kept_by over_files k)) same (left clean) in
-    let began = served is.0 in
-    record { old = began.0; new = front_state (custody_by over_files) front; begins = began.1; isolated = began.2; left = is.1 }
-serves_files image token count front records (Err e) same served left = tt
+    let began : IsSound over_files served.old.server.records = served.isolated.are_one.sound is.0 in
+    record {
+      old = served.old;
+      new = front;
+      begins = served.begins (sound_clean served.old.server.records began);
+      isolated = served.isolated;
+      sound = is.0;
+      left = is.1;
+    }
+serves_files image token told_old told_new count front records (Err e) same served left = tt

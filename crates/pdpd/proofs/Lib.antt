@@ -1,5 +1,7 @@
 pub mod BeginningLemmas
+pub mod EndingLemmas
 pub mod HeadingLemmas
+pub mod ListeningLemmas
 pub mod PartLemmas
 pub mod PieceLemmas
 pub mod ReadingLemmas

@@ -1,5 +1,5 @@
 -- The pieces of an entry's bytes, one after another, and what a connection is told of each.
-use Rattle.std.proofs.Common.{◌≡◌, ℕ, ◌+◌, ◌≤◌, arith, Bool, true, false, List, [], ◌∷◌, ◌++◌, length, map, refl, sym, ap, subst, ◌∙◌, Option, Some, None, Result, Ok, Err, inl, inr, ◌⊎◌}
+use Rattle.std.proofs.Common.{◌≡◌, ℕ, ◌+◌, ◌≤◌, arith, true, false, List, [], ◌∷◌, ◌++◌, length, refl, sym, ap, subst, ◌∙◌, Option, Some, None, Result, Ok, Err, inl, inr, ◌⊎◌}
 use Rattle.std.specs.Prelude.{ℤ, OnOk}
 use Rattle.std.specs.Io.KnownBytes.{Appends}
 use Rattle.std.proofs.lemmas.Bool.{false≢true}
@@ -15,7 +15,8 @@ use Rattle.xa_server.specs.Connection.{StopsBy, TakesPiece, messages_of}
 use Rattle.xa_server.specs.declared.front_error.FrontError.{FrontError}
 use Rattle.xa_server.specs.declared.front_error.FrontError.TheVariants.{Memory, NoSuchConnection, TooManyConnections, Full}
 use Rattle.xa_server.specs.World.{ServerState, World}
-use Rattle.xa_server.proofs.ConnectionLemmas.{appends_none, fed_nothing, fed_twice}
+use Rattle.std.proofs.KnownBytes.{Appends-nil}
+use Rattle.xa_server.proofs.ConnectionLemmas.{fed_nothing, fed_twice}
 use Rattle.pdpd.specs.declared.exit.Exit.{Exit}
 use Rattle.pdpd.specs.declared.replay.heading.Heading.{Heading}
 use Rattle.pdpd.specs.Entry.{IsStreamAnswered, events_at, reply_entries}
@@ -49,7 +50,7 @@ TakenTo heading bytes rest a b s t x y = (front : List ℕ) × (bytes ≡ front 
 
 pub taken_none : (heading : Heading) (bytes : List ℕ) (a : ServerState) (s : Stream) (x : Option (List ℕ)) → TakenTo heading bytes bytes a a s s x x
 unfolding TakenTo IsToldAndWritten
-taken_none heading bytes a s x = ([], refl, ([], told_none heading.moment a a (fed s []) s refl (sym (fed_nothing s)), appends_none x))
+taken_none heading bytes a s x = ([], refl, ([], told_none heading.moment a a (fed s []) s refl (sym (fed_nothing s)), Appends-nil x))
 
 joined : (bytes front rest piece after : List ℕ) → bytes ≡ front ++ rest → rest ≡ piece ++ after → bytes ≡ (front ++ piece) ++ after
 joined bytes front rest piece after before here = before ∙ ap (λ (bs : List ℕ). front ++ bs) here ∙ sym (append_assoc front piece after)

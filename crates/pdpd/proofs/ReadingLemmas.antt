@@ -1,11 +1,11 @@
 -- The known bytes of a transcript, as it is read a piece at a time.
 use Rattle.std.proofs.Common.{◌≡◌, ◌≢◌, ℕ, ◌+◌, ◌-◌, ◌<◌, ◌≤◌, min, not, Bool, true, false, List, [], ◌∷◌, ◌++◌, length, take, drop, slice_range, Option, Some, None, Ok, Err, inl, inr, codes, refl, sym, ap, subst, ◌∙◌, append_assoc, append-nil, length-take, drop-drop, arith}
+use Rattle.std.proofs.KnownBytes.{Consumes-trans}
 use Rattle.std.proofs.lemmas.List.{drop-take, drop_min, take-append-drop}
 use Rattle.std.proofs.lemmas.Bool.Decides.{nat_tests}
 use Rattle.std.proofs.Math.Seq.{drop-nil}
 use Rattle.std.specs.Prelude.{◌==◌}
 use Rattle.std.specs.Io.KnownBytes.{Consumes, IsAtEnd, Keeps, prepend_known}
-use Rattle.xa_server.proofs.ConnectionLemmas.{consumes_trans}
 use Rattle.pdpd.specs.declared.replay.heading.Heading.{Heading}
 use Rattle.pdpd.specs.declared.replay.transcript.EntryFault.{EntryFault}
 use Rattle.pdpd.specs.declared.replay.transcript.EntryFault.TheVariants.{Malformed, Failed, Memory}
@@ -79,7 +79,7 @@ adds most left a (byte ∷ bytes) rest old new keeps end moved same =
 pub body_wrong : (left mid rest : Option (List ℕ)) (count byte : ℕ) (bytes : List ℕ) → TakesBytes left mid count bytes → TakesByte mid rest (Some byte) → byte ≢ 10
     → Rejects (IsNoBody count) left rest NoLineFeed
 body_wrong left mid rest count byte bytes taken here other =
-    (bytes ++ byte ∷ [], consumes_trans left mid rest bytes (byte ∷ []) taken.0 here, (bytes, taken.1, inr (byte, other, refl)))
+    (bytes ++ byte ∷ [], Consumes-trans left mid rest bytes (byte ∷ []) taken.0 here, (bytes, taken.1, inr (byte, other, refl)))
 
 -- a fault is passed on
 passed : {X Y : Type 0} (is : X → Type 0) (as_is : Y → Type 0) (wrongs others : TranscriptFault → Type 0) (f : EntryFault) → TakesOrRejects is wrongs (Err f)
@@ -91,7 +91,7 @@ passed is as_is wrongs others Memory at on = tt
 pub entry_done : (left mid rest : Option (List ℕ)) (heading : Heading) (bytes : List ℕ) → TakesHeading left mid (Some heading) → TakesBody mid rest heading.count bytes
     → TakesEntry left rest bytes (Some heading)
 entry_done left mid rest heading bytes (first, taken_first, is_heading) (second, taken_second, is_body) =
-    (first ++ second, consumes_trans left mid rest first second taken_first taken_second, (first, second, is_heading, is_body, refl))
+    (first ++ second, Consumes-trans left mid rest first second taken_first taken_second, (first, second, is_heading, is_body, refl))
 
 pub entry_wrong : (left mid rest : Option (List ℕ)) (heading : Heading) (bytes others : List ℕ) (f : EntryFault) → TakesHeading left mid (Some heading)
     → TakesOrRejects {X = Unit {0}} (λ _. TakesBody mid rest heading.count bytes) (Rejects (IsNoBody heading.count) mid rest) (Err f)
@@ -99,4 +99,4 @@ pub entry_wrong : (left mid rest : Option (List ℕ)) (heading : Heading) (bytes
 entry_wrong left mid rest heading bytes others f (first, taken_first, is_heading) wrong =
     passed {X = Unit {0}} (λ _. TakesBody mid rest heading.count bytes) (TakesEntry left rest others) (Rejects (IsNoBody heading.count) mid rest) (Rejects IsNoEntry left rest) f wrong
     (λ (w : TranscriptFault) (is : Rejects (IsNoBody heading.count) mid rest w).
-    (first ++ is.0, consumes_trans left mid rest first is.0 taken_first is.1, inr (heading, first, is.0, is_heading, is.2, refl)))
+    (first ++ is.0, Consumes-trans left mid rest first is.0 taken_first is.1, inr (heading, first, is.0, is_heading, is.2, refl)))

@@ -1,5 +1,6 @@
 -- The entries of a transcript, read and answered one after another.
 use Rattle.std.proofs.Common.{◌≡◌, ℕ, ◌+◌, Bool, true, false, List, [], ◌∷◌, ◌++◌, length, Option, Some, None, Err, refl, sym, ap, subst, ◌∙◌, append_assoc, append-nil, length-append, arith, ◌⊎◌, inl, inr}
+use Rattle.std.proofs.KnownBytes.{Appends-nil, Appends-trans, Consumes-nil, Consumes-trans}
 use Rattle.std.specs.Prelude.{⊤, IsFalse, IsTrue}
 use Rattle.std.specs.Io.KnownBytes.{Appends, Consumes, Keeps, append_known}
 use Rattle.std.proofs.lemmas.Bool.{false≢true}
@@ -13,7 +14,7 @@ use Rattle.xa_server.specs.Front.{FrontState, front_state}
 use Rattle.xa_server.specs.Lines.{all_open}
 use Rattle.xa_server.specs.Served.{IsRun}
 use Rattle.xa_server.specs.World.{ServerState, World, server_state}
-use Rattle.xa_server.proofs.ConnectionLemmas.{appends_none, appends_trans, consumes_none, consumes_trans, run_trans}
+use Rattle.xa_server.proofs.ConnectionLemmas.{run_trans}
 use Rattle.xa_server.proofs.IsolationLemmas.{isolated}
 use Rattle.pdpd.specs.declared.exit.Exit.{Exit}
 use Rattle.pdpd.specs.declared.exit.Exit.TheVariants as exit
@@ -91,7 +92,7 @@ replays_none front before = record {
   are_replied = (refl, refl);
   is_run = refl;
   isolated = λ domain. isolated domain front.server.world front.server.world [] [] refl;
-  wrote = appends_none before;
+  wrote = Appends-nil before;
 }
 
 replays_more : (entries : List Entry) (heading : Heading) (bytes : List ℕ) (old mid new : FrontState) (before written now : Option (List ℕ))
@@ -108,7 +109,7 @@ replays_more entries heading bytes old mid new before written now r (reply, wrot
       is_run = run;
       isolated = λ domain.
           isolated domain old.server.world new.server.world (r.exchange.events ++ reply.events) (r.exchange.replies ++ reply.replies) run;
-      wrote = appends_trans before written now r.exchange.written reply.written r.wrote wrote;
+      wrote = Appends-trans before written now r.exchange.written reply.written r.wrote wrote;
     }
 
 -- ---- entries that are read
@@ -128,7 +129,7 @@ pub record SoFar (done : List Entry → Type 0) (left rest : Option (List ℕ)) 
   pub holds : done entries
 
 read_none : (done : List Entry → Type 0) (left : Option (List ℕ)) → done [] → SoFar done left left 1
-read_none done left is = record { entries = []; gave = ([], consumes_none left, refl); counted = refl; holds = is }
+read_none done left is = record { entries = []; gave = ([], Consumes-nil left, refl); counted = refl; holds = is }
 
 read_more : (done after : List Entry → Type 0) (left mid rest : Option (List ℕ)) (number : ℕ) (heading : Heading) (bytes : List ℕ) → SoFar done left mid number
     → TakesEntry mid rest bytes (Some heading) → ((entries : List Entry) → done entries → after (entries ++ record { heading = heading; bytes = bytes } ∷ []))
@@ -140,7 +141,7 @@ read_more done after left mid rest number heading bytes so_far (more, taken, is)
       entries = so_far.entries ++ record { heading = heading; bytes = bytes } ∷ [];
       gave = (
         gave.0 ++ more,
-        subst (λ (t : List ℕ). Consumes left rest t) (sym (append-nil (gave.0 ++ more))) (consumes_trans left mid rest gave.0 more front taken),
+        subst (λ (t : List ℕ). Consumes left rest t) (sym (append-nil (gave.0 ++ more))) (Consumes-trans left mid rest gave.0 more front taken),
         entries_more so_far.entries heading bytes gave.0 more gave.2 is,
       );
       counted = omega (arith, so_far.counted, length-append so_far.entries (record { heading = heading; bytes = bytes } ∷ []));
@@ -152,7 +153,7 @@ read_all : (done : List Entry → Type 0) (left mid rest : Option (List ℕ)) (n
     → IsTranscriptRead done left rest exit.Done
 read_all done left mid rest number bytes so_far (none, end) =
     let gave = so_far.gave in
-    let all : Consumes left rest ((gave.0 ++ []) ++ []) = consumes_trans left mid rest (gave.0 ++ []) [] gave.1 none in
+    let all : Consumes left rest ((gave.0 ++ []) ++ []) = Consumes-trans left mid rest (gave.0 ++ []) [] gave.1 none in
     (so_far.entries, (gave.0, subst (λ (t : List ℕ). Consumes left rest t) (append-nil (gave.0 ++ [])) all, gave.2), end, so_far.holds)
 
 -- the next entry can't be read
@@ -161,7 +162,7 @@ read_badly : (done : List Entry → Type 0) (left mid rest : Option (List ℕ)) 
 read_badly done left mid rest number is (read.Malformed wrong) so_far (behind, taken, is_no) =
     let gave = so_far.gave in
     let front : Consumes left mid gave.0 = subst (λ (t : List ℕ). Consumes left mid t) (append-nil gave.0) gave.1 in
-    (so_far.entries, behind, (gave.0, consumes_trans left mid rest gave.0 behind front taken, gave.2), is_no, so_far.counted, so_far.holds)
+    (so_far.entries, behind, (gave.0, Consumes-trans left mid rest gave.0 behind front taken, gave.2), is_no, so_far.counted, so_far.holds)
 read_badly done left mid rest number is read.Failed so_far reads = tt
 read_badly done left mid rest number is read.Memory so_far reads = tt
 

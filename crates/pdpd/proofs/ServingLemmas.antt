@@ -1,10 +1,9 @@
 -- Connections that are served, one after another.
-use Rattle.std.proofs.Common.{◌≡◌, ◌≢◌, ℕ, ◌+◌, ◌<◌, arith, List, [], ◌++◌, Option, Some, None, Ok, Err, refl, sym, ap, subst, ◌∙◌, add-one, set-set, slice_index_or, slice_set, inl, inr}
-use Rattle.std.specs.Prelude.{◌↔◌, IfErr, MatchResult, OnOk, Result}
+use Rattle.std.proofs.Common.{◌≡◌, ◌≢◌, ℕ, ◌+◌, ◌<◌, ◌≤◌, arith, false, IsTrue, List, [], ◌++◌, Option, Some, None, Ok, Err, refl, sym, ap, subst, ◌∙◌, add-one, set-set, slice_index_or, slice_set, inl, inr}
+use Rattle.std.specs.Prelude.{◌↔◌, IfErr, MatchResult, Result}
 use Rattle.std.specs.Net.Grammar.{IsSocketText}
 use Rattle.std.specs.declared.net.socket_addr.SocketAddr.{SocketAddr}
 use Rattle.std.proofs.lemmas.Result.{IfErr-at_err}
-use Rattle.sqlite.specs.Recovery.{Image}
 use Rattle.xa_http.specs.Stream.{Stream}
 use Rattle.xa_records.specs.Keeper.{Custody}
 use Rattle.xa_server.specs.declared.drive_end.DriveEnd.{DriveEnd}
@@ -16,21 +15,20 @@ use Rattle.xa_server.specs.declared.replies.Reply.{Reply}
 use Rattle.xa_server.specs.Alone.{Event}
 use Rattle.xa_server.specs.Driven.{IsConnection, IsConnectionOf, IsDrivenWithin, KeepsOpen, Known}
 use Rattle.xa_server.specs.declared.front.Front.{Front}
-use Rattle.xa_server.specs.Front.{FrontState, front_state}
-use Rattle.xa_server.specs.Connection.{IsOneRun, empty_stream}
+use Rattle.xa_server.specs.Connection.{empty_stream}
 use Rattle.xa_server.specs.Lines.{IsClosed, IsOpened, Lines, first_free, line_at, none_open, with_line}
-use Rattle.xa_server.specs.World.{ServerModel, ServerState, server_state}
+use Rattle.xa_server.specs.World.{ServerModel, server_state}
 use Rattle.xa_server.proofs.ConnectionLemmas.{no_run, runs_on}
-use Rattle.pdpd.specs.Beginning.{Begins}
-use Rattle.pdpd.specs.Connections.{AreIsolated, IsConnectionServed}
+use Rattle.xa_server.proofs.ServingLemmas.{are_served, served_on}
+use Rattle.pdpd.specs.Connections.{AreIsolated, AreOneRun, Clocked, ServesOne, at_clock}
 use Rattle.pdpd.specs.declared.exit.Exit.TheVariants.{Done}
 use Rattle.pdpd.specs.declared.fault.Fault.{Fault}
 use Rattle.pdpd.specs.declared.fault.Fault.TheVariants as variant
-use Rattle.pdpd.specs.declared.fault.Fault.TheVariants.{Address, TokenUnread, TokenBad, Store, Shut, Socket, Connection, Clock, Output, Memory}
+use Rattle.pdpd.specs.declared.fault.Fault.TheVariants.{Address, Place, End, TokenUnread, TokenBad, Store, Shut, Socket, Occupied, Taken, Unmade, Input, Connection, Waiting, Clock, Output, Memory}
 use Rattle.pdpd.specs.declared.serve.setting.Setting.{Setting}
 use Rattle.pdpd.specs.declared.serve.setting.Setting.TheVariants as set
-use Rattle.pdpd.specs.Fault.{IsNoAddress, IsOfConnections, IsOfFiles, IsOfServing, IsOfSetting, IsOfStore, IsOfToken, exit_of_fault, fault_of_end}
-use Rattle.pdpd.specs.running.Serving.{IsOfSettings, Serves, ServesOne}
+use Rattle.pdpd.specs.Fault.{IsNoAddress, IsOfConnections, IsOfFiles, IsOfServing, IsOfSetting, IsOfStore, IsOfToken, comes_of_serving, exit_of_fault, fault_of_end}
+use Rattle.pdpd.specs.running.Serving.{IsOfSettings, Serves, ServesConnection, ServesNext}
 use Rattle.pdpd.proofs.ReadyLemmas.{none_some, some_number}
 
 -- ---- a connection
@@ -90,97 +88,145 @@ closed_again conn (Err error.Memory) old opened left new none is keeps closed = 
 closed_again conn (Err TooManyConnections) old opened left new none is keeps closed = absurd closed
 closed_again conn (Err Full) old opened left new none is keeps closed = absurd closed
 
-driven_one : (end : DriveEnd) (conn : Conn) (old opened left new : FrontState) (before now : Known) → old.lines ≡ none_open → IsOpened old.lines (Ok conn) opened.lines
-    → opened.server ≡ old.server → IsConnection end conn opened left before now → new.lines ≡ none_open → new.server ≡ left.server → fault_of_end end ≡ None
-    → IsConnectionServed old new before now
-driven_one end conn old opened left new before now none is server drives closed same goes_on =
-    let first = opened_first conn old.lines opened.lines none is in
-    let there : line_at conn opened.lines ≡ Some empty_stream
-    = ap (λ (ls : Lines). slice_index_or ls conn.number None) first.1 ∙ line_of_first conn.number first.0 in
-    let driven_here : IsConnectionOf (Some empty_stream) end conn opened left before now
-    = subst (λ (l : Option Stream). IsConnectionOf l end conn opened left before now) there drives in
-    record {
-      end = end;
-      after = driven_here.0;
-      is_driven =
-          subst (λ (s : ServerState). IsDrivenWithin 1_000_000 end (record { server = s; stream = empty_stream; known = before })
-          (record { server = new.server; stream = driven_here.0; known = now })) server
-          (subst (λ (s : ServerState). IsDrivenWithin 1_000_000 end (record { server = opened.server; stream = empty_stream; known = before })
-          (record { server = s; stream = driven_here.0; known = now })) (sym same) driven_here.2);
-      goes_on = goes_on;
-      opened = none;
-      closed = closed;
-    }
+module _ {R : Type 0} (custody : R → Custody) (is_open : (s : R) → (custody s).sound → IsTrue (custody s).is_open) where
+  -- ---- runs, one after another
 
--- whatever the last step of serving it gave; `before` and `now` are what is known by the server beside the rest
-pub served_as : {R : Type 0} (custody : R → Custody) (old opened left new : Front R) (end : DriveEnd) (conn : Conn) (before now : ServerModel R → Known)
-    (result : Result (Unit {0}) Fault) → old.lines ≡ none_open → IsOpened old.lines (Ok conn) opened.lines → opened.server ≡ old.server
-    → ((custody left.server.records).sound → IsConnection end conn (front_state custody opened) (front_state custody left) (before opened.server) (now left.server))
-    → new.lines ≡ none_open → new.server ≡ left.server → MatchResult result (λ _. fault_of_end end ≡ None) (λ fault. fault_of_end end ≡ Some fault)
-    → OnOk result ((custody new.server.records).sound
-    → IsConnectionServed (front_state custody old) (front_state custody new) (before old.server) (now new.server))
-served_as {R = R} custody old opened left new end conn before now (Ok unit) none is server drives closed same goes_on = λ sound.
-    let driven_here : IsConnection end conn (front_state custody opened) (front_state custody left) (before old.server) (now new.server)
-    = subst (λ (s : ServerModel R). IsConnection end conn (front_state custody opened) (front_state custody left) (before s) (now new.server)) server
-    (subst (λ (s : ServerModel R). IsConnection end conn (front_state custody opened) (front_state custody left) (before opened.server) (now s)) (sym same)
-    (drives (subst (λ (s : ServerModel R). (custody s.records).sound) same sound))) in
-    driven_one end conn (front_state custody old) (front_state custody opened) (front_state custody left) (front_state custody new) (before old.server) (now new.server)
-    none is (ap (λ (s : ServerModel R). server_state custody s) server) driven_here closed (ap (λ (s : ServerModel R). server_state custody s) same) goes_on
-served_as custody old opened left new end conn before now (Err fault) none is server drives closed same goes_on = tt
+  none_run : (a b : Front R) → b.server ≡ a.server → AreOneRun custody a b [] []
+  none_run a b same = record {
+    sound = subst (λ (s : ServerModel R). (custody b.server.records).sound → (custody s.records).sound) same (λ sound. sound);
+    clean = subst (λ (s : ServerModel R). (custody b.server.records).clean → (custody s.records).clean) same (λ clean. clean);
+    run = λ sound. no_run (server_state custody a.server) (server_state custody b.server) (ap (λ (s : ServerModel R). server_state custody s) same);
+    in_turn = are_served custody is_open a.server b.server [] [] [] same;
+  }
 
-pub served_one : (old new : FrontState) (before now : Known) → IsConnectionServed old new before now → ServesOne old new
-unfolding ServesOne
-served_one old new before now is = (before, now, is)
+  run_on : (a b c : Front R) (es fs : List Event) (rs qs : List Reply) → AreOneRun custody a b es rs → AreOneRun custody b c fs qs → AreOneRun custody a c (es ++ fs) (rs ++ qs)
+  run_on a b c es fs rs qs first later =
+      let each = served_on custody a.server b.server c.server es fs rs qs (first.in_turn.servers, first.in_turn.each) (later.in_turn.servers, later.in_turn.each) in
+      record {
+        sound = λ sound. first.sound (later.sound sound);
+        clean = λ clean. first.clean (later.clean clean);
+        run = λ sound.
+            runs_on (server_state custody a.server) (server_state custody b.server) (server_state custody c.server) es fs rs qs (first.run (later.sound sound)) (later.run sound);
+        in_turn = are_served custody is_open a.server c.server (es ++ fs) (rs ++ qs) each.0 each.1;
+      }
 
--- ---- one after another
+  -- ---- one connection
 
-pub served_none : (front : FrontState) → Serves 0 front front
-unfolding Serves
-served_none front = record { events = []; replies = []; served = (refl, refl, refl); run = no_run front.server front.server refl }
+  driven_one : (end : DriveEnd) (fault : Option Fault) (conn : Conn) (old opened left new : Front R) (before now : ServerModel R → Known) → old.lines ≡ none_open
+      → IsOpened old.lines (Ok conn) opened.lines → opened.server ≡ old.server → IsConnection custody end conn opened left (before opened.server) (now left.server)
+      → ((custody left.server.records).clean → (custody opened.server.records).clean)
+      → new.lines ≡ none_open → new.server ≡ left.server → fault_of_end end ≡ fault
+      → (events : List Event) × (replies : List Reply) × ServesOne custody fault old new (before old.server) (now new.server) events replies × AreOneRun custody old new events replies
+  driven_one end fault conn old opened left new before now none is server drives clean closed same ends =
+      let first = opened_first conn old.lines opened.lines none is in
+      let there : line_at conn opened.lines ≡ Some empty_stream
+      = ap (λ (ls : Lines). slice_index_or ls conn.number None) first.1 ∙ line_of_first conn.number first.0 in
+      let here : IsConnectionOf custody (Some empty_stream) end conn opened left (before opened.server) (now left.server)
+      = subst (λ (l : Option Stream). IsConnectionOf custody l end conn opened left (before opened.server) (now left.server)) there drives in
+      let driven : IsDrivenWithin custody 1_000_000 end (record { server = old.server; stream = empty_stream; known = before old.server })
+      (record { server = new.server; stream = here.0; known = now new.server })
+      = subst (λ (s : ServerModel R). IsDrivenWithin custody 1_000_000 end (record { server = s; stream = empty_stream; known = before s })
+      (record { server = new.server; stream = here.0; known = now new.server })) server
+      (subst (λ (s : ServerModel R). IsDrivenWithin custody 1_000_000 end (record { server = opened.server; stream = empty_stream; known = before opened.server })
+      (record { server = s; stream = here.0; known = now s })) (sym same) here.2) in
+      let stays_clean : (custody new.server.records).clean → (custody old.server.records).clean
+      = subst (λ (s : ServerModel R). (custody new.server.records).clean → (custody s.records).clean) server
+      (subst (λ (s : ServerModel R). (custody s.records).clean → (custody opened.server.records).clean) (sym same) clean) in (
+        driven.goes.events ++ driven.last_events,
+        driven.goes.run ++ driven.last_replies,
+        (end, ends, record { after = here.0; is_driven = driven; opened = none; closed = closed }, refl, refl),
+        record { sound = λ sound. driven.goes.sound (driven.sound sound); clean = stays_clean; run = driven.run; in_turn = driven.served },
+      )
 
-pub served_nobody : (count : ℕ) (front : FrontState) → count < 1 → Serves count front front
-served_nobody count front less =
-    let none : count ≡ 0 = omega arith in
-    subst (λ (n : ℕ). Serves n front front) (sym none) (served_none front)
+  -- whatever the last step of serving it gave
+  pub served_as : (old opened left new : Front R) (end : DriveEnd) (conn : Conn) (before now : ServerModel R → Known) (result : Result (Unit {0}) Fault) → old.lines ≡ none_open
+      → IsOpened old.lines (Ok conn) opened.lines → opened.server ≡ old.server → IsConnection custody end conn opened left (before opened.server) (now left.server)
+      → ((custody left.server.records).clean → (custody opened.server.records).clean)
+      → new.lines ≡ none_open → new.server ≡ left.server → MatchResult result (λ _. fault_of_end end ≡ None) (λ fault. fault_of_end end ≡ Some fault)
+      → ServesConnection custody result old new (before old.server) (now new.server)
+  unfolding ServesConnection
+  served_as old opened left new end conn before now (Ok unit) none is server drives clean closed same goes_on =
+      driven_one end None conn old opened left new before now none is server drives clean closed same goes_on
+  served_as old opened left new end conn before now (Err fault) none is server drives clean closed same ends =
+      driven_one end (Some fault) conn old opened left new before now none is server drives clean closed same ends
 
-more_isolated : (count : ℕ) (old mid new : FrontState) (known_before known_now : Known) → AreIsolated count old mid
-    → IsConnectionServed mid new known_before known_now → AreIsolated (count + 1) old new
-more_isolated count old mid new known_before known_now before is =
-    let here = is.is_driven in
-    record {
-      events = before.events ++ (here.goes.events ++ here.last_events);
-      replies = before.replies ++ (here.goes.run ++ here.last_replies);
-      served = rw add-one (mid, before.events, before.replies, before.served, known_before, known_now, is, refl, refl);
-      run =
-          runs_on old.server mid.server new.server before.events (here.goes.events ++ here.last_events) before.replies (here.goes.run ++ here.last_replies)
-          before.run here.run;
-    }
+  -- ---- one after another
 
-pub served_more : (count : ℕ) (old mid new : FrontState) → Serves count old mid → ServesOne mid new → Serves (count + 1) old new
-unfolding Serves ServesOne
-served_more count old mid new before (known_before, known_now, is) = more_isolated count old mid new known_before known_now before is
+  pub served_none : (front : Clocked R) → Serves custody 0 (Ok tt) front front
+  unfolding Serves
+  served_none front = record { events = []; replies = []; served = (refl, refl, refl); are_one = none_run front.front front.front refl }
 
--- from the front of the files
-pub served_from : {R : Type 0} (custody : R → Custody) (image : Image) (token : Option (List ℕ)) (count : ℕ) (old new : Front R) → Begins image token (front_state custody old)
-    → Serves count (front_state custody old) (front_state custody new) → (from : FrontState) × Begins image token from × AreIsolated count from (front_state custody new)
-unfolding Serves
-served_from custody image token count old new begins is = (front_state custody old, begins, is)
+  pub served_nobody : (count : ℕ) (front : Clocked R) → count < 1 → Serves custody count (Ok tt) front front
+  served_nobody count front less =
+      let none : count ≡ 0 = omega arith in
+      subst (λ (n : ℕ). Serves custody n (Ok tt) front front) (sym none) (served_none front)
 
--- the last of them
-pub served_last : (count others : ℕ) (old mid new : FrontState) → count ≡ others + 1 → Serves others old mid → ServesOne mid new → Serves count old new
-served_last count others old mid new same before is = subst (λ (n : ℕ). Serves n old new) (sym same) (served_more others old mid new before is)
+  pub served_more : (count : ℕ) (old mid new : Clocked R) → Serves custody count (Ok tt) old mid → ServesNext custody (Ok tt) mid new → Serves custody (count + 1) (Ok tt) old new
+  unfolding Serves ServesNext
+  served_more count old mid new before (events, replies, one, run) = record {
+    events = before.events ++ events;
+    replies = before.replies ++ replies;
+    served = rw add-one (mid, before.events, before.replies, events, replies, before.served, one, refl, refl);
+    are_one = run_on old.front mid.front new.front before.events events before.replies replies before.are_one run;
+  }
+
+  -- the program ends by a fault before all are served
+  pub served_until : (most count : ℕ) (fault : Fault) (old mid new : Clocked R) → count ≤ most → Serves custody count (Ok tt) old mid → ServesNext custody (Err fault) mid new
+      → Serves custody most (Err fault) old new
+  unfolding Serves ServesNext
+  served_until most count fault old mid new few before (inl same) =
+      let moved : AreIsolated custody count (Ok tt) old new = subst (λ (f : Clocked R). AreIsolated custody count (Ok tt) old f) (sym same) before in
+      record { events = moved.events; replies = moved.replies; served = (count, few, inl moved.served); are_one = moved.are_one }
+  served_until most count fault old mid new few before (inr (events, replies, one, run)) = record {
+    events = before.events ++ events;
+    replies = before.replies ++ replies;
+    served = (count, few, inr (mid, before.events, before.replies, events, replies, before.served, one, refl, refl));
+    are_one = run_on old.front mid.front new.front before.events events before.replies replies before.are_one run;
+  }
+
+  -- before any was served
+  pub served_unbegun : (most : ℕ) (fault : Fault) (front : Clocked R) → Serves custody most (Err fault) front front
+  unfolding ServesNext
+  served_unbegun most fault front = served_until most 0 fault front front front (omega arith) (served_none front) (inl refl)
+
+  -- the last of them
+  pub served_last : (count others : ℕ) (result : Result (Unit {0}) Fault) (old mid new : Clocked R) → count ≡ others + 1 → Serves custody others (Ok tt) old mid
+      → ServesNext custody result mid new → Serves custody count result old new
+  served_last count others (Ok unit) old mid new same before is =
+      subst (λ (n : ℕ). Serves custody n (Ok tt) old new) (sym same) (served_more others old mid new before is)
+  served_last count others (Err fault) old mid new same before is = served_until count others fault old mid new (omega (arith, same)) before is
+
+module _ {R : Type 0} (custody : R → Custody) where
+  -- no connection was there
+  pub unserved : (fault : Fault) (front : Clocked R) → ServesNext custody (Err fault) front front
+  unfolding ServesNext
+  unserved fault front = inl refl
+
+  -- of a connection that was served the clock alone is told
+  pub served_some : (result : Result (Unit {0}) Fault) (old new : Front R) (known_old known_new : Known) → ServesConnection custody result old new known_old known_new
+      → ServesNext custody result (at_clock old known_old.told) (at_clock new known_new.told)
+  unfolding ServesConnection ServesNext
+  served_some (Ok unit) old new known_old known_new (events, replies, one, run) = (events, replies, (known_old, known_new, refl, refl, one), run)
+  served_some (Err fault) old new known_old known_new (events, replies, one, run) = inr (events, replies, (known_old, known_new, refl, refl, one), run)
 
 -- ---- no fault ends the program well
 
 pub fault_not_done : (fault : Fault) → exit_of_fault fault ≢ Done
 fault_not_done Address = λ same. cc
+fault_not_done Place = λ same. cc
+fault_not_done End = λ same. cc
 fault_not_done (variant.Setting setting) = λ same. cc
 fault_not_done TokenUnread = λ same. cc
 fault_not_done TokenBad = λ same. cc
 fault_not_done (Store fault) = λ same. cc
 fault_not_done Shut = λ same. cc
 fault_not_done Socket = λ same. cc
+fault_not_done Occupied = λ same. cc
+fault_not_done Taken = λ same. cc
+fault_not_done Unmade = λ same. cc
+fault_not_done Input = λ same. cc
 fault_not_done Connection = λ same. cc
+fault_not_done Waiting = λ same. cc
 fault_not_done Clock = λ same. cc
 fault_not_done Output = λ same. cc
 fault_not_done Memory = λ same. cc
@@ -206,34 +252,48 @@ settings_not_address fault (inr (inr (inr (inr (inl is))))) = setting_not_addres
 settings_not_address fault (inr (inr (inr (inr (inr is))))) = setting_not_address set.Sums fault is
 
 pub token_not_address : (fault : Fault) → IsOfToken fault → fault ≢ Address
-token_not_address Address none = absurd none
-token_not_address TokenUnread is = λ same. cc
-token_not_address TokenBad is = λ same. cc
-token_not_address Memory is = λ same. cc
-token_not_address (variant.Setting setting) none = absurd none
-token_not_address (Store fault) none = absurd none
-token_not_address Socket none = absurd none
-token_not_address Connection none = absurd none
-token_not_address Clock none = absurd none
-token_not_address Shut none = absurd none
-token_not_address Output none = absurd none
+token_not_address fault is = λ same. subst IsOfToken same is
 
 pub store_not_address : (fault : Fault) → IsOfStore fault → fault ≢ Address
-store_not_address Address none = absurd none
-store_not_address (Store fault) is = λ same. cc
-store_not_address Memory is = λ same. cc
-store_not_address TokenUnread none = absurd none
-store_not_address TokenBad none = absurd none
-store_not_address (variant.Setting setting) none = absurd none
-store_not_address Socket none = absurd none
-store_not_address Connection none = absurd none
-store_not_address Clock none = absurd none
-store_not_address Shut none = absurd none
-store_not_address Output none = absurd none
+store_not_address fault is = λ same. subst IsOfStore same is
 
 pub files_not_address : (fault : Fault) → IsOfFiles fault → fault ≢ Address
 files_not_address fault (inl is) = token_not_address fault is
 files_not_address fault (inr is) = store_not_address fault is
+
+-- ---- faults that come before serving
+
+pub setting_before : (setting : Setting) (fault : Fault) → IsOfSetting setting fault → comes_of_serving fault ≡ false
+setting_before setting fault (inl same) = ap comes_of_serving same
+setting_before setting fault (inr same) = ap comes_of_serving same
+
+pub settings_before : (fault : Fault) → IsOfSettings fault → comes_of_serving fault ≡ false
+settings_before fault (inl is) = setting_before set.Work fault is
+settings_before fault (inr (inl is)) = setting_before set.Reply fault is
+settings_before fault (inr (inr (inl is))) = setting_before set.Reading fault is
+settings_before fault (inr (inr (inr (inl is)))) = setting_before set.Views fault is
+settings_before fault (inr (inr (inr (inr (inl is))))) = setting_before set.Idle fault is
+settings_before fault (inr (inr (inr (inr (inr is))))) = setting_before set.Sums fault is
+
+pub files_before : (fault : Fault) → IsOfFiles fault → comes_of_serving fault ≡ false
+files_before Address is = refl
+files_before Place is = refl
+files_before End is = refl
+files_before (variant.Setting setting) is = refl
+files_before TokenUnread is = refl
+files_before TokenBad is = refl
+files_before (Store fault) is = refl
+files_before Memory is = refl
+files_before Occupied is = elim is [ inl none ↦ absurd none | inr none ↦ absurd none ]
+files_before Taken is = elim is [ inl none ↦ absurd none | inr none ↦ absurd none ]
+files_before Unmade is = elim is [ inl none ↦ absurd none | inr none ↦ absurd none ]
+files_before Input is = elim is [ inl none ↦ absurd none | inr none ↦ absurd none ]
+files_before Waiting is = elim is [ inl none ↦ absurd none | inr none ↦ absurd none ]
+files_before Socket is = elim is [ inl none ↦ absurd none | inr none ↦ absurd none ]
+files_before Connection is = elim is [ inl none ↦ absurd none | inr none ↦ absurd none ]
+files_before Clock is = elim is [ inl none ↦ absurd none | inr none ↦ absurd none ]
+files_before Shut is = elim is [ inl none ↦ absurd none | inr none ↦ absurd none ]
+files_before Output is = elim is [ inl none ↦ absurd none | inr none ↦ absurd none ]
 
 pub connections_are_served : (result : Result (Unit {0}) Fault) → IfErr result IsOfConnections → IfErr result IsOfServing
 connections_are_served (Ok done) is = tt
@@ -242,6 +302,13 @@ connections_are_served (Err Clock) is = tt
 connections_are_served (Err Shut) is = tt
 connections_are_served (Err Memory) is = tt
 connections_are_served (Err Address) none = absurd none
+connections_are_served (Err Place) none = absurd none
+connections_are_served (Err End) none = absurd none
+connections_are_served (Err Occupied) none = absurd none
+connections_are_served (Err Taken) none = absurd none
+connections_are_served (Err Unmade) none = absurd none
+connections_are_served (Err Input) none = absurd none
+connections_are_served (Err Waiting) none = absurd none
 connections_are_served (Err (variant.Setting setting)) none = absurd none
 connections_are_served (Err TokenUnread) none = absurd none
 connections_are_served (Err TokenBad) none = absurd none
@@ -250,17 +317,7 @@ connections_are_served (Err Socket) none = absurd none
 connections_are_served (Err Output) none = absurd none
 
 pub serving_not_address : (fault : Fault) → IsOfServing fault → fault ≢ Address
-serving_not_address Address none = absurd none
-serving_not_address Socket is = λ same. cc
-serving_not_address Output is = λ same. cc
-serving_not_address Connection is = λ same. cc
-serving_not_address Clock is = λ same. cc
-serving_not_address Shut is = λ same. cc
-serving_not_address Memory is = λ same. cc
-serving_not_address (Store fault) none = absurd none
-serving_not_address TokenUnread none = absurd none
-serving_not_address TokenBad none = absurd none
-serving_not_address (variant.Setting setting) none = absurd none
+serving_not_address fault is = λ same. subst IsOfServing same is
 
 -- if an address was found, its serving says that none was only if the text writes none
 pub address_found : {X : Type 0} (text : List ℕ) (address : SocketAddr) (result : Result X Fault) → IsSocketText text address → IfErr result IsOfServing

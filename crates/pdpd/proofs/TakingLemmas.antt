@@ -1,9 +1,9 @@
 -- What a connection takes of an entry.
 use Rattle.std.proofs.Common.{◌≡◌, ◌≢◌, ℕ, Bool, true, false, List, [], ◌∷◌, length, Option, refl, sym, subst, arith}
+use Rattle.std.proofs.KnownBytes.{Appends-nil}
 use Rattle.xa_http.specs.Stream.{Stream}
 use Rattle.xa_server.specs.Connection.{empty_stream}
 use Rattle.xa_server.specs.World.{ServerState}
-use Rattle.xa_server.proofs.ConnectionLemmas.{appends_none}
 use Rattle.pdpd.specs.declared.replay.heading.Heading.{Heading}
 use Rattle.pdpd.specs.Replay.{ConnectionTakes, OpenTakes, StreamTakes, no_exchange}
 use Rattle.pdpd.specs.running.Replaying.{Writes}
@@ -11,7 +11,7 @@ use Rattle.pdpd.specs.running.Replaying.{Writes}
 -- no bytes close it, and the next begins in its place
 pub closed : (heading : Heading) (bytes : List ℕ) (was is : Stream) (a : ServerState) (before : Option (List ℕ)) → length bytes ≡ 0 → is ≡ empty_stream
     → Writes before before (ConnectionTakes heading bytes was is a a)
-closed heading [] was is a before none new = (no_exchange, appends_none before, (new, refl, refl))
+closed heading [] was is a before none new = (no_exchange, Appends-nil before, (new, refl, refl))
 closed heading (byte ∷ bytes) was is a before none new = absurd (omega (arith, none))
 
 -- bytes are passed over if its session has ended
@@ -20,7 +20,7 @@ pub passed_over : (heading : Heading) (bytes : List ℕ) (was : Stream) (a : Ser
 passed_over heading [] was a before some over = absurd (some refl)
 passed_over heading (byte ∷ bytes) was a before some over = (
   no_exchange,
-  appends_none before,
+  Appends-nil before,
   subst (λ (b : Bool). OpenTakes b heading (byte ∷ bytes) was was a a no_exchange) (sym over) (refl, refl, refl),
 )
 

@@ -1,26 +1,26 @@
 -- What a connection is told, one answer after another, and the replies, written one after another.
-use Rattle.std.proofs.Common.{◌≡◌, ℕ, ◌<◌, ◌+◌, arith, Bool, true, false, List, [], ◌∷◌, ◌++◌, map, length, refl, sym, ap, subst, ◌∙◌, Option, Some, None, Ok, inl, inr, ◌⊎◌}
-use Rattle.std.specs.Prelude.{ℤ, Result}
+use Rattle.std.proofs.Common.{◌≡◌, ℕ, ◌<◌, ◌+◌, arith, Bool, true, false, not, List, [], ◌∷◌, ◌++◌, map, length, refl, sym, ap, subst, ◌∙◌, Option, Some, None, Ok, inl, inr, ◌⊎◌}
+use Rattle.std.specs.Prelude.{ℤ}
 use Rattle.std.specs.Io.KnownBytes.{Appends}
 use Rattle.std.proofs.lemmas.Bool.{false≢true}
 use Rattle.std.proofs.lemmas.List.{map-append, append-nil, append_assoc}
 use Rattle.std.proofs.lemmas.List.Concat.{flat_map-append}
 use Rattle.xa_http.specs.declared.message.Message.{Message}
-use Rattle.xa_http.specs.declared.session.Next.{Next}
 use Rattle.xa_http.specs.declared.session.Next.TheVariants as next
 use Rattle.xa_http.specs.declared.fault.SessionFault.{SessionFault}
 use Rattle.xa_http.specs.Messages.{IsFirst, IsNext}
 use Rattle.xa_http.specs.Stream.{Stream, fed}
 use Rattle.xa_http.proofs.SizeLemmas.{first_shrinks}
 use Rattle.xa_server.specs.Alone.{Event}
-use Rattle.xa_server.specs.Connection.{AnswersNext, AreAnswered, IsGiven, Serves, ServesNext, all_replies, answered_by, fault_replies, reply_of}
+use Rattle.xa_server.specs.Connection.{AnswersNext, AreAnswered, Serves, ServesNext, all_replies, fault_replies, reply_of}
 use Rattle.xa_server.specs.declared.connection.Answered.{Answered}
 use Rattle.xa_server.specs.declared.connection.Answered.TheVariants as answered
 use Rattle.xa_server.specs.declared.replies.Reply.{Reply}
 use Rattle.xa_server.specs.ErrorCode.{code_of_session_fault, error_reply}
 use Rattle.xa_server.specs.Replies.{bytes_of}
 use Rattle.xa_server.specs.World.{ServerState}
-use Rattle.xa_server.proofs.ConnectionLemmas.{answered_fed, answered_on, appends_none, appends_trans, none_answered, one_answered}
+use Rattle.std.proofs.KnownBytes.{Appends-nil, Appends-trans}
+use Rattle.xa_server.proofs.ConnectionLemmas.{answered_fed, answered_on, none_answered, one_answered}
 use Rattle.pdpd.specs.declared.replay.heading.Heading.{Heading}
 use Rattle.pdpd.specs.Entry.{events_at, reply_entries, reply_entry}
 use Rattle.pdpd.specs.running.Telling.{AreTold, IsToldAndWritten, LeavesOff, Stands}
@@ -112,45 +112,35 @@ one_fault moment a b s t fault is same = record {
 
 -- the bytes of an answer, if it has a reply
 abbrev pub bytes_in : Answered → List (List ℕ)
-bytes_in (answered.Reply reply) = bytes_of reply ∷ []
-bytes_in (answered.Last reply) = bytes_of reply ∷ []
+bytes_in (answered.Reply answer) = bytes_of answer.reply ∷ []
 bytes_in answered.Waits = []
 bytes_in answered.Ended = []
 
-bytes_by : (last : Bool) (reply : Reply) → bytes_in (answered_by last reply) ≡ bytes_of reply ∷ []
-bytes_by true reply = refl
-bytes_by false reply = refl
-
-reply_by : (last : Bool) (reply : Reply) → reply_of (answered_by last reply) ≡ Some reply
-reply_by true reply = refl
-reply_by false reply = refl
-
 -- a connection is told it
-pub told_next : {E : Type 0} (sound : Type 0) (moment : ℤ) (a b : ServerState) (s t : Stream) (given : Answered) → AnswersNext {E = E} sound moment a s (Ok given) b t → sound
-    → AreTold moment a b s t (bytes_in given)
-told_next sound moment a b s t given (None, none) holds = absurd none
-told_next sound moment a b s t given (Some (next.Message message), (is, (reply, by), serves)) holds =
-    let served : ServesNext moment a (Some (next.Message message)) (Some reply) b
-    = subst (λ (r : Option Reply). ServesNext moment a (Some (next.Message message)) r b) (ap reply_of by ∙ reply_by t.ended reply) (serves holds) in
-    subst (λ (bs : List (List ℕ)). AreTold moment a b s t bs) (sym (ap bytes_in by ∙ bytes_by t.ended reply)) (one_message moment a b s t message reply is served)
-told_next sound moment a b s t given (Some (next.Fault fault), (is, by, serves)) holds =
+pub told_next : (sound : Type 0) (moment : ℤ) (a b : ServerState) (s t : Stream) (given : Answered)
+    → AnswersNext sound moment a s (Ok given) b t → sound → AreTold moment a b s t (bytes_in given)
+told_next sound moment a b s t given (next.Message message, is, (reply, by), serves) holds =
+    let served : Serves moment message reply a b
+    = subst (λ (x : Answered). ServesNext moment a (Some (next.Message message)) (reply_of x) b) by (serves holds) in
+    subst (λ (bs : List (List ℕ)). AreTold moment a b s t bs) (sym (ap bytes_in by))
+    (one_message moment a b s t message reply is served)
+told_next sound moment a b s t given (next.Fault fault, is, by, serves) holds =
     subst (λ (bs : List (List ℕ)). AreTold moment a b s t bs) (sym (ap bytes_in by)) (one_fault moment a b s t fault is (serves holds))
-told_next sound moment a b s t given (Some next.More, (is, by, serves)) holds =
+told_next sound moment a b s t given (next.More, is, by, serves) holds =
     subst (λ (bs : List (List ℕ)). AreTold moment a b s t bs) (sym (ap bytes_in by)) (told_none moment a b s t (serves holds) is.2)
-told_next sound moment a b s t given (Some next.Ended, (is, by, serves)) holds =
+told_next sound moment a b s t given (next.Ended, is, by, serves) holds =
     subst (λ (bs : List (List ℕ)). AreTold moment a b s t bs) (sym (ap bytes_in by)) (told_none moment a b s t (serves holds) is.1)
 
 -- whether the session goes on after it
 abbrev pub goes_on_after : Answered → Bool
-goes_on_after (answered.Reply reply) = true
-goes_on_after (answered.Last reply) = false
+goes_on_after (answered.Reply answer) = not answer.last
 goes_on_after answered.Waits = false
 goes_on_after answered.Ended = false
 
-goes_by : (last : Bool) (reply : Reply) (t : Stream) → t.ended ≡ last → Stands (goes_on_after (answered_by last reply)) t
+goes_by : (last : Bool) (t : Stream) → t.ended ≡ last → Stands (not last) t
 unfolding Stands
-goes_by true reply t ended = inr ended
-goes_by false reply t ended = ended
+goes_by true t ended = inr ended
+goes_by false t ended = ended
 
 stands_over : (t : Stream) → t.ended ≡ true → Stands false t
 unfolding Stands
@@ -160,21 +150,21 @@ stands_waiting : (s t : Stream) → IsNext s next.More t → Stands false t
 unfolding Stands
 stands_waiting s t is = inl (subst (λ (u : Stream). IsNext u next.More u) (sym is.2) (is.0, is.1, refl))
 
-pub stands_next : {E : Type 0} (sound : Type 0) (moment : ℤ) (a b : ServerState) (s t : Stream) (given : Answered) → AnswersNext {E = E} sound moment a s (Ok given) b t
-    → Stands (goes_on_after given) t
-stands_next sound moment a b s t given (None, none) = absurd none
-stands_next sound moment a b s t given (Some (next.Message message), (is, (reply, by), serves)) =
-    subst (λ (x : Bool). Stands x t) (sym (ap goes_on_after by)) (goes_by t.ended reply t refl)
-stands_next sound moment a b s t given (Some (next.Fault fault), (is, by, serves)) =
+pub stands_next : (sound : Type 0) (moment : ℤ) (a b : ServerState) (s t : Stream) (given : Answered)
+    → AnswersNext sound moment a s (Ok given) b t → Stands (goes_on_after given) t
+stands_next sound moment a b s t given (next.Message message, is, (reply, by), serves) =
+    subst (λ (x : Bool). Stands x t) (sym (ap goes_on_after by)) (goes_by t.ended t refl)
+stands_next sound moment a b s t given (next.Fault fault, is, by, serves) =
     subst (λ (x : Bool). Stands x t) (sym (ap goes_on_after by)) (stands_over t (ap (λ (u : Stream). u.ended) is.2))
-stands_next sound moment a b s t given (Some next.More, (is, by, serves)) =
+stands_next sound moment a b s t given (next.More, is, by, serves) =
     subst (λ (x : Bool). Stands x t) (sym (ap goes_on_after by)) (stands_waiting s t is)
-stands_next sound moment a b s t given (Some next.Ended, (is, by, serves)) =
+stands_next sound moment a b s t given (next.Ended, is, by, serves) =
     subst (λ (x : Bool). Stands x t) (sym (ap goes_on_after by)) (stands_over t (ap (λ (u : Stream). u.ended) is.1 ∙ is.0))
 
-pub stands_by : {E : Type 0} (sound : Type 0) (moment : ℤ) (a b : ServerState) (s t : Stream) (given : Answered) (goes : Bool) → goes_on_after given ≡ goes
-    → AnswersNext {E = E} sound moment a s (Ok given) b t → Stands goes t
-stands_by sound moment a b s t given goes same answers = subst (λ (x : Bool). Stands x t) same (stands_next sound moment a b s t given answers)
+pub stands_by : (sound : Type 0) (moment : ℤ) (a b : ServerState) (s t : Stream) (given : Answered) (goes : Bool)
+    → goes_on_after given ≡ goes → AnswersNext sound moment a s (Ok given) b t → Stands goes t
+stands_by sound moment a b s t given goes same answers =
+    subst (λ (x : Bool). Stands x t) same (stands_next sound moment a b s t given answers)
 
 -- a session that goes on hasn't ended
 pub stands_on : (goes : Bool) (t : Stream) → goes ≡ true → Stands goes t → t.ended ≡ false
@@ -183,13 +173,12 @@ stands_on true t on stands = stands
 stands_on false t on stands = absurd (false≢true on)
 
 -- a reply after which it goes on leaves less
-pub fewer_next : {E : Type 0} (sound : Type 0) (moment : ℤ) (a b : ServerState) (s t : Stream) (given : Answered) → goes_on_after given ≡ true
-    → AnswersNext {E = E} sound moment a s (Ok given) b t → length t.held < length s.held
-fewer_next sound moment a b s t given on (None, none) = absurd none
-fewer_next sound moment a b s t given on (Some (next.Message message), (is, by, serves)) = omega (arith, first_shrinks s message t is)
-fewer_next sound moment a b s t given on (Some (next.Fault fault), (is, by, serves)) = absurd (false≢true (sym (ap goes_on_after by) ∙ on))
-fewer_next sound moment a b s t given on (Some next.More, (is, by, serves)) = absurd (false≢true (sym (ap goes_on_after by) ∙ on))
-fewer_next sound moment a b s t given on (Some next.Ended, (is, by, serves)) = absurd (false≢true (sym (ap goes_on_after by) ∙ on))
+pub fewer_next : (sound : Type 0) (moment : ℤ) (a b : ServerState) (s t : Stream) (given : Answered)
+    → goes_on_after given ≡ true → AnswersNext sound moment a s (Ok given) b t → length t.held < length s.held
+fewer_next sound moment a b s t given on (next.Message message, is, by, serves) = omega (arith, first_shrinks s message t is)
+fewer_next sound moment a b s t given on (next.Fault fault, is, by, serves) = absurd (false≢true (sym (ap goes_on_after by) ∙ on))
+fewer_next sound moment a b s t given on (next.More, is, by, serves) = absurd (false≢true (sym (ap goes_on_after by) ∙ on))
+fewer_next sound moment a b s t given on (next.Ended, is, by, serves) = absurd (false≢true (sym (ap goes_on_after by) ∙ on))
 
 -- an answer without a reply
 pub no_bytes : (given : Answered) → (given ≡ answered.Waits) ⊎ (given ≡ answered.Ended) → bytes_in given ≡ []
@@ -209,17 +198,17 @@ entries_trans connection first later = flat_map-append (reply_entry connection) 
 -- nothing was answered
 pub told_idle : (heading : Heading) (a b : ServerState) (s t : Stream) (before : Option (List ℕ)) → b ≡ a → t ≡ s → IsToldAndWritten heading a b s t before before
 unfolding IsToldAndWritten
-told_idle heading a b s t before same kept = ([], told_none heading.moment a b s t same kept, appends_none before)
+told_idle heading a b s t before same kept = ([], told_none heading.moment a b s t same kept, Appends-nil before)
 
-pub told_without : {E : Type 0} (heading : Heading) (sound : Type 0) (a b : ServerState) (s t : Stream) (given : Answered) (before : Option (List ℕ))
-    → AnswersNext {E = E} sound heading.moment a s (Ok given) b t → sound → bytes_in given ≡ [] → IsToldAndWritten heading a b s t before before
+pub told_without : (heading : Heading) (sound : Type 0) (a b : ServerState) (s t : Stream) (given : Answered) (before : Option (List ℕ))
+    → AnswersNext sound heading.moment a s (Ok given) b t → sound → bytes_in given ≡ [] → IsToldAndWritten heading a b s t before before
 unfolding IsToldAndWritten
 told_without heading sound a b s t given before answers holds none =
-    ([], subst (λ (rs : List (List ℕ)). AreTold heading.moment a b s t rs) none (told_next sound heading.moment a b s t given answers holds), appends_none before)
+    ([], subst (λ (rs : List (List ℕ)). AreTold heading.moment a b s t rs) none (told_next sound heading.moment a b s t given answers holds), Appends-nil before)
 
 -- a reply was written
-pub told_reply : {E : Type 0} (heading : Heading) (sound : Type 0) (a b : ServerState) (s t : Stream) (given : Answered) (reply : Reply) (bytes : List ℕ) (before now : Option (List ℕ))
-    → AnswersNext {E = E} sound heading.moment a s (Ok given) b t → sound → bytes_in given ≡ bytes_of reply ∷ [] → bytes ≡ bytes_of reply
+pub told_reply : (heading : Heading) (sound : Type 0) (a b : ServerState) (s t : Stream) (given : Answered) (reply : Reply) (bytes : List ℕ) (before now : Option (List ℕ))
+    → AnswersNext sound heading.moment a s (Ok given) b t → sound → bytes_in given ≡ bytes_of reply ∷ [] → bytes ≡ bytes_of reply
     → Appends before now (reply_entry heading.connection bytes) → IsToldAndWritten heading a b s t before now
 unfolding IsToldAndWritten
 told_reply heading sound a b s t given reply bytes before now answers holds one same wrote = (
@@ -235,7 +224,7 @@ unfolding IsToldAndWritten
 told_on heading a b c s t u x y z (first, told, wrote) goes_on (later, more, written) = (
   first ++ later,
   told_more heading.moment a b c s t u first later told goes_on more,
-  subst (λ (bs : List ℕ). Appends x z bs) (sym (entries_trans heading.connection first later)) (appends_trans x y z _ _ wrote written),
+  subst (λ (bs : List ℕ). Appends x z bs) (sym (entries_trans heading.connection first later)) (Appends-trans x y z _ _ wrote written),
 )
 
 -- and after bytes that have come
@@ -245,5 +234,5 @@ unfolding IsToldAndWritten
 told_fed_on heading a b c s t u piece x y z (first, told, wrote) goes_on (later, more, written) = (
   first ++ later,
   told_more heading.moment a b c (fed s piece) (fed t piece) u first later (told_fed heading.moment a b s t piece first told goes_on) goes_on more,
-  subst (λ (bs : List ℕ). Appends x z bs) (sym (entries_trans heading.connection first later)) (appends_trans x y z _ _ wrote written),
+  subst (λ (bs : List ℕ). Appends x z bs) (sym (entries_trans heading.connection first later)) (Appends-trans x y z _ _ wrote written),
 )

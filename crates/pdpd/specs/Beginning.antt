@@ -23,19 +23,20 @@ use Rattle.pdpd.specs.Token.{IsOperatorIn}
 -- ---- what is kept as serving begins
 
 -- what is kept over these trees: what the program's tables of schema 2 mean, or of schema 1; nothing, if there is no
--- table at all. Tables that opening doesn't find sound are refused. Trees of other tables are refused, too
-pub record IsKeptOver (db : Trees) (kept : Kept) : Type 0 where
-  pub ours : IsOurDatabase db → OpensSoundly db × (kept ≡ kept_in db)
-  pub ours_of_schema_1 : ObeysRules schema_1 db → IsSoundSchema1 db × (kept ≡ kept_in_schema_1 db)
-  pub none : ObeysRules no_tables db → kept ≡ nothing_kept
+-- table at all. Tables that opening doesn't find sound are refused. Trees of other tables are refused, too. In each of
+-- the three cases the keeper is sound, which is `sound`
+pub record IsKeptOver (sound : Type 0) (db : Trees) (kept : Kept) : Type 0 where
+  pub ours : IsOurDatabase db → OpensSoundly db × (kept ≡ kept_in db) × sound
+  pub ours_of_schema_1 : ObeysRules schema_1 db → IsSoundSchema1 db × (kept ≡ kept_in_schema_1 db) × sound
+  pub none : ObeysRules no_tables db → (kept ≡ nothing_kept) × sound
 
 -- what is kept over two files that hold `image`: what is kept over the trees that they hold. If they hold no database
 -- yet, the trees are empty
-pub record IsKeptIn (image : Image) (kept : Kept) : Type 0 where
+pub record IsKeptIn (sound : Type 0) (image : Image) (kept : Kept) : Type 0 where
   pub db : Trees
   pub holds : (other : Trees) → HoldsDatabase image other → db ≡ other
   pub found : AreFoundIn image db
-  pub is_kept : IsKeptOver db kept
+  pub is_kept : IsKeptOver sound db kept
 
 -- what is known of the text that a reader gives, if there is a reader
 abbrev pub known_text : {X E : Type 0} → (X → Option (List ℕ)) → Result X E → Option (List ℕ)
@@ -43,10 +44,11 @@ known_text remaining (Ok reader) = remaining reader
 known_text remaining (Err e) = None
 
 -- a front as serving begins: for the operator whose token is the first line of the token file, of which `token` is
--- known, and over what two files hold; nothing is cached of decisions, and no connection is open
-pub record Begins (image : Image) (token : Option (List ℕ)) (front : FrontState) : Type 0 where
+-- known, and over what two files hold; nothing is cached of decisions, and no connection is open. `sound` says of the
+-- keeper that it is sound
+pub record Begins (sound : Type 0) (image : Image) (token : Option (List ℕ)) (front : FrontState) : Type 0 where
   pub operator : IsOperatorIn token front.server.world.operator
-  pub is_kept : IsKeptIn image front.server.world.kept
+  pub is_kept : IsKeptIn sound image front.server.world.kept
   pub decisions : front.server.decisions ≡ nothing_cached
   pub closed : front.lines ≡ none_open
 

@@ -4,7 +4,7 @@ use Rattle.std.specs.Prelude.{None, if◌then◌else◌, bytes_eq, codes, option
 use Rattle.std.specs.Option.{option_and_then}
 use Rattle.xa_value.specs.Digits.{number_up_to}
 use Rattle.pdpd.specs.declared.command_line.Command.{Command}
-use Rattle.pdpd.specs.declared.command_line.Command.TheVariants.{Help, Version, Replay, Serve}
+use Rattle.pdpd.specs.declared.command_line.Command.TheVariants.{Help, Version, Replay, Serve, Listen}
 
 -- the number of connections that plain digits write, from 1 to 1,000,000
 unfoldable pub connections_of : List ℕ → Option ℕ
@@ -27,6 +27,9 @@ serving_of database address token_file connections =
 abbrev pub command_of : List (List ℕ) → Option Command
 command_of (program ∷ word ∷ []) = option_of word
 command_of (program ∷ word ∷ token ∷ []) = if bytes_eq word (codes "replay") then Some (Replay token) else None
+command_of (program ∷ word ∷ database ∷ address ∷ token_file ∷ []) =
+    if bytes_eq word (codes "listen")
+    then Some (Listen (record { database = database; address = address; token_file = token_file })) else None
 command_of (program ∷ word ∷ database ∷ address ∷ token_file ∷ connections ∷ []) =
     if bytes_eq word (codes "serve") then serving_of database address token_file connections else None
 command_of _ = None

@@ -1,5 +1,6 @@
 -- Why `pdpd serve` ends before its connections are served, and how the program ends then.
-use Rattle.std.specs.Prelude.{◌≡◌, ◌⊎◌, ◌==◌, ◌||◌, ⊤, ℕ, Bool, true, false, List, [], ◌∷◌, Option, Some, None}
+use Rattle.std.specs.Prelude.{◌≡◌, ◌⊎◌, ◌==◌, ◌||◌, ⊤, ℕ, Bool, true, false, List, [], ◌∷◌, Option, Some, None, Result}
+use Rattle.std.specs.Prelude.{Ok, Err}
 use Rattle.std.specs.List.{list_any}
 use Rattle.std.specs.Net.Grammar.{IsSocketText}
 use Rattle.std.specs.declared.net.socket_addr.SocketAddr.{SocketAddr}
@@ -16,24 +17,37 @@ use Rattle.pdpd.specs.declared.exit.Exit.{Exit}
 use Rattle.pdpd.specs.declared.exit.Exit.TheVariants as exit
 use Rattle.pdpd.specs.declared.fault.Fault.{Fault}
 use Rattle.pdpd.specs.declared.fault.Fault.TheVariants as variant
-use Rattle.pdpd.specs.declared.fault.Fault.TheVariants.{Address, TokenUnread, TokenBad, Store, Shut}
-use Rattle.pdpd.specs.declared.fault.Fault.TheVariants.{Socket, Connection, Clock, Output, Memory}
+use Rattle.pdpd.specs.declared.fault.Fault.TheVariants.{Address, Place, End, TokenUnread, TokenBad, Store, Shut}
+use Rattle.pdpd.specs.declared.fault.Fault.TheVariants.{Socket, Occupied, Taken, Unmade}
+use Rattle.pdpd.specs.declared.fault.Fault.TheVariants.{Input, Connection, Waiting, Clock, Output, Memory}
 use Rattle.pdpd.specs.declared.fault.StoreFault.TheVariants as store
 use Rattle.pdpd.specs.declared.serve.setting.Setting.{Setting}
 
 -- how the program ends by a fault
 abbrev pub exit_of_fault : Fault → Exit
 exit_of_fault Address = exit.Usage
+exit_of_fault Place = exit.Usage
+exit_of_fault End = exit.Usage
 exit_of_fault (variant.Setting _) = exit.Usage
 exit_of_fault TokenUnread = exit.Usage
 exit_of_fault TokenBad = exit.Usage
 exit_of_fault (Store _) = exit.Store
 exit_of_fault Shut = exit.Store
 exit_of_fault Socket = exit.Socket
+exit_of_fault Occupied = exit.Socket
+exit_of_fault Taken = exit.Socket
+exit_of_fault Unmade = exit.Socket
+exit_of_fault Input = exit.Socket
 exit_of_fault Connection = exit.Socket
+exit_of_fault Waiting = exit.Socket
 exit_of_fault Clock = exit.Socket
 exit_of_fault Output = exit.Failed
 exit_of_fault Memory = exit.Memory
+
+-- the program ends so by the fault that has ended serving
+abbrev pub EndsBy : Exit → Result (Unit {0}) Fault → Type 0
+EndsBy end (Ok _) = ⊥
+EndsBy end (Err fault) = end ≡ exit_of_fault fault
 
 -- ---- what each step that fails may end by: a fault of its own, or want of memory
 
@@ -97,6 +111,20 @@ IsOfServing Clock = ⊤
 IsOfServing Shut = ⊤
 IsOfServing Memory = ⊤
 IsOfServing _ = ⊥
+
+-- whether a fault comes of serving alone, once there is a front; want of memory comes before it, too
+abbrev pub comes_of_serving : Fault → Bool
+comes_of_serving Socket = true
+comes_of_serving Occupied = true
+comes_of_serving Taken = true
+comes_of_serving Unmade = true
+comes_of_serving Input = true
+comes_of_serving Output = true
+comes_of_serving Connection = true
+comes_of_serving Waiting = true
+comes_of_serving Clock = true
+comes_of_serving Shut = true
+comes_of_serving _ = false
 
 -- a fault of that setting, or want of memory
 abbrev pub IsOfSetting : Setting → Fault → Type 0

@@ -7,6 +7,7 @@ pub mod Exit
 pub mod Fault
 pub mod Halves
 pub mod Heading
+pub mod Listening
 pub mod Replay
 pub mod running
 pub mod Setting

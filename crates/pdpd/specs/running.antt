@@ -1,4 +1,5 @@
 -- How the program serves and replays, step by step: words that only contracts of private functions cite.
+pub mod Listening
 pub mod Opening
 pub mod Reading
 pub mod Replaying

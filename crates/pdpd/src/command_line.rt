@@ -2,6 +2,7 @@
 ghost use Rattle.std.specs.Prelude.{◌≡◌, map, string_bytes};
 ghost use Rattle.pdpd.specs.CommandLine as spec;
 
+use crate::fault::Asked;
 use std::alloc::Allocator;
 use xa_value::{TextRef, number_up_to};
 
@@ -22,6 +23,41 @@ pub struct ServeCommand<'a> {
     pub connections: usize,
 }
 
+impl ServeCommand<'_> {
+    /// What is served.
+    pub fn asked(&self) -> Asked<'_> {
+        Asked {
+            command: "serve",
+            database: self.database.as_str(),
+            address: self.address.as_str(),
+            token_file: self.token_file.as_str(),
+        }
+    }
+}
+
+/// What `pdpd listen` is asked to do.
+#[derive(Drop)]
+pub struct ListenCommand<'a> {
+    /// The path of the store.
+    pub database: TextRef<'a>,
+    /// Where connections are taken: an address, or `unix:` and a path.
+    pub address: TextRef<'a>,
+    /// The path of the file whose first line is the operator's token.
+    pub token_file: TextRef<'a>,
+}
+
+impl ListenCommand<'_> {
+    /// What is served.
+    pub fn asked(&self) -> Asked<'_> {
+        Asked {
+            command: "listen",
+            database: self.database.as_str(),
+            address: self.address.as_str(),
+            token_file: self.token_file.as_str(),
+        }
+    }
+}
+
 /// What the command line asks for.
 #[derive(Drop)]
 pub enum Command<'a> {
@@ -31,8 +67,10 @@ pub enum Command<'a> {
     Version,
     /// A transcript to be replayed, with that operator's token.
     Replay(TextRef<'a>),
-    /// Connections to be served.
+    /// Connections to be served, one after another.
     Serve(ServeCommand<'a>),
+    /// Connections to be served at once.
+    Listen(ListenCommand<'a>),
 }
 
 /// The number of connections that a word of the command line writes.
@@ -84,6 +122,13 @@ pub fn command_of<A: Allocator>(words: &[String<A>]) -> Option<Command<'_>>
         [_program, word] => option_of(word.as_str()),
         [_program, command, token] if command.as_str() == "replay" => {
             Some(Command::Replay(TextRef::new(token.as_str())))
+        }
+        [_program, command, database, address, token_file] if command.as_str() == "listen" => {
+            Some(Command::Listen(ListenCommand {
+                database: TextRef::new(database.as_str()),
+                address: TextRef::new(address.as_str()),
+                token_file: TextRef::new(token_file.as_str()),
+            }))
         }
         [
             _program,

@@ -1,9 +1,9 @@
-//! Why `pdpd serve` ends before all its connections are served, and the line that says what to do.
+//! Why `pdpd listen` or `pdpd serve` ends before its connections have ended, and the line that says what to
+//! do.
 ghost use Rattle.std.specs.Prelude.{◌≡◌, IsTrue};
 ghost use Rattle.pdpd.specs.Exit.{ends_serving};
 ghost use Rattle.pdpd.specs.Fault.{exit_of_fault};
 
-use crate::command_line::ServeCommand;
 use crate::exit::Exit;
 use crate::serve::setting::Setting;
 use std::alloc::{AllocError, AllocFailed};
@@ -77,6 +77,10 @@ impl StoreFault {
 pub enum Fault {
     /// The address is no IP address with a port.
     Address,
+    /// The address is none, and no path of a Unix socket.
+    Place,
+    /// PDPD_END is set to another word than `input`.
+    End,
     /// The variable of that setting is set to no number.
     Setting(Setting),
     /// The token file can't be read.
@@ -89,8 +93,18 @@ pub enum Fault {
     Shut,
     /// No connections can be taken at the address.
     Socket,
+    /// Something else than a socket stands at the path of a Unix socket.
+    Occupied,
+    /// Another program takes connections there.
+    Taken,
+    /// No Unix socket can be made there.
+    Unmade,
+    /// The end of standard input can't be watched.
+    Input,
     /// Taking a connection failed.
     Connection,
+    /// Waiting for connections failed.
+    Waiting,
     /// The clock can't be read.
     Clock,
     /// Standard output failed.
@@ -106,11 +120,11 @@ impl Fault {
         ensures serving { IsTrue (ends_serving result) }
     {
         match self {
-            Fault::Address | Fault::Setting(_) | Fault::TokenUnread | Fault::TokenBad => {
-                Exit::Usage
-            }
+            Fault::Address | Fault::Place | Fault::End => Exit::Usage,
+            Fault::Setting(_) | Fault::TokenUnread | Fault::TokenBad => Exit::Usage,
             Fault::Store(_) | Fault::Shut => Exit::Store,
-            Fault::Socket | Fault::Connection | Fault::Clock => Exit::Socket,
+            Fault::Socket | Fault::Occupied | Fault::Taken | Fault::Unmade => Exit::Socket,
+            Fault::Input | Fault::Connection | Fault::Waiting | Fault::Clock => Exit::Socket,
             Fault::Output => Exit::Failed,
             Fault::Memory => Exit::Memory,
         }
@@ -120,6 +134,9 @@ impl Fault {
     fn advice(self) -> &'static str {
         match self {
             Fault::Address => "not an IP address, `:` and a port, such as 127.0.0.1:8080",
+            Fault::Place =>
+                "not an IP address, `:` and a port, such as 127.0.0.1:8080, nor `unix:` and a path of up to 107 bytes",
+            Fault::End => "PDPD_END is to be `input`, or not set",
             Fault::Setting(setting) => setting.advice(),
             Fault::TokenUnread =>
                 "can't be read; its first line is to be the operator's token (8 to 64 visible ASCII characters)",
@@ -129,7 +146,16 @@ impl Fault {
                 "writing or reading it failed, and it can't go on; look after the disk, then start the program again",
             Fault::Socket =>
                 "no connections can be taken there; another program may have the port, or this machine another address",
+            Fault::Occupied =>
+                "something else than a socket stands there; name another path, or move it away",
+            Fault::Taken =>
+                "another program takes connections there; stop that one first, or name another path",
+            Fault::Unmade =>
+                "no socket can be made there; its folder has to be there, and this user has to be allowed to write in it",
+            Fault::Input =>
+                "the end of standard input can't be watched (PDPD_END); it is to be a pipe, a socket or a terminal",
             Fault::Connection => "taking a connection failed; start the program again",
+            Fault::Waiting => "waiting for connections failed; start the program again",
             Fault::Clock => "the clock can't be read, or is before 1970 or after 9999; set it",
             Fault::Output => "standard output failed",
             Fault::Memory => "out of memory",
@@ -137,12 +163,15 @@ impl Fault {
     }
 
     /// What the fault is about: a path or an address of the command line.
-    fn subject<'a>(self, serving: &'a ServeCommand<'_>) -> Option<&'a str> {
+    fn subject<'a>(self, asked: Asked<'a>) -> Option<&'a str> {
         match self {
-            Fault::TokenUnread | Fault::TokenBad => Some(serving.token_file.as_str()),
-            Fault::Store(_) | Fault::Shut => Some(serving.database.as_str()),
-            Fault::Address | Fault::Socket | Fault::Connection => Some(serving.address.as_str()),
-            Fault::Setting(_) | Fault::Clock | Fault::Output | Fault::Memory => None,
+            Fault::TokenUnread | Fault::TokenBad => Some(asked.token_file),
+            Fault::Store(_) | Fault::Shut => Some(asked.database),
+            Fault::Address | Fault::Place | Fault::Socket | Fault::Occupied => Some(asked.address),
+            Fault::Taken | Fault::Unmade => Some(asked.address),
+            Fault::Connection | Fault::Waiting => Some(asked.address),
+            Fault::Setting(_) | Fault::End | Fault::Input | Fault::Clock => None,
+            Fault::Output | Fault::Memory => None,
         }
     }
 }
@@ -189,21 +218,76 @@ impl fmt::Display for OneLine<'_> {
     }
 }
 
+/// A file or an address that the command line names, at the beginning of a line about it.
+#[derive(Clone, Copy)]
+pub struct Named<'a> {
+    /// The command.
+    pub command: &'a str,
+    /// The file's path, or the address.
+    pub path: &'a str,
+}
+
+impl fmt::Display for Named<'_> {
+    fn fmt<W: fmt::Write>(&self, f: &mut fmt::Formatter<W>) -> fmt::Result {
+        write!(f, "pdpd {}: {}", self.command, OneLine { text: self.path })
+    }
+}
+
+/// What the program was asked to serve.
+#[derive(Clone, Copy)]
+pub struct Asked<'a> {
+    /// By which command.
+    pub command: &'a str,
+    /// The path of the store.
+    pub database: &'a str,
+    /// Where connections are taken.
+    pub address: &'a str,
+    /// The path of the file whose first line is the operator's token.
+    pub token_file: &'a str,
+}
+
+impl<'a> Asked<'a> {
+    /// The store's file.
+    pub fn database(self) -> Named<'a> {
+        Named {
+            command: self.command,
+            path: self.database,
+        }
+    }
+
+    /// The token file.
+    pub fn token_file(self) -> Named<'a> {
+        Named {
+            command: self.command,
+            path: self.token_file,
+        }
+    }
+
+    /// The address.
+    pub fn address(self) -> Named<'a> {
+        Named {
+            command: self.command,
+            path: self.address,
+        }
+    }
+}
+
 /// The line that tells a fault.
 #[derive(Drop)]
 pub struct FaultLine<'a> {
-    /// What the program was asked to do.
-    pub serving: &'a ServeCommand<'a>,
+    /// What the program was asked to serve.
+    pub asked: Asked<'a>,
     /// Why it ends.
     pub fault: Fault,
 }
 
 impl fmt::Display for FaultLine<'_> {
     fn fmt<W: fmt::Write>(&self, f: &mut fmt::Formatter<W>) -> fmt::Result {
+        let command = self.asked.command;
         let advice = self.fault.advice();
-        match self.fault.subject(self.serving) {
-            Some(text) => write!(f, "pdpd serve: {}: {advice}", OneLine { text }),
-            None => write!(f, "pdpd serve: {advice}"),
+        match self.fault.subject(self.asked) {
+            Some(path) => write!(f, "{}: {advice}", Named { command, path }),
+            None => write!(f, "pdpd {command}: {advice}"),
         }
     }
 }

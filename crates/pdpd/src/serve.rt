@@ -1,33 +1,35 @@
 //! `pdpd serve`: connections, one after another.
 ghost use Rattle.std.specs.Prelude.{◌≡◌, ◌↔◌, IfErr, IfOk, MatchResult};
-ghost use Rattle.std.specs.Prelude.{OnOk, Err, None, Some};
+ghost use Rattle.std.specs.Prelude.{false, Err, None, Some};
 ghost use Rattle.std.specs.Net.Grammar.{IsSocketText, Parses};
 ghost use Rattle.sqlite.specs.Files.{over_files};
 ghost use Rattle.sqlite.specs.WalFiles.{image_at};
-ghost use Rattle.xa_server.specs.Decisions.{nothing_cached};
 ghost use Rattle.xa_server.specs.Driven.{seen_by};
-ghost use Rattle.xa_server.specs.Front.{FrontState, front_state};
+ghost use Rattle.xa_server.specs.Front.{front_is_clean, front_state};
 ghost use Rattle.xa_server.specs.Lines.{none_open};
 ghost use Rattle.xa_store.specs.Keeper.{IsSound};
 ghost use Rattle.xa_store.specs.KeeperReading.{custody_by};
 ghost use Rattle.pdpd.specs.declared.fault.Fault.TheVariants.{Address};
 ghost use Rattle.pdpd.specs.Beginning.{Begins, known_text};
-ghost use Rattle.pdpd.specs.Connections.{AreIsolated, IsConnectionServed};
-ghost use Rattle.pdpd.specs.Fault.{IsNoAddress, IsOfConnections, IsOfFiles, IsOfServing, fault_of_end};
-ghost use Rattle.pdpd.specs.running.Serving.{Serves, ServesOne, WasSound};
+ghost use Rattle.pdpd.specs.Connections.{ServesFrom, at_clock};
+ghost use Rattle.pdpd.specs.Fault.{IsNoAddress, IsOfConnections, IsOfFiles, IsOfServing, comes_of_serving};
+ghost use Rattle.pdpd.specs.Fault.{fault_of_end};
+ghost use Rattle.pdpd.specs.running.Serving.{Serves, ServesConnection, ServesNext, WasSound};
 
-mod listening;
+pub(crate) mod listening;
+pub(crate) mod served;
 pub(crate) mod setting;
-mod settings;
+pub(crate) mod settings;
 mod token;
-mod wall_clock;
+mod unknown;
+pub(crate) mod wall_clock;
 
 use crate::command_line::ServeCommand;
-use crate::fault::Fault;
+use crate::fault::{Asked, Fault};
 use crate::serve::listening::Listening;
+use crate::serve::served::Serving;
 use crate::serve::settings::{Settings, front_of_tables};
 use crate::serve::token::operator_of_file;
-use crate::serve::wall_clock::WallClock;
 use crate::store::{FileRecords, records_in_file};
 use sqlite::Start;
 use std::fs::OpenFile;
@@ -63,10 +65,9 @@ fn serve_connection<R: Records, I: Reader, W: Writer, C: Clock>(
 ) -> Result<(), Fault>
     requires { front.old.lines ≡ none_open }
     ensures served { let seen = seen_by R.custody W.Writer C.Clock in
-        OnOk result ((R.custody front.new.server.records).sound
-        → IsConnectionServed (front_state R.custody front.old) (front_state R.custody front.new)
+        ServesConnection R.custody result front.old front.new
         (seen (I.remaining reader.old) (I.reads reader.old) front.old.server writer.old clock.old)
-        (seen (I.remaining reader.new) (I.reads reader.new) front.new.server writer.new clock.new)) }
+        (seen (I.remaining reader.new) (I.reads reader.new) front.new.server writer.new clock.new) }
     ensures closed { front.new.lines ≡ none_open }
     ensures sound { WasSound R.custody front.old front.new }
     ensures err { IfErr result IsOfConnections }
@@ -81,15 +82,14 @@ fn serve_connection<R: Records, I: Reader, W: Writer, C: Clock>(
 }
 
 /// Takes a connection and serves it.
-#[tactic(auto, using(crate::proofs::ServingLemmas::served_one))]
 fn serve_next<R: Records, C: Clock>(
     front: &mut Front<R>,
     listening: &Listening,
     clock: &mut C,
 ) -> Result<(), Fault>
     requires { front.old.lines ≡ none_open }
-    ensures served { OnOk result ((R.custody front.new.server.records).sound
-        → ServesOne (front_state R.custody front.old) (front_state R.custody front.new)) }
+    ensures served { ServesNext R.custody result
+        (at_clock front.old (C.told clock.old)) (at_clock front.new (C.told clock.new)) }
     ensures closed { front.new.lines ≡ none_open }
     ensures sound { WasSound R.custody front.old front.new }
     ensures err { IfErr result IsOfConnections }
@@ -100,7 +100,6 @@ fn serve_next<R: Records, C: Clock>(
 
 /// Serves that many connections, one after another. Once the last has come, no more are taken: who comes
 /// later is refused at once.
-#[tactic(auto, using(crate::proofs::ServingLemmas::served_none, crate::proofs::ServingLemmas::served_one, crate::proofs::ServingLemmas::served_more, crate::proofs::ServingLemmas::served_last))]
 fn serve_connections<R: Records, C: Clock>(
     front: &mut Front<R>,
     listening: Listening,
@@ -108,8 +107,8 @@ fn serve_connections<R: Records, C: Clock>(
     connections: usize,
 ) -> Result<(), Fault>
     requires { front.old.lines ≡ none_open }
-    ensures served { OnOk result ((R.custody front.new.server.records).sound
-        → Serves connections (front_state R.custody front.old) (front_state R.custody front.new)) }
+    ensures served { Serves R.custody connections result
+        (at_clock front.old (C.told clock.old)) (at_clock front.new (C.told clock.new)) }
     ensures closed { front.new.lines ≡ none_open }
     ensures sound { WasSound R.custody front.old front.new }
     ensures err { IfErr result IsOfConnections }
@@ -126,18 +125,18 @@ fn serve_connections<R: Records, C: Clock>(
 }
 
 /// Takes connections at the address, says so, and serves them.
-#[tactic(auto, using(crate::proofs::ServingLemmas::connections_are_served))]
-fn serve_at<R: Records>(
+#[tactic(auto, using(crate::proofs::ServingLemmas::connections_are_served, crate::proofs::ServingLemmas::served_unbegun))]
+fn serve_at<R: Records, C: Clock>(
     rt: &HostRuntime,
     front: &mut Front<R>,
     address: SocketAddr,
     serving: &ServeCommand<'_>,
     idle: usize,
+    clock: &mut C,
 ) -> Result<(), Fault>
     requires { front.old.lines ≡ none_open }
-    ensures served { OnOk result ((R.custody front.new.server.records).sound
-        → Serves serving.now.connections
-        (front_state R.custody front.old) (front_state R.custody front.new)) }
+    ensures served { Serves R.custody serving.now.connections result
+        (at_clock front.old (C.told clock.old)) (at_clock front.new (C.told clock.new)) }
     ensures sound { WasSound R.custody front.old front.new }
     ensures err { IfErr result IsOfServing }
 {
@@ -148,16 +147,11 @@ fn serve_at<R: Records>(
         return Err(Fault::Output);
     }
     let listening = Listening::new(rt, listener, idle);
-    serve_connections(
-        front,
-        listening,
-        &mut WallClock::new(rt),
-        serving.connections,
-    )
+    serve_connections(front, listening, clock, serving.connections)
 }
 
 /// The address that the word of the command line writes.
-fn address_of(word: &str) -> Result<SocketAddr, Fault>
+pub(crate) fn address_of(word: &str) -> Result<SocketAddr, Fault>
     ensures address { Parses IsSocketText word.now result }
     ensures err { IfErr result (λ fault. fault ≡ Address) }
 {
@@ -166,47 +160,45 @@ fn address_of(word: &str) -> Result<SocketAddr, Fault>
 
 /// The front of a server over the store in the file, for the operator whose token is the first line
 /// of the token file, which was opened.
-fn front_of_files<S: Start, F: OpenFile + Read + Drop>(
+pub(crate) fn front_of_files<S: Start, F: OpenFile + Read + Drop>(
     rt: &HostRuntime,
-    serving: &ServeCommand<'_>,
+    asked: Asked<'_>,
     settings: Settings,
     token: io::Result<F>,
     start: S,
 ) -> Result<Front<FileRecords<S>>, Fault>
-    ensures begins { IfOk result (λ front. IsSound over_files front.server.records
-        → Begins (image_at S.Start) (known_text F.remaining token)
+    ensures begins { IfOk result (λ front. front_is_clean (custody_by over_files) front
+        → Begins (IsSound over_files front.server.records) (image_at S.Start) (known_text F.remaining token)
         (front_state (custody_by over_files) front)) }
     ensures closed { IfOk result (λ front. front.lines ≡ none_open) }
     ensures err { IfErr result IsOfFiles }
 {
-    let operator = operator_of_file(rt, serving.token_file.as_str(), token)?;
-    let records = records_in_file(rt, serving.database.as_str(), settings.sums, start)?;
+    let operator = operator_of_file(rt, asked.token_file(), token)?;
+    let records = records_in_file(rt, asked.database(), settings.sums, start)?;
     front_of_tables(rt.alloc(), records, operator, settings)
 }
 
 /// Serves connections over the store in the file, for the operator whose token is the first line of the
-/// token file. Gives the front back as the connections have left it. `token` is the token file as it was
-/// opened, and `start` stands for what the store's two files hold: no clause ties either to its path. Faults
-/// are looked for in this order: the address, PDPD_WORK, PDPD_REPLY, PDPD_READING, PDPD_VIEWS, PDPD_IDLE,
+/// token file. Fails with why there was no front to serve with. `token` is the token file as it was opened,
+/// and `start` stands for what the store's two files hold: no clause ties either to its path. Faults are
+/// looked for in this order: the address, PDPD_WORK, PDPD_REPLY, PDPD_READING, PDPD_VIEWS, PDPD_IDLE,
 /// PDPD_SUMS, the token file, the store, the socket.
-#[tactic(auto, using(crate::proofs::ServingLemmas::settings_not_address, crate::proofs::ServingLemmas::files_not_address, crate::proofs::ServingLemmas::serving_not_address, crate::proofs::ServingLemmas::address_found))]
-pub fn serve<S: Start, F: OpenFile + Read + Drop>(
+#[tactic(auto, using(crate::proofs::ServingLemmas::settings_not_address, crate::proofs::ServingLemmas::files_not_address, crate::proofs::ServingLemmas::address_found, crate::proofs::ServingLemmas::settings_before, crate::proofs::ServingLemmas::files_before))]
+pub fn serve<S: Start, F: OpenFile + Read + Drop, C: Clock>(
     rt: &HostRuntime,
     serving: &ServeCommand<'_>,
     token: io::Result<F>,
     start: S,
-) -> Result<Front<FileRecords<S>>, Fault>
-    ensures served { IfOk result (λ front. IsSound over_files front.server.records
-        → (old : FrontState) × Begins (image_at S.Start) (known_text F.remaining token) old
-        × AreIsolated serving.now.connections old (front_state (custody_by over_files) front)) }
+    clock: &mut C,
+) -> Result<Serving<FileRecords<S>>, Fault>
+    ensures served { IfOk result (λ it. ServesFrom (image_at S.Start) (known_text F.remaining token)
+        (C.told clock.old) serving.now.connections it.result (at_clock it.front (C.told clock.new))) }
+    ensures before { IfErr result (λ fault. comes_of_serving fault ≡ false) }
     ensures address { (result ≡ Err Address) ↔ IsNoAddress serving.now.address }
 {
     let address = address_of(serving.address.as_str())?;
     let settings = Settings::read(rt)?;
-    let mut front = front_of_files(rt, serving, settings, token, start)?;
-    // For the proof: by no `?`, whose exit drops the front; the search for that exit's clause doesn't end.
-    match serve_at(rt, &mut front, address, serving, settings.idle) {
-        Ok(()) => Ok(front),
-        Err(fault) => Err(fault),
-    }
+    let mut front = front_of_files(rt, serving.asked(), settings, token, start)?;
+    let result = serve_at(rt, &mut front, address, serving, settings.idle, clock);
+    Ok(Serving { front, result })
 }

@@ -1,4 +1,4 @@
-//! The store of `pdpd serve`, and that of `pdpd replay`.
+//! The store that `pdpd listen` and `pdpd serve` serve, and that of `pdpd replay`.
 ghost use Rattle.std.specs.Prelude.{◌≡◌, ◌≢◌, ◌⊎◌, false, IfErr, IfOk, IsTrue, MatchResult};
 ghost use Rattle.sqlite.specs.Closing.{IsCopied};
 ghost use Rattle.sqlite.specs.Files.{file_state, over_files};
@@ -21,7 +21,7 @@ mod foreign;
 mod halves;
 
 use crate::exit::Exit;
-use crate::fault::{Fault, OneLine, StoreFault};
+use crate::fault::{Fault, Named, StoreFault};
 use crate::mode::lets_others_read;
 use crate::store::closed::ClosedStore;
 use crate::store::foreign::{DropsForeign, OBJECTS, Objects, objects_in};
@@ -90,35 +90,34 @@ fn fault_of_tables(error: OpenError) -> Fault
 }
 
 /// Warns, by a line on standard error, of a file without its log.
-fn warn_of_log(rt: &HostRuntime, path: &str) {
+fn warn_of_log(rt: &HostRuntime, file: Named<'_>) {
     let _ = eprintln!(rt;
-        "pdpd serve: {}: its log isn't there (-wal); if the file wasn't closed, by `pdpd` or by SQLite, the last changes are missing",
-        OneLine { text: path }
+        "{file}: its log isn't there (-wal); if the file wasn't closed, by `pdpd` or by SQLite, the last changes are missing"
     );
 }
 
 /// Looks whether both halves of a store are there, its file and its log, or neither. No store is begun
 /// over a half.
-fn look_at_halves(rt: &HostRuntime, path: &str) -> Result<(), Fault>
+fn look_at_halves(rt: &HostRuntime, file: Named<'_>) -> Result<(), Fault>
     ensures { IfErr result IsOfStore }
 {
-    match halves_at(rt, path)? {
+    match halves_at(rt, file.path)? {
         Halves::Whole => Ok(()),
         Halves::LogAlone => Err(Fault::Store(StoreFault::LogAlone)),
         Halves::FileAlone => Err(Fault::Store(StoreFault::FileAlone)),
         Halves::NoLog => {
-            warn_of_log(rt, path);
+            warn_of_log(rt, file);
             Ok(())
         }
     }
 }
 
 /// Warns, by a line on standard error, of a file that others can read.
-fn warn_of_readers(rt: &HostRuntime, path: &str) {
-    if matches!(fs::metadata(rt, path), Ok(found) if lets_others_read(found.permissions().mode())) {
+fn warn_of_readers(rt: &HostRuntime, file: Named<'_>) {
+    if matches!(fs::metadata(rt, file.path), Ok(found) if lets_others_read(found.permissions().mode()))
+    {
         let _ = eprintln!(rt;
-            "pdpd serve: {}: others than its owner can read what is kept; chmod 600, and its log too (-wal)",
-            OneLine { text: path }
+            "{file}: others than its owner can read what is kept; chmod 600, and its log too (-wal)"
         );
     }
 }
@@ -154,8 +153,8 @@ fn with_only_our_tables<T: Alter + Drop>(records: SqlRecords<T>) -> Result<SqlRe
 fn records_of<T: Alter + Drop>(alloc: Global, conn: Connection<T>) -> Result<SqlRecords<T>, Fault>
     ensures keeper { IfOk result (IsKeeperOver T.Store (state T.Store conn)) }
     ensures sound { IfOk result (λ k. IsTrue (state T.Store k.conn).is_open → IsSound T.Store k) }
-    ensures clean { IfOk result (λ k. IsTrue (state T.Store k.conn).is_open
-        → HasCleanDisk (state T.Store k.conn) × HasCleanDisk (state T.Store conn)) }
+    ensures clean { IfOk result (λ k. HasCleanDisk (state T.Store k.conn)
+        → HasCleanDisk (state T.Store conn)) }
     ensures err { IfErr result IsOfStore }
 {
     match SqlRecords::open(alloc, conn) {
@@ -166,11 +165,10 @@ fn records_of<T: Alter + Drop>(alloc: Global, conn: Connection<T>) -> Result<Sql
 
 /// Names, by a line on standard error, what stands in a store beside the program's tables, by the statements
 /// that drop it.
-fn name_foreign<T: Alter + Drop>(rt: &HostRuntime, path: &str, mut conn: Connection<T>) {
+fn name_foreign<T: Alter + Drop>(rt: &HostRuntime, file: Named<'_>, mut conn: Connection<T>) {
     if let Ok(rows) = conn.query_all(OBJECTS, &[]) {
         let _ = eprintln!(rt;
-            "pdpd serve: {}: beside the program's tables stands what isn't the program's; what removes it:{}",
-            OneLine { text: path },
+            "{file}: beside the program's tables stands what isn't the program's; what removes it:{}",
             DropsForeign {
                 rows: rows.as_slice()
             }
@@ -182,20 +180,20 @@ fn name_foreign<T: Alter + Drop>(rt: &HostRuntime, path: &str, mut conn: Connect
 /// and not these, or others beside these, is refused before anything is written.
 fn records_over<T: Alter + Drop>(
     rt: &HostRuntime,
-    path: &str,
+    file: Named<'_>,
     conn: Connection<T>,
 ) -> Result<SqlRecords<T>, Fault>
     ensures keeper { IfOk result (IsKeeperOver T.Store (state T.Store conn)) }
     ensures sound { IfOk result (λ k. IsTrue (state T.Store k.conn).is_open → IsSound T.Store k) }
-    ensures clean { IfOk result (λ k. IsTrue (state T.Store k.conn).is_open
-        → HasCleanDisk (state T.Store k.conn) × HasCleanDisk (state T.Store conn)) }
+    ensures clean { IfOk result (λ k. HasCleanDisk (state T.Store k.conn)
+        → HasCleanDisk (state T.Store conn)) }
     ensures err { IfErr result IsOfStore }
 {
     match objects_in(conn.schema()) {
         Objects::Own => records_of(rt.alloc(), conn),
         Objects::OfAnother => Err(Fault::Store(StoreFault::Schema)),
         Objects::Foreign => {
-            name_foreign(rt, path, conn);
+            name_foreign(rt, file, conn);
             Err(Fault::Store(StoreFault::Foreign))
         }
     }
@@ -206,21 +204,21 @@ fn records_over<T: Alter + Drop>(
 /// a log that isn't there, and of a file that others can read.
 pub fn records_in_file<S: Start>(
     rt: &HostRuntime,
-    path: &str,
+    file: Named<'_>,
     new_has_sums: bool,
     start: S,
 ) -> Result<FileRecords<S>, Fault>
     ensures sound { IfOk result (λ k. IsTrue (file_state k.conn).is_open → IsSound over_files k) }
-    ensures keeper { IfOk result (λ k. IsTrue (file_state k.conn).is_open
+    ensures keeper { IfOk result (λ k. HasCleanDisk (file_state k.conn)
         → IsKeeperFrom (image_at S.Start) new_has_sums k) }
     ensures err { IfErr result IsOfStore }
 {
-    look_at_halves(rt, path)?;
-    make_file(rt, path);
-    warn_of_readers(rt, path);
-    match Connection::open_from(rt, path, new_has_sums, start) {
-        Ok(conn) => records_over(rt, path, conn),
-        Err((error, _)) => Err(fault_at(rt, path, fault_of_file(error))),
+    look_at_halves(rt, file)?;
+    make_file(rt, file.path);
+    warn_of_readers(rt, file);
+    match Connection::open_from(rt, file.path, new_has_sums, start) {
+        Ok(conn) => records_over(rt, file, conn),
+        Err((error, _)) => Err(fault_at(rt, file.path, fault_of_file(error))),
     }
 }
 

@@ -1,53 +1,19 @@
--- The messages of a stream that are answered, one after another, and the bytes that are read and written, one piece after another.
-use Rattle.std.proofs.Common.{◌≡◌, ℕ, List, [], ◌∷◌, ◌++◌, refl, sym, ap, subst, ◌∙◌, Option, Some, None}
-use Rattle.std.specs.Io.KnownBytes.{Appends, Consumes, Keeps}
+-- The messages of a stream that are answered, one after another.
+use Rattle.std.proofs.Common.{◌≡◌, ℕ, List, [], ◌∷◌, ◌++◌, refl, sym, ap, subst}
 use Rattle.std.specs.Prelude.{ℤ}
 use Rattle.std.proofs.lemmas.List.{append-nil, append_assoc, map-append}
 use Rattle.xa_http.specs.declared.message.Message.{Message}
-use Rattle.xa_http.specs.declared.fault.SessionFault.{SessionFault}
 use Rattle.xa_http.specs.Messages.{Cuts, IsFirst}
 use Rattle.xa_http.specs.Stream.{Stream, fed}
 use Rattle.xa_http.proofs.LawLemmas.{feeds_on}
-use Rattle.xa_server.specs.Alone.{Event}
+use Rattle.xa_server.specs.Alone.{Event, message_of}
 use Rattle.xa_server.specs.declared.replies.Reply.{Reply}
-use Rattle.xa_server.specs.Connection.{AreAnswered, HasMessages, IsOneRun, Serves, messages_of, moments_of}
+use Rattle.xa_server.specs.Connection.{AreAnswered, IsOneRun, Serves, messages_of}
 use Rattle.xa_server.specs.Decisions.{DecisionsModel}
 use Rattle.xa_server.specs.Served.{IsRun}
 use Rattle.xa_server.specs.Work.{IsWorkOfRun}
 use Rattle.xa_server.specs.World.{ServerState, World}
 use Rattle.xa_server.proofs.IsolationLemmas.{headline, isolated}
-
--- ---- bytes that are written, bytes that are read, moments that are told
-
-pub appends_none : (a : Option (List ℕ)) → Appends a a []
-appends_none None = tt
-appends_none (Some x) = sym (append-nil x)
-
-pub appends_trans : (a b c : Option (List ℕ)) (bs cs : List ℕ) → Appends a b bs → Appends b c cs → Appends a c (bs ++ cs)
-appends_trans None b c bs cs p q = tt
-appends_trans (Some x) None c bs cs p q = absurd p
-appends_trans (Some x) (Some y) None bs cs p q = absurd q
-appends_trans (Some x) (Some y) (Some z) bs cs p q = q ∙ ap (λ (l : List ℕ). l ++ cs) p ∙ append_assoc x bs cs
-
-pub consumes_none : (a : Option (List ℕ)) → Consumes a a []
-consumes_none None = tt
-consumes_none (Some x) = refl
-
-pub consumes_trans : (a b c : Option (List ℕ)) (bs cs : List ℕ) → Consumes a b bs → Consumes b c cs → Consumes a c (bs ++ cs)
-consumes_trans None b c bs cs p q = tt
-consumes_trans (Some x) None c bs cs p q = absurd p
-consumes_trans (Some x) (Some y) None bs cs p q = absurd q
-consumes_trans (Some x) (Some y) (Some z) bs cs p q = p ∙ ap (λ (l : List ℕ). bs ++ l) q ∙ sym (append_assoc bs cs z)
-
-pub appends_kept : (a b : Option (List ℕ)) → Keeps a b → Appends a b []
-appends_kept None b kept = tt
-appends_kept (Some x) None kept = absurd kept
-appends_kept (Some x) (Some y) kept = kept ∙ sym (append-nil x)
-
-pub consumes_kept : (a b : Option (List ℕ)) → Keeps a b → Consumes a b []
-consumes_kept None b kept = tt
-consumes_kept (Some x) None kept = absurd kept
-consumes_kept (Some x) (Some y) kept = sym kept
 
 -- ---- messages that are taken after others
 
@@ -55,16 +21,12 @@ pub cuts_trans : (a b c : Stream) (ms ns : List Message) → Cuts a ms b → Cut
 cuts_trans a b c [] ns same later = subst (λ (s : Stream). Cuts s ns c) (sym same) later
 cuts_trans a b c (m ∷ ms) ns first later = (first.0, first.1, cuts_trans first.0 b c ms ns first.2 later)
 
-pub has_after : (a b c : Stream) (ms ns : List Message) (fault : Option SessionFault) → Cuts a ms b → HasMessages b ns fault c → HasMessages a (ms ++ ns) fault c
-has_after a b c ms ns fault cut has = (has.0, cuts_trans a b has.0 ms ns cut has.1, has.2)
-
 -- ---- a run after another
 
 pub run_trans : (a b c : World) (es fs : List Event) (rs qs : List Reply) → IsRun a es rs b → IsRun b fs qs c → IsRun a (es ++ fs) (rs ++ qs) c
 run_trans a b c [] fs [] qs same later = subst (λ (w : World). IsRun w fs qs c) same later
 run_trans a b c (e ∷ es) fs (r ∷ rs) qs first later = (first.0, first.1, run_trans first.0 b c es fs rs qs first.2 later)
-run_trans a b c [] fs (r ∷ rs) qs none later = absurd none
-run_trans a b c (e ∷ es) fs [] qs none later = absurd none
+run_trans a b c _ fs _ qs none later = absurd none
 
 pub work_trans : (a b c : World) (k l m : DecisionsModel) (es fs : List Event) (rs qs : List Reply)
     → IsWorkOfRun a k es rs b l → IsWorkOfRun b l fs qs c m → IsWorkOfRun a k (es ++ fs) (rs ++ qs) c m
@@ -72,16 +34,14 @@ work_trans a b c k l m [] fs [] qs same later =
     subst (λ (w : World). IsWorkOfRun w k fs qs c m) same.0 (subst (λ (t : DecisionsModel). IsWorkOfRun b t fs qs c m) same.1 later)
 work_trans a b c k l m (e ∷ es) fs (r ∷ rs) qs first later =
     (first.0, first.1, first.2, first.3, work_trans first.0 b c first.1 l m es fs rs qs first.4 later)
-work_trans a b c k l m [] fs (r ∷ rs) qs none later = absurd none
-work_trans a b c k l m (e ∷ es) fs [] qs none later = absurd none
+work_trans a b c k l m _ fs _ qs none later = absurd none
 
 -- a run, without its work
 without_work : (old new : World) (held left : DecisionsModel) (events : List Event) (replies : List Reply)
     → IsWorkOfRun old held events replies new left → IsRun old events replies new
 without_work old new held left [] [] run = run.0
 without_work old new held left (e ∷ events) (r ∷ replies) run = (run.0, run.2, without_work run.0 new run.1 left events replies run.4)
-without_work old new held left [] (r ∷ replies) run = absurd run
-without_work old new held left (e ∷ events) [] run = absurd run
+without_work old new held left _ _ none = absurd none
 
 -- so the headline holds of it
 one_run : (a b : ServerState) (es : List Event) (rs : List Reply) → IsWorkOfRun a.world a.decisions es rs b.world b.decisions → IsOneRun a b es rs
@@ -108,12 +68,6 @@ runs_on a b c es fs rs qs first later =
 
 -- ---- answers, one after another
 
-messages_trans : (es fs : List Event) → messages_of (es ++ fs) ≡ messages_of es ++ messages_of fs
-messages_trans es fs = map-append (λ (e : Event). e.1) es fs
-
-pub moments_trans : (es fs : List Event) → moments_of (es ++ fs) ≡ moments_of es ++ moments_of fs
-moments_trans es fs = map-append (λ (e : Event). e.0) es fs
-
 pub fed_twice : (s : Stream) (one two : List ℕ) → fed (fed s one) two ≡ fed s (one ++ two)
 fed_twice s one two = λ i. record { held = append_assoc s.held one two i; ended = s.ended }
 
@@ -131,7 +85,7 @@ one_answered moment message reply a b s t first serves = record { messages = (t,
 pub answered_on : (a b c : ServerState) (s t u : Stream) (es fs : List Event) (rs qs : List Reply) → AreAnswered a b s t es rs → AreAnswered b c t u fs qs
     → AreAnswered a c s u (es ++ fs) (rs ++ qs)
 answered_on a b c s t u es fs rs qs first later = record {
-  messages = subst (λ (ms : List Message). Cuts s ms u) (sym (messages_trans es fs))
+  messages = subst (λ (ms : List Message). Cuts s ms u) (sym (map-append message_of es fs))
       (cuts_trans s t u (messages_of es) (messages_of fs) first.messages later.messages);
   run = runs_on a b c es fs rs qs first.run later.run;
 }

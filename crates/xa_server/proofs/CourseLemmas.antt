@@ -1,188 +1,200 @@
--- A connection from its first byte to its end: what it holds is answered, and then what is read, one piece after another.
-use Rattle.std.proofs.Common.{◌≡◌, ◌≢◌, ℕ, ◌+◌, ◌-◌, ◌<◌, ◌≤◌, arith, Bool, true, false, List, [], ◌∷◌, length, refl, sym, ap, subst, ◌∙◌, Option, Some, None, Result, Ok, Err, inl, inr}
+-- A connection from its first byte to its end: what it holds is answered, and then what is read, a piece after another.
+use Rattle.std.proofs.Common.{◌≡◌, ◌≢◌, ℕ, ◌+◌, ◌-◌, IsTrue, ◌<◌, ◌≤◌, arith, Bool, true, false, List, [], ◌∷◌, length}
+use Rattle.std.proofs.Common.{length-append, refl, sym, ap, subst, ◌∙◌, Option, Some, None, Result, Ok, Err, inr}
 use Rattle.std.specs.Io.KnownBytes.{Consumes, Keeps, ReadConsumes}
 use Rattle.std.specs.IoError.{error_kind}
 use Rattle.std.specs.declared.io.Error.{Error}
 use Rattle.std.specs.declared.io.ErrorKind.TheVariants.{Interrupted}
+use Rattle.std.proofs.KnownBytes.{Consumes-kept, Consumes-nil}
 use Rattle.std.proofs.lemmas.List.{append-nil}
 use Rattle.std.proofs.lemmas.List.Elements.{All-nil, All-cons}
 use Rattle.xa_http.specs.Stream.{Stream, fed}
+use Rattle.xa_http.proofs.SizeLemmas.{waiting_short}
+use Rattle.xa_records.specs.Keeper.{Custody}
+use Rattle.xa_server.specs.Alone.{Event}
+use Rattle.xa_server.specs.Connection.{TakesPiece}
 use Rattle.xa_server.specs.declared.drive_end.DriveEnd.{DriveEnd}
-use Rattle.xa_server.specs.declared.drive_end.DriveEnd.TheVariants.{Ended, ReadFault, WriteFault, NoClock, TooManyReads, Memory, Shut}
+use Rattle.xa_server.specs.declared.drive_end.DriveEnd.TheVariants.{Ended, ReadFault, TooManyReads, Memory, Shut}
+use Rattle.xa_server.specs.declared.front.Front.{Front}
 use Rattle.xa_server.specs.declared.front_error.FrontError.{FrontError}
-use Rattle.xa_server.specs.Connection.{AreAnswered, TakesPiece}
+use Rattle.xa_server.specs.declared.front_error.FrontError.TheVariants as refused
 use Rattle.xa_server.specs.declared.lines.Conn.{Conn}
-use Rattle.xa_server.specs.Driven.{HasAnswered, IsConnection, IsConnectionOf, IsDrivenWithin, IsWaiting, Known, ReadsLast, Situation}
-use Rattle.xa_server.specs.Front.{FrontState}
-use Rattle.xa_server.specs.handling.Driving.{IsNextAnswered, IsReadAs, Reaches, ReadsOnce}
+use Rattle.xa_server.specs.declared.replies.Reply.{Reply}
+use Rattle.xa_server.specs.Driven.{Ends, HasAnswered, IsConnection, IsConnectionOf, IsDrivenWithin, IsWaiting, Known}
+use Rattle.xa_server.specs.Driven.{ReadsLast, Situation}
+use Rattle.xa_server.specs.handling.Driving.{HasEnded, IsNextAnswered, IsReadAs, ReadsOnce}
 use Rattle.xa_server.specs.Lines.{IsOpen, line_at, with_line}
 use Rattle.xa_server.specs.Transfers.{Grows, IsReadOn, ReadEnd, bytes_read, gave, read_end, unread}
-use Rattle.xa_server.proofs.ConnectionLemmas.{appends_none, consumes_kept, fed_nothing, none_answered}
-use Rattle.xa_server.proofs.DrivingLemmas.{ends_after, ends_idle, goes_trans, read_out}
-use Rattle.xa_server.proofs.TransferLemmas.{grows_none}
+use Rattle.xa_server.proofs.ConnectionLemmas.{fed_nothing}
+use Rattle.xa_server.proofs.DrivingLemmas.{after_read, driven, goes_trans, idle, read_on}
 
 -- ---- one read
 
-pub interrupted : (error : Error) (s t : Stream) (l m : Option (List ℕ)) (r q : Option (List ReadEnd)) → error_kind error ≡ Interrupted → t ≡ s → Keeps l m
-    → Grows r q (unread (error_kind error) ∷ []) → ReadsOnce (Ok tt) s t l m r q
-interrupted error s t l m r q kind same kept grows = record {
-  read = unread (error_kind error);
-  left = consumes_kept l m kept;
-  reads = grows;
-  is_read = (kind, same ∙ sym (fed_nothing s));
-}
+module _ (s t : Stream) (l m : Option (List ℕ)) (r q : Option (List ReadEnd)) where
+  pub interrupted : (error : Error) → error_kind error ≡ Interrupted → t ≡ s → Keeps l m
+      → Grows r q (unread (error_kind error) ∷ []) → ReadsOnce (Ok tt) s t l m r q
+  interrupted error kind same kept grows = record {
+    read = unread (error_kind error);
+    left = Consumes-kept l l m [] (Consumes-nil l) kept;
+    reads = grows;
+    is_read = (kind, same ∙ sym (fed_nothing s));
+  }
 
-pub failed_read : (error : Error) (s t : Stream) (l m : Option (List ℕ)) (r q : Option (List ReadEnd)) → error_kind error ≢ Interrupted → t ≡ s → Keeps l m
-    → Grows r q (unread (error_kind error) ∷ []) → ReadsOnce (Err ReadFault) s t l m r q
-failed_read error s t l m r q kind same kept grows = record {
-  read = unread (error_kind error);
-  left = consumes_kept l m kept;
-  reads = grows;
-  is_read = (error_kind error, kind, refl, same);
-}
+  pub failed_read : (error : Error) → error_kind error ≢ Interrupted → t ≡ s → Keeps l m
+      → Grows r q (unread (error_kind error) ∷ []) → ReadsOnce (Err ReadFault) s t l m r q
+  failed_read error kind same kept grows = record {
+    read = unread (error_kind error);
+    left = Consumes-kept l l m [] (Consumes-nil l) kept;
+    reads = grows;
+    is_read = (error_kind error, kind, refl, same);
+  }
 
--- a read that gave nothing where there was room
-pub ended_read : (result : Result ℕ Error) (count : ℕ) (s t : Stream) (room : List ℕ) (l m : Option (List ℕ)) (r q : Option (List ReadEnd)) → result ≡ Ok count
-    → count ≡ 0 → length room ≡ 65_536 → t ≡ s → ReadConsumes l m result room → Grows r q (read_end result room ∷ []) → ReadsOnce (Err Ended) s t l m r q
-ended_read result count s t room l m r q is none space kept bytes grows =
-    let same : result ≡ Ok 0 = is ∙ ap {B = Result ℕ Error} (λ (n : ℕ). Ok n) none in
-    let came : ReadConsumes {E = Error} l m (Ok 0) room = subst (λ (o : Result ℕ Error). ReadConsumes l m o room) same bytes in
-    let empty : Grows r q (gave (length room) [] ∷ []) = subst (λ (o : Result ℕ Error). Grows r q (read_end o room ∷ [])) same grows in
-    record {
-      read = gave 65_536 [];
-      left = came.0;
-      reads = subst (λ (n : ℕ). Grows r q (gave n [] ∷ [])) space empty;
-      is_read = (refl, came.1 refl (omega (arith, space)), kept);
-    }
+  -- a read that gave nothing where there was room
+  pub ended_read : (result : Result ℕ Error) (count : ℕ) (room : List ℕ) → result ≡ Ok count → count ≡ 0
+      → length room ≡ 65_536 → t ≡ s → ReadConsumes l m result room → Grows r q (read_end result room ∷ [])
+      → ReadsOnce (Err Ended) s t l m r q
+  ended_read result count room is none space kept bytes grows =
+      let same : result ≡ Ok 0 = is ∙ ap {B = Result ℕ Error} (λ (n : ℕ). Ok n) none in
+      let came : ReadConsumes {E = Error} l m (Ok 0) room = subst (λ (o : Result ℕ Error). ReadConsumes l m o room) same bytes in
+      let empty : Grows r q (gave (length room) [] ∷ [])
+      = subst (λ (o : Result ℕ Error). Grows r q (read_end o room ∷ [])) same grows in
+      record {
+        read = gave 65_536 [];
+        left = came.0;
+        reads = subst (λ (n : ℕ). Grows r q (gave n [] ∷ [])) space empty;
+        is_read = (refl, came.1 refl (omega (arith, space)), kept);
+      }
 
--- a piece came
-pub read_taken : (s t : Stream) (room : ℕ) (piece : List ℕ) (l m : Option (List ℕ)) (r q : Option (List ReadEnd)) → room ≡ 65_536 → 0 < length piece
-    → length piece ≤ room → Consumes l m piece → Grows r q (gave room piece ∷ []) → TakesPiece piece s (Ok tt) t → ReadsOnce (Ok tt) s t l m r q
-read_taken s t room piece l m r q full some few consumes grows takes = record {
-  read = gave room piece;
-  left = subst (λ (bs : List ℕ). Consumes l m bs) (sym (append-nil piece)) consumes;
-  reads = grows;
-  is_read = ((full, some, few), takes.1 ∙ ap (λ (bs : List ℕ). fed s bs) (sym (append-nil piece)));
-}
+  -- a piece came, and was taken
+  pub read_taken : (room : ℕ) (piece : List ℕ) → room ≡ 65_536 → 0 < length piece → length piece ≤ room
+      → Consumes l m piece → Grows r q (gave room piece ∷ []) → TakesPiece piece s (Ok tt) t → ReadsOnce (Ok tt) s t l m r q
+  read_taken room piece full some few consumes grows takes = record {
+    read = gave room piece;
+    left = subst (λ (bs : List ℕ). Consumes l m bs) (sym (append-nil piece)) consumes;
+    reads = grows;
+    is_read = ((full, some, few), takes.1 ∙ ap (λ (bs : List ℕ). fed s bs) (sym (append-nil piece)));
+  }
 
--- there was no memory for it
-pub read_refused : (error : FrontError) (s t : Stream) (room : ℕ) (piece : List ℕ) (l m : Option (List ℕ)) (r q : Option (List ReadEnd)) → room ≡ 65_536
-    → 0 < length piece → length piece ≤ room → Consumes l m piece → Grows r q (gave room piece ∷ []) → t ≡ s → ReadsOnce (Err Memory) s t l m r q
-read_refused error s t room piece l m r q full some few consumes grows same = record {
-  read = gave room piece;
-  left = subst (λ (bs : List ℕ). Consumes l m bs) (sym (append-nil piece)) consumes;
-  reads = grows;
-  is_read = (piece, ap (λ (n : ℕ). gave n piece) full, (full, some, few), same);
-}
+  -- or refused: one that waits holds so little that there is room for it
+  pub read_refused : (error : FrontError) (room : ℕ) (piece : List ℕ) → room ≡ 65_536 → 0 < length piece
+      → length piece ≤ room → Consumes l m piece → Grows r q (gave room piece ∷ []) → IsWaiting s
+      → TakesPiece piece s (Err error) t → ReadsOnce (Err Memory) s t l m r q
+  read_refused error room piece full some few consumes grows waits takes = record {
+    read = gave room piece;
+    left = subst (λ (bs : List ℕ). Consumes l m bs) (sym (append-nil piece)) consumes;
+    reads = grows;
+    is_read = (piece, ap (λ (n : ℕ). gave n piece) full, (full, some, few), for_memory error takes);
+  }
+    where
+      for_memory : (e : FrontError) → TakesPiece piece s (Err e) t → TakesPiece piece s (Err refused.Memory) t
+      for_memory refused.Memory is = is
+      for_memory refused.Full is = absurd (omega (arith, is.0, few, full, waiting_short s.held waits.1))
+      for_memory _ none = absurd none
+
+  -- what is held has at most 65,536 bytes more
+  pub read_grows : ReadsOnce (Ok tt) s t l m r q → length t.held ≤ length s.held + 65_536
+  read_grows is =
+      let all : length t.held ≡ length s.held + length (bytes_read (is.read ∷ []))
+      = ap (λ (u : Stream). length u.held) is.is_read.1 ∙ length-append s.held (bytes_read (is.read ∷ [])) in
+      omega (arith, all, few is.read is.is_read.0)
+    where
+      few : (read : ReadEnd) → IsReadOn read → length (bytes_read (read ∷ [])) ≤ 65_536
+      few (gave room piece) (full, some, most) = omega (arith, full, most, length-append piece [])
+      few (unread kind) on = omega arith
 
 -- ---- a read, and what is held then
 
--- what a connection is after a read
-abbrev pub after_read : Situation → Stream → Option (List ℕ) → Option (List ReadEnd) → Situation
-after_read a t m q = record { server = a.server; stream = t; known = record a.known { left = m; reads = q } }
+module _ {R : Type 0} (custody : R → Custody) (a : Situation R) (t : Stream) (m : Option (List ℕ))
+    (q : Option (List ReadEnd)) where
+  -- the connection goes on after it
+  goes_read : ReadsOnce (Ok tt) a.stream t a.known.left m a.known.reads q → HasAnswered custody 1 a (after_read a t m q)
+  goes_read is =
+      read_on custody (is.read ∷ []) a t m q is.left is.reads is.is_read.1
+      (All-cons IsReadOn is.read [] is.is_read.0 (All-nil IsReadOn))
 
--- the connection goes on after it
-goes_read : (a : Situation) (t : Stream) (m : Option (List ℕ)) (q : Option (List ReadEnd)) → ReadsOnce (Ok tt) a.stream t a.known.left m a.known.reads q
-    → HasAnswered 1 a (after_read a t m q)
-goes_read a t m q is = record {
-  calls = record { reads = is.read ∷ []; writes = []; told = [] };
-  events = [];
-  run = [];
-  made = record {
-    left = is.left;
-    reads = is.reads;
-    contents = appends_none a.known.contents;
-    writes = grows_none a.known.writes;
-    told = grows_none a.known.told;
-  };
-  answered = subst (λ (s : Stream). AreAnswered a.server a.server s t [] []) is.is_read.1 (none_answered a.server a.server t refl);
-  read = All-cons IsReadOn is.read [] is.is_read.0 (All-nil IsReadOn);
-  counted = refl;
-  told = refl;
-  written = refl;
-  keeper = refl;
-}
+  -- or it has ended by it
+  ends_read : (spare : ℕ) (end : DriveEnd) → 0 < spare → IsWaiting a.stream
+      → ReadsOnce (Err end) a.stream t a.known.left m a.known.reads q → HasEnded custody end spare a (after_read a t m q)
+  ends_read spare end some waits is = idle custody spare end a (after_read a t m q) refl (by_end end is.is_read)
+    where
+      last : (read : ReadEnd) → is.read ≡ read → t ≡ a.stream → ReadsLast read a (after_read a t m q)
+      last read by same = record {
+        left = subst (λ (r : ReadEnd). Consumes a.known.left m (bytes_read (r ∷ []))) by is.left;
+        reads = subst (λ (r : ReadEnd). Grows a.known.reads q (r ∷ [])) by is.reads;
+        same = ap (λ (u : Stream). after_read a u m q) same;
+      }
 
--- it has ended with it
-pub read_ends : (spare : ℕ) (end : DriveEnd) (a : Situation) (t : Stream) (m : Option (List ℕ)) (q : Option (List ReadEnd)) → 0 < spare → IsWaiting a.stream
-    → ReadsOnce (Err end) a.stream t a.known.left m a.known.reads q → IsDrivenWithin spare end a (after_read a t m q)
-read_ends spare end a t m q some waits is = by_end end is.is_read
-  where
-    last : (read : ReadEnd) → is.read ≡ read → t ≡ a.stream → ReadsLast read a (after_read a t m q)
-    last read by same = record {
-      left = subst (λ (r : ReadEnd). Consumes a.known.left m (bytes_read (r ∷ []))) by is.left;
-      reads = subst (λ (r : ReadEnd). Grows a.known.reads q (r ∷ [])) by is.reads;
-      same = ap (λ (u : Stream). after_read a u m q) same;
-    }
+      by_end : (e : DriveEnd) → IsReadAs (Err e) is.read m a.stream t → Ends custody e spare a (after_read a t m q) [] []
+      by_end Ended (by, end_of, same) = inr (inr (last (gave 65_536 []) by same, waits, end_of, some))
+      by_end ReadFault (kind, other, by, same) = (kind, other, last (unread kind) by same, waits, some)
+      by_end Memory (piece, by, on, takes) =
+          inr (inr (piece, subst (λ (r : ReadEnd). IsReadOn r) by on, last (gave 65_536 piece) by takes.1, waits, takes, some))
+      by_end _ none = absurd none
 
-    by_end : (e : DriveEnd) → IsReadAs (Err e) is.read m a.stream t → IsDrivenWithin spare e a (after_read a t m q)
-    by_end Ended (by, end_of, same) =
-        ends_idle spare Ended a (after_read a t m q) refl (inr (inr (last (gave 65_536 []) by same, waits, end_of, some)))
-    by_end ReadFault (kind, other, by, same) =
-        ends_idle spare ReadFault a (after_read a t m q) refl (kind, other, last (unread kind) by same, waits, some)
-    by_end Memory (piece, by, on, same) =
-        ends_idle spare Memory a (after_read a t m q) refl
-        (inr (inr (piece, subst (λ (r : ReadEnd). IsReadOn r) by on, last (gave 65_536 piece) by same, waits, some)))
-    by_end WriteFault none = absurd none
-    by_end NoClock none = absurd none
-    by_end TooManyReads none = absurd none
-    by_end Shut none = absurd none
+-- ---- one turn: a message is answered, or more is read
 
--- ---- what is held
+module _ {R : Type 0} (custody : R → Custody) (n : ℕ) (a b : Situation R) (first : HasAnswered custody n a b) where
+  pub next_goes : (goes : Bool) (c : Situation R) → goes ≡ true → IsNextAnswered custody (Ok goes) b c → HasAnswered custody n a c
+  next_goes goes c on later =
+      goes_trans custody n 0 n a b c (omega arith) first (subst (λ (x : Bool). IsNextAnswered custody (Ok x) b c) on later)
 
-pub next_goes : (goes : Bool) (a b c : Situation) → goes ≡ true → HasAnswered 0 a b → IsNextAnswered (Ok goes) b c → HasAnswered 0 a c
-next_goes goes a b c on first later = goes_trans 0 0 0 a b c refl first (subst (λ (x : Bool). IsNextAnswered (Ok x) b c) on later)
+  pub read_more : (c : Situation R) (t : Stream) (m : Option (List ℕ)) (q : Option (List ReadEnd)) → (c ≡ b) × IsWaiting c.stream
+      → ReadsOnce (Ok tt) c.stream t c.known.left m c.known.reads q → HasAnswered custody (n + 1) a (after_read c t m q)
+  read_more c t m q (same, waits) is =
+      goes_trans custody n 1 (n + 1) a b (after_read c t m q) refl first
+      (subst (λ (x : Situation R). HasAnswered custody 1 x (after_read c t m q)) same (goes_read custody c t m q is))
 
-pub next_waits : (goes : Bool) (a b c : Situation) → goes ≡ false → HasAnswered 0 a b → IsNextAnswered (Ok goes) b c → Reaches 0 (Ok tt) a c
-next_waits goes a b c over first later =
-    let is : IsNextAnswered (Ok false) b c = subst (λ (x : Bool). IsNextAnswered (Ok x) b c) over later in (goes_trans 0 0 0 a b c refl first is.0, is.1)
+  -- ---- the ends of a turn
 
-pub next_ends : (end : DriveEnd) (a b c : Situation) → HasAnswered 0 a b → IsNextAnswered (Err end) b c → Reaches 0 (Err end) a c
-next_ends end a b c first later = λ spare. ends_after 0 spare (0 + spare) end a b c refl first (later spare)
+  module _ (is_open : (s : R) → (custody s).sound → IsTrue (custody s).is_open) where
+    pub next_ends : (end : DriveEnd) (c : Situation R) → n ≤ 1_000_000 → IsNextAnswered custody (Err end) b c
+        → IsDrivenWithin custody 1_000_000 end a c
+    next_ends end c few (mid, goes, ends) =
+        let spare : ℕ = 1_000_000 - n in
+        driven custody is_open n spare 1_000_000 end a mid c (omega (arith, few))
+        (goes_trans custody n 0 n a b mid (omega arith) first goes) (ends spare)
 
--- ---- the whole
+    pub reads_out : (c : Situation R) → n ≡ 1_000_000 → (c ≡ b) × IsWaiting c.stream
+        → IsDrivenWithin custody 1_000_000 TooManyReads a c
+    reads_out c all (same, waits) =
+        let held : IsWaiting b.stream = subst (λ (x : Situation R). IsWaiting x.stream) same waits in
+        driven custody is_open n 0 1_000_000 TooManyReads a b c (omega (arith, all)) first
+        (idle custody 0 TooManyReads b c (ap (λ (x : Situation R). x.server) same) (same, held, refl))
 
-held_ends : (n most : ℕ) (end : DriveEnd) (a b c : Situation) → n ≤ most → HasAnswered n a b → Reaches 0 (Err end) b c
-    → IsDrivenWithin most end a c
-held_ends n most end a b c few first later = ends_after n (0 + (most - n)) most end a b c (omega (arith, few)) first (later (most - n))
+    pub read_last : (end : DriveEnd) (c : Situation R) (t : Stream) (m : Option (List ℕ)) (q : Option (List ReadEnd)) → n < 1_000_000
+        → (c ≡ b) × IsWaiting c.stream → ReadsOnce (Err end) c.stream t c.known.left m c.known.reads q
+        → IsDrivenWithin custody 1_000_000 end a (after_read c t m q)
+    read_last end c t m q few (same, waits) is =
+        let spare : ℕ = 1_000_000 - n in
+        driven custody is_open n spare 1_000_000 end a b (after_read c t m q) (omega (arith, few)) first
+        (subst (λ (x : Situation R). HasEnded custody end spare x (after_read c t m q)) same
+        (ends_read custody c t m q spare end (omega (arith, few)) waits is))
 
--- what was held is answered
-pub held_last : (count : ℕ) (end : DriveEnd) (a b c : Situation) → count ≤ 1_000_000 → HasAnswered count a b → Reaches 0 (Err end) b c
-    → Reaches 1_000_000 (Err end) a c
-held_last count end a b c few first later = λ spare. held_ends count (1_000_000 + spare) end a b c (omega (arith, few)) first later
-
-pub reaches : (count : ℕ) (result : Result (Unit {0}) DriveEnd) (a b c : Situation) → count ≡ 1_000_000 → HasAnswered count a b → Reaches 0 result b c
-    → Reaches 1_000_000 result a c
-reaches count (Ok done) a b c all first later = (goes_trans count 0 1_000_000 a b c (omega (arith, all)) first later.0, later.1)
-reaches count (Err end) a b c all first later = held_last count end a b c (omega (arith, all)) first later
-
--- and more is read
-pub read_more : (count : ℕ) (a b c : Situation) (t : Stream) (m : Option (List ℕ)) (q : Option (List ReadEnd)) → HasAnswered count a b → Reaches 0 (Ok tt) b c
-    → ReadsOnce (Ok tt) c.stream t c.known.left m c.known.reads q → HasAnswered (count + 1) a (after_read c t m q)
-read_more count a b c t m q first later is =
-    goes_trans count 1 (count + 1) a b (after_read c t m q) refl first (goes_trans 0 1 1 b c (after_read c t m q) refl later.0 (goes_read c t m q is))
-
-pub read_last : (count : ℕ) (end : DriveEnd) (a b c : Situation) (t : Stream) (m : Option (List ℕ)) (q : Option (List ReadEnd)) → count < 1_000_000
-    → HasAnswered count a b → Reaches 0 (Ok tt) b c → ReadsOnce (Err end) c.stream t c.known.left m c.known.reads q
-    → Reaches 1_000_000 (Err end) a (after_read c t m q)
-read_last count end a b c t m q few first later is = λ spare.
-    let rest : ℕ = 1_000_000 + spare - count in
-    ends_after count rest (1_000_000 + spare) end a b (after_read c t m q) (omega (arith, few)) first
-    (ends_after 0 rest rest end b c (after_read c t m q) (omega arith) later.0 (read_ends rest end c t m q (omega (arith, few)) later.1 is))
+pub waits_at : {R : Type 0} (custody : R → Custody) (goes : Bool) (a b : Situation R) → goes ≡ false
+    → IsNextAnswered custody (Ok goes) a b → (b ≡ a) × IsWaiting b.stream
+waits_at custody goes a b over is = subst (λ (x : Bool). IsNextAnswered custody (Ok x) a b) over is
 
 -- ---- on a front
 
-pub open_driven : (end : DriveEnd) (conn : Conn) (a b : FrontState) (x y : Known) (s t : Stream) → IsOpen conn a.lines s → b.lines ≡ with_line conn (Some t) a.lines
-    → Reaches 1_000_000 (Err end) (record { server = a.server; stream = s; known = x }) (record { server = b.server; stream = t; known = y })
-    → IsConnection end conn a b x y
-open_driven end conn a b x y s t opens put is = subst (λ (line : Option Stream). IsConnectionOf line end conn a b x y) (sym opens) (t, put, is 0)
+module _ {R : Type 0} (custody : R → Custody) (conn : Conn) (a b : Front R) (x y : Known) where
+  pub open_driven : (end : DriveEnd) (s t : Stream) → IsOpen conn a.lines s → b.lines ≡ with_line conn (Some t) a.lines
+      → IsDrivenWithin custody 1_000_000 end (record { server = a.server; stream = s; known = x })
+      (record { server = b.server; stream = t; known = y }) → IsConnection custody end conn a b x y
+  open_driven end s t opens put is =
+      subst (λ (line : Option Stream). IsConnectionOf custody line end conn a b x y) (sym opens) (t, put, is)
 
-pub often_driven : (conn : Conn) (a b : FrontState) (x y : Known) (s t : Stream) → IsOpen conn a.lines s → b.lines ≡ with_line conn (Some t) a.lines
-    → Reaches 1_000_000 (Ok tt) (record { server = a.server; stream = s; known = x }) (record { server = b.server; stream = t; known = y })
-    → IsConnection TooManyReads conn a b x y
-often_driven conn a b x y s t opens put is =
-    subst (λ (line : Option Stream). IsConnectionOf line TooManyReads conn a b x y) (sym opens)
-    (t, put, read_out (record { server = a.server; stream = s; known = x }) (record { server = b.server; stream = t; known = y }) is.0 is.1)
+  pub shut_driven : line_at conn a.lines ≡ None → b ≡ a → y ≡ x → IsConnection custody Ended conn a b x y
+  shut_driven none same known =
+      subst (λ (line : Option Stream). IsConnectionOf custody line Ended conn a b x y) (sym none) (refl, same, known)
 
-pub shut_driven : (conn : Conn) (a b : FrontState) (x y : Known) → line_at conn a.lines ≡ None → b ≡ a → y ≡ x → IsConnection Ended conn a b x y
-shut_driven conn a b x y none same known = subst (λ (line : Option Stream). IsConnectionOf line Ended conn a b x y) (sym none) (refl, same, known)
+-- at `Shut` the keeper can't go on
+pub shut_at : {R : Type 0} (custody : R → Custody) (most : ℕ) (end : DriveEnd) (a b : Situation R) → end ≡ Shut
+    → IsDrivenWithin custody most end a b → b.known.is_open ≡ false
+shut_at custody most end a b shut is =
+    closed is.last_events is.last_replies
+    (subst (λ (e : DriveEnd). Ends custody e is.spare is.left b is.last_events is.last_replies) shut is.ends)
+  where
+    closed : (events : List Event) (replies : List Reply) → Ends custody Shut is.spare is.left b events replies
+        → b.known.is_open ≡ false
+    closed (event ∷ []) (reply ∷ []) ends = ends.2
+    closed _ _ none = absurd none

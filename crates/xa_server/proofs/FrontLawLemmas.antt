@@ -1,5 +1,5 @@
 -- The messages of a connection, among the events of all.
-use Rattle.std.proofs.Common.{◌≡◌, ◌≢◌, ◌⊎◌, inl, inr, ℕ, ◌<◌, zero, suc, Bool, true, false, List, [], ◌∷◌, ◌++◌, length, get_or, set, Option, Some, None, Ok, Err, nat_eq, refl, sym, ap, subst, ◌∙◌, arith}
+use Rattle.std.proofs.Common.{◌≡◌, ◌≢◌, ◌⊎◌, inl, inr, ℕ, ◌<◌, zero, suc, Bool, true, false, List, [], ◌∷◌, ◌++◌, length, get_or, set, option_map, IfSome, Option, Some, None, Ok, Err, nat_eq, refl, sym, ap, subst, ◌∙◌, arith}
 use Rattle.std.proofs.lemmas.Bool.Decides.{eqb_tells}
 use Rattle.std.proofs.lemmas.List.{get_or-set_same, get_or-set_other, map-append}
 use Rattle.std.specs.Prelude.{ℤ, eqb, map, if◌then◌else◌}
@@ -10,8 +10,9 @@ use Rattle.xa_http.specs.Laws.{GoesThrough, Step, answers, bytes_fed, feeds, mes
 use Rattle.xa_http.specs.Messages.{Cuts}
 use Rattle.xa_http.specs.Stream.{Stream, fed}
 use Rattle.xa_http.proofs.LawLemmas.{answers_first}
-use Rattle.xa_server.specs.Connection.{answer_of, answered_by, empty_stream}
+use Rattle.xa_server.specs.Connection.{answer_after, answer_of, empty_stream}
 use Rattle.xa_server.specs.declared.connection.Answered.{Answered}
+use Rattle.xa_server.specs.declared.connection.Answered.TheVariants as variant
 use Rattle.xa_server.specs.declared.event.Answer.{Answer}
 use Rattle.xa_server.specs.declared.event.Event.{Event}
 use Rattle.xa_server.specs.declared.event.Event.TheVariants as event
@@ -44,26 +45,19 @@ set_other conn other lines stream line apart there =
     get_or-set_other lines other.number conn.number line None (λ same. apart (sym same)) ∙ there
 
 -- a number that is free isn't that of a connection that is open
-free_none : (lines : Lines) (n : ℕ) → first_free lines ≡ Some n → get_or lines n None ≡ None
-free_none [] n free = let e : None ≡ Some n = free in absurd cc
-free_none (None ∷ lines) n free =
-    let e : 0 ≡ n = cc in subst (λ k. get_or (None ∷ lines) k None ≡ None) e refl
-free_none (Some stream ∷ lines) n free = by_rest (first_free lines) refl (free_none lines) where
-  by_rest : (found : Option ℕ) → first_free lines ≡ found → ((k : ℕ) → first_free lines ≡ Some k → get_or lines k None ≡ None)
-      → get_or (Some stream ∷ lines) n None ≡ None
-  by_rest None is earlier = let e : None ≡ Some n = rw is at free in absurd cc
-  by_rest (Some k) is earlier =
-      let e : Some (suc k) ≡ Some n = rw is at free in
-      let same : suc k ≡ n = cc in
-      subst (λ m. get_or (Some stream ∷ lines) m None ≡ None) same (earlier k is)
+if_next : (found : Option ℕ) (P : ℕ → Type 0) → IfSome found (λ n. P (suc n)) → IfSome (option_map suc found) P
+if_next None P is = tt
+if_next (Some n) P is = is
+
+free_none : (lines : Lines) → IfSome (first_free lines) (λ n. get_or lines n None ≡ None)
+free_none [] = tt
+free_none (None ∷ lines) = refl
+free_none (Some stream ∷ lines) =
+    if_next (first_free lines) (λ n. get_or (Some stream ∷ lines) n None ≡ None) (free_none lines)
 
 -- a message has a reply
-pub never_none : (last : Bool) (reply : Reply) (answered : Answered) → answered ≡ answered_by last reply → None ≡ answer_of answered → ⊥
-never_none last reply answered by none = by_last last (none ∙ ap answer_of by)
-  where
-    by_last : (b : Bool) → None ≡ answer_of (answered_by b reply) → ⊥
-    by_last true same = cc
-    by_last false same = cc
+pub never_none : (answer : Answer) (answered : Answered) → answered ≡ variant.Reply answer → None ≡ answer_of answered → ⊥
+never_none answer answered by none = let e : None ≡ Some answer = none ∙ ap answer_of by in cc
 
 -- ---- one event
 
@@ -81,15 +75,14 @@ left : (conn : Conn) (old mid : Lines) (stream : Stream) → mid ≡ old → IsO
 left conn old mid stream same there = (stream, ap (line_at conn) same ∙ there, refl, refl)
 
 -- another connection was opened
-opened : (conn other : Conn) (old mid : Lines) (stream after : Stream) → first_free old ≡ Some other.number → mid ≡ with_line other (Some after) old
-    → IsOpen conn old stream → GoesOn conn mid stream [] []
+opened : (conn other : Conn) (old mid : Lines) (stream after : Stream) → first_free old ≡ Some other.number
+    → mid ≡ with_line other (Some after) old → IsOpen conn old stream → GoesOn conn mid stream [] []
 opened conn other old mid stream after free is there =
+    let none : get_or old other.number None ≡ None
+    = subst (λ (found : Option ℕ). IfSome found (λ n. get_or old n None ≡ None)) free (free_none old) in
     let apart : other.number ≢ conn.number = λ same.
-    let e : None ≡ Some stream = sym (free_none old other.number free) ∙ ap (λ n. get_or old n None) same ∙ there in absurd (nothing e) in
+    let e : None ≡ Some stream = sym none ∙ ap (λ n. get_or old n None) same ∙ there in absurd cc in
     (stream, ap (line_at conn) is ∙ set_other conn other old stream (Some after) apart there, refl, refl)
-  where
-    nothing : {X : Type 0} {x : X} → None ≡ Some x → ⊥
-    nothing e = cc
 
 -- a step was taken on a connection: this one, or another
 taken : (conn other : Conn) (old mid : Lines) (stream was after : Stream) (step : Step) (exchanges : Bool → List (Message × Reply)) → IsOpen other old was
@@ -114,13 +107,9 @@ asked : (conn other : Conn) (moment : ℤ) (old mid : Lines) (given : Next) (ans
 asked conn other moment old mid (next.Message message) (Some answer) stream (was, after, made, had, is, given, by, put) there =
     taken conn other old mid stream was after (answers (next.Message message)) (λ b. if b then (message, answer.reply) ∷ [] else []) had put (after, is, refl) refl refl there
 asked conn other moment old mid (next.Message message) None stream (was, after, made, had, is, (reply, gives), by, put) there =
-    absurd (never_none after.ended reply made gives by)
-asked conn other moment old mid (next.Fault fault) answer stream (was, after, made, had, is, given, by, put) there =
-    taken conn other old mid stream was after (answers (next.Fault fault)) (λ b. []) had put (after, is, refl) refl refl there
-asked conn other moment old mid next.More answer stream (was, after, made, had, is, given, by, put) there =
-    taken conn other old mid stream was after (answers next.More) (λ b. []) had put (after, is, refl) refl refl there
-asked conn other moment old mid next.Ended answer stream (was, after, made, had, is, given, by, put) there =
-    taken conn other old mid stream was after (answers next.Ended) (λ b. []) had put (after, is, refl) refl refl there
+    absurd (never_none (answer_after after reply) made gives by)
+asked conn other moment old mid given answer stream (was, after, made, had, is, gives, by, put) there =
+    taken conn other old mid stream was after (answers given) (λ b. []) had put (after, is, refl) refl refl there
 
 -- an event leaves a connection that it doesn't close open
 one : (conn : Conn) (e : Event) (old mid : Lines) (given : Option Next) (o : Outcome) (stream : Stream) → Does e old given o mid
@@ -139,29 +128,10 @@ one conn (event.Answer other moment) old mid None (outcome.Answered (Err Memory)
 one conn (event.Finish other) old mid given (outcome.Finished (Ok done)) stream does there leaves =
     (stream, ap (line_at conn) does.1.2 ∙ set_other conn other old stream None leaves there, refl, refl)
 one conn (event.Finish other) old mid given (outcome.Finished (Err NoSuchConnection)) stream does there leaves = left conn old mid stream does.1.1 there
-one conn event.Begin old mid given (outcome.Held result) stream none there leaves = absurd none
-one conn event.Begin old mid given (outcome.Answered result) stream none there leaves = absurd none
-one conn event.Begin old mid given (outcome.Finished result) stream none there leaves = absurd none
-one conn (event.Piece other piece) old mid given (outcome.Begun result) stream none there leaves = absurd none
-one conn (event.Piece other piece) old mid given (outcome.Answered result) stream none there leaves = absurd none
-one conn (event.Piece other piece) old mid given (outcome.Finished result) stream none there leaves = absurd none
-one conn (event.Answer other moment) old mid given (outcome.Begun result) stream none there leaves = absurd none
-one conn (event.Answer other moment) old mid given (outcome.Held result) stream none there leaves = absurd none
-one conn (event.Answer other moment) old mid given (outcome.Finished result) stream none there leaves = absurd none
-one conn (event.Finish other) old mid given (outcome.Begun result) stream none there leaves = absurd none
-one conn (event.Finish other) old mid given (outcome.Held result) stream none there leaves = absurd none
-one conn (event.Finish other) old mid given (outcome.Answered result) stream none there leaves = absurd none
-one conn event.Begin old mid given (outcome.Begun (Err Memory)) stream none there leaves = absurd none.1
-one conn event.Begin old mid given (outcome.Begun (Err NoSuchConnection)) stream none there leaves = absurd none.1
-one conn event.Begin old mid given (outcome.Begun (Err Full)) stream none there leaves = absurd none.1
-one conn (event.Piece other piece) old mid given (outcome.Held (Err TooManyConnections)) stream none there leaves = absurd none.1.2
-one conn (event.Finish other) old mid given (outcome.Finished (Err Memory)) stream none there leaves = absurd none.1
-one conn (event.Finish other) old mid given (outcome.Finished (Err TooManyConnections)) stream none there leaves = absurd none.1
-one conn (event.Finish other) old mid given (outcome.Finished (Err Full)) stream none there leaves = absurd none.1
-one conn (event.Answer other moment) old mid None (outcome.Answered (Ok answer)) stream none there leaves = absurd none
-one conn (event.Answer other moment) old mid None (outcome.Answered (Err TooManyConnections)) stream none there leaves = absurd none
-one conn (event.Answer other moment) old mid None (outcome.Answered (Err Full)) stream none there leaves = absurd none
-one conn (event.Answer other moment) old mid (Some given) (outcome.Answered (Err error)) stream none there leaves = absurd none
+one conn event.Begin old mid given (outcome.Begun _) stream none there leaves = absurd none.1
+one conn (event.Piece other piece) old mid given (outcome.Held _) stream none there leaves = absurd none.1.2
+one conn (event.Finish other) old mid given (outcome.Finished _) stream none there leaves = absurd none.1
+one conn _ old mid given _ stream none there leaves = absurd none
 
 -- ---- one event after another
 
@@ -172,9 +142,7 @@ goes_on a b c (answers given ∷ first) later (mid, is, went) goes = (mid, is, g
 
 joined : (given : Next) (first later : List Message) → with_answer given (first ++ later) ≡ with_answer given first ++ later
 joined (next.Message message) first later = refl
-joined (next.Fault fault) first later = refl
-joined next.More first later = refl
-joined next.Ended first later = refl
+joined _ first later = refl
 
 answered_on : (first later : List Step) → messages_answered (first ++ later) ≡ messages_answered first ++ messages_answered later
 answered_on [] later = refl
@@ -197,10 +165,7 @@ through conn (e ∷ events) (o ∷ outcomes) (given ∷ nexts) old new stream (m
           ∙ ap (λ ms. messages_answered (step_on conn e given o) ++ ms) later.3
           ∙ sym (answered_on (step_on conn e given o) (steps_on conn events nexts outcomes)),
     )
-through conn [] [] (given ∷ nexts) old new stream none there leave = absurd none
-through conn [] (o ∷ outcomes) nexts old new stream none there leave = absurd none
-through conn (e ∷ events) [] nexts old new stream none there leave = absurd none
-through conn (e ∷ events) (o ∷ outcomes) [] old new stream none there leave = absurd none
+through conn _ _ _ old new stream none there leave = absurd none
 
 pub lines_are : LinesAreStreams
 lines_are conn events outcomes nexts old new stream plays there leave =

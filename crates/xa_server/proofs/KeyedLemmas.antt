@@ -7,16 +7,15 @@ use Rattle.xa_policy.specs.declared.document_key.DocumentKey.{DocumentKey}
 use Rattle.xa_notation.specs.declared.document.Parsed.{Parsed}
 use Rattle.xa_notation.specs.declared.notation_error.NotationError.{NotationError}
 use Rattle.xa_notation.specs.Document.{document_of}
-use Rattle.xa_link.specs.declared.active.Active.{Active}
 use Rattle.xa_records.specs.declared.active_text.ActiveText.{ActiveText}
 use Rattle.xa_records.specs.declared.kept_view.KeptView.{KeptView}
-use Rattle.xa_records.specs.DomainState.{DomainState, StoredDocument, key_of}
-use Rattle.xa_records.specs.Kept.{Domain, Kept, state_of}
+use Rattle.xa_records.specs.DomainState.{StoredDocument, key_of}
+use Rattle.xa_records.specs.Kept.{Domain, Kept}
 use Rattle.xa_records.specs.Keyed.{KeepsDocuments, key_if, key_in}
-use Rattle.xa_records.specs.Readings.{active_text, active_texts, kept_view_of, view_of_state}
+use Rattle.xa_records.specs.Readings.{active_text, kept_view_of, view_of_state}
 use Rattle.xa_records.proofs.FinMapLemmas.{all_entries}
 use Rattle.xa_records.proofs.OrderLemmas.{keys_total}
-use Rattle.xa_server.specs.View.{active_document, active_if}
+use Rattle.xa_server.specs.View.{active_if}
 use Rattle.xa_server.specs.handling.Viewing.{AreKeyed, active_by_key}
 
 -- ---- what texts are

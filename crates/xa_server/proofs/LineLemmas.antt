@@ -1,39 +1,13 @@
 -- The connections of a front, by their numbers.
-use Rattle.std.proofs.Common.{◌≡◌, ℕ, ◌+◌, suc, List, [], ◌∷◌, Option, Some, None, Result, Ok, Err, option_map, refl, sym, ap, ◌∙◌, arith}
+use Rattle.std.proofs.Common.{◌≡◌, ℕ, List, Option, Some, None, Result, Ok, Err, refl, sym, ap, ◌∙◌}
 use Rattle.std.proofs.lemmas.List.{set-get_or}
 use Rattle.xa_http.specs.Stream.{Stream}
 use Rattle.xa_server.specs.Connection.{TakesPiece}
 use Rattle.xa_server.specs.declared.front_error.FrontError.{FrontError}
-use Rattle.xa_server.specs.declared.front_error.FrontError.TheVariants.{Memory, NoSuchConnection, TooManyConnections, Full}
+use Rattle.xa_server.specs.declared.front_error.FrontError.TheVariants.{Memory, Full}
 use Rattle.xa_server.specs.declared.lines.Conn.{Conn}
 use Rattle.xa_server.specs.Driven.{KeepsOpen}
-use Rattle.xa_server.specs.Lines.{IsHeld, IsOpen, Lines, first_free, line_at, with_line}
-
--- ---- the least free number
-
--- counted from a number on
-abbrev pub first_free_from : ℕ → Lines → Option ℕ
-first_free_from n [] = None
-first_free_from n (None ∷ lines) = Some n
-first_free_from n (Some _ ∷ lines) = first_free_from (suc n) lines
-
-one_on : (n : ℕ) (found : Option ℕ) → option_map (λ k. suc n + k) found ≡ option_map (λ k. n + k) (option_map suc found)
-one_on n None = refl
-one_on n (Some k) = let e : suc n + k ≡ n + suc k = omega arith in ap (λ (m : ℕ). Some m) e
-
-from_is : (n : ℕ) (lines : Lines) → first_free_from n lines ≡ option_map (λ k. n + k) (first_free lines)
-from_is n [] = refl
-from_is n (None ∷ lines) = let e : n ≡ n + 0 = omega arith in ap (λ (m : ℕ). Some m) e
-from_is n (Some stream ∷ lines) = from_is (suc n) lines ∙ one_on n (first_free lines)
-
-none_on : (found : Option ℕ) → option_map (λ k. 0 + k) found ≡ found
-none_on None = refl
-none_on (Some k) = let e : 0 + k ≡ k = omega arith in ap (λ (m : ℕ). Some m) e
-
-pub from_first : (lines : Lines) → first_free lines ≡ first_free_from 0 lines
-from_first lines = sym (from_is 0 lines ∙ none_on (first_free lines))
-
--- ---- one connection among all
+use Rattle.xa_server.specs.Lines.{IsHeld, IsOpen, Lines, line_at, with_line}
 
 -- with the stream that it has, nothing changes
 pub line_kept : (conn : Conn) (old new : Lines) (s t : Stream) → IsOpen conn old s → new ≡ with_line conn (Some t) old → t ≡ s → new ≡ old
@@ -46,8 +20,7 @@ pub held_at : (conn : Conn) (piece : List ℕ) (old new : Lines) (s t : Stream) 
 held_at conn piece old new s t (Ok done) opens put takes = (s, t, opens, takes, put)
 held_at conn piece old new s t (Err Memory) opens put takes = (s, opens, (takes.0, refl), line_kept conn old new s t opens put takes.1)
 held_at conn piece old new s t (Err Full) opens put takes = (s, opens, (takes.0, refl), line_kept conn old new s t opens put takes.1)
-held_at conn piece old new s t (Err NoSuchConnection) opens put takes = absurd takes
-held_at conn piece old new s t (Err TooManyConnections) opens put takes = absurd takes
+held_at conn piece old new s t _ opens put takes = absurd takes
 
 -- one that was driven stays open
 pub kept_open : (conn : Conn) (old new : Lines) (t : Stream) → new ≡ with_line conn (Some t) old → KeepsOpen conn old new

@@ -1,11 +1,10 @@
 -- What is played, one event after another, is one run of the server.
-use denote.Ref.{Bor}
 use Rattle.std.proofs.Common.{◌≡◌, ℕ, ℤ, List, [], ◌∷◌, ◌++◌, Option, Some, None, Result, Ok, Err, refl, sym, ap, subst, ◌∙◌}
 use Rattle.std.proofs.lemmas.List.{append_assoc}
 use Rattle.xa_http.specs.declared.session.Next.{Next}
 use Rattle.xa_http.specs.declared.session.Next.TheVariants as next
 use Rattle.xa_server.specs.Alone as messages
-use Rattle.xa_server.specs.Connection.{CountsReplyIf, IsOneRun, ServesNext}
+use Rattle.xa_server.specs.Connection.{CountsReplyIf, IsOneRun, ServesNext, answer_after}
 use Rattle.xa_server.specs.declared.event.Answer.{Answer}
 use Rattle.xa_server.specs.declared.event.Event.{Event}
 use Rattle.xa_server.specs.declared.event.Event.TheVariants as event
@@ -16,39 +15,40 @@ use Rattle.xa_server.specs.declared.lines.Conn.{Conn}
 use Rattle.xa_server.specs.declared.replies.Reply.{Reply}
 use Rattle.xa_records.specs.declared.refusal.Failure.TheVariants.{Store}
 use Rattle.xa_server.specs.declared.replies.Reply.TheVariants.{Refused}
-use Rattle.xa_server.specs.Front.{AnswersAt, AnswersLine, FrontState, IsPlayed, Plays, message_cut, messages_cut, replies_given, reply_given, reply_in_result}
-use Rattle.xa_server.specs.FrontLaws.{StepsArePlayed}
-use Rattle.xa_server.specs.Fronting.{CountsOutcomes, NoneRefusedByStore, reply_in_outcome}
-use Rattle.xa_server.specs.Lines.{IsClosed, IsHeld, IsOpened, Lines}
+use Rattle.xa_server.specs.Front.{AnswersAt, AnswersLine, Does, FrontState, IsPlayed, Plays, message_cut, messages_cut}
+use Rattle.xa_server.specs.Front.{CountsOutcomes, NoneRefusedByStore, replies_given, reply_given, reply_in_outcome}
+use Rattle.xa_server.specs.Front.{reply_in_result}
+use Rattle.xa_server.specs.Lines.{Lines}
 use Rattle.xa_server.proofs.ConnectionLemmas.{no_run, runs_on, serves_run}
 use Rattle.xa_server.proofs.FrontLawLemmas.{never_none}
 
 -- ---- one event
 
-pub begun : (sound : Type 0) (old new : FrontState) (result : Result Conn FrontError) → IsOpened old.lines result new.lines → new.server ≡ old.server
-    → IsPlayed sound old new (event.Begin ∷ []) (outcome.Begun result ∷ [])
-begun sound old new result is same = record { nexts = None ∷ []; plays = (new.lines, (refl, is), refl); run = λ holds. no_run old.server new.server same }
+-- one by which no session is asked cuts off no message
+pub none_cut : (e : Event) → message_cut e None ≡ []
+none_cut event.Begin = refl
+none_cut _ = refl
 
-pub held : (sound : Type 0) (conn : Conn) (piece : Bor (List ℕ)) (old new : FrontState) (result : Result (Unit {0}) FrontError)
-    → IsHeld conn piece.now old.lines result new.lines → new.server ≡ old.server
-    → IsPlayed sound old new (event.Piece conn piece ∷ []) (outcome.Held result ∷ [])
-held sound conn piece old new result is same = record { nexts = None ∷ []; plays = (new.lines, (refl, is), refl); run = λ holds. no_run old.server new.server same }
-
-pub finished : (sound : Type 0) (conn : Conn) (old new : FrontState) (result : Result (Unit {0}) FrontError) → IsClosed conn old.lines result new.lines
-    → new.server ≡ old.server → IsPlayed sound old new (event.Finish conn ∷ []) (outcome.Finished result ∷ [])
-finished sound conn old new result is same = record { nexts = None ∷ []; plays = (new.lines, (refl, is), refl); run = λ holds. no_run old.server new.server same }
+pub unasked_played : (sound : Type 0) (old new : FrontState) (e : Event) (o : Outcome) → Does e old.lines None o new.lines
+    → new.server ≡ old.server → IsPlayed sound old new (e ∷ []) (o ∷ [])
+unasked_played sound old new e o does same = record {
+  nexts = None ∷ [];
+  plays = (new.lines, does, refl);
+  run = λ holds.
+      subst (λ (ms : List messages.Event). IsOneRun old.server new.server (ms ++ []) []) (sym (none_cut e))
+      (no_run old.server new.server same);
+}
 
 -- what a connection is answered is one message of a run, or none
 run_of : (conn : Conn) (moment : ℤ) (old new : FrontState) (given : Option Next) (result : Result (Option Answer) FrontError)
     → AnswersAt conn old.lines given result new.lines → ServesNext moment old.server given (reply_in_result result) new.server
     → IsOneRun old.server new.server (message_cut (event.Answer conn moment) given ++ []) (reply_given given (outcome.Answered result) ++ [])
-run_of conn moment old new None result is serves = no_run old.server new.server serves
-run_of conn moment old new (Some next.More) result is serves = no_run old.server new.server serves
-run_of conn moment old new (Some next.Ended) result is serves = no_run old.server new.server serves
-run_of conn moment old new (Some (next.Fault fault)) result is serves = no_run old.server new.server serves
-run_of conn moment old new (Some (next.Message message)) (Ok (Some answer)) is serves = serves_run moment message answer.reply old.server new.server serves
-run_of conn moment old new (Some (next.Message message)) (Ok None) is serves = absurd (never_none is.1.ended is.5.0 is.2 is.5.1 is.6)
+run_of conn moment old new (Some (next.Message message)) (Ok (Some answer)) is serves =
+    serves_run moment message answer.reply old.server new.server serves
+run_of conn moment old new (Some (next.Message message)) (Ok None) is serves =
+    absurd (never_none (answer_after is.1 is.5.0) is.2 is.5.1 is.6)
 run_of conn moment old new (Some (next.Message message)) (Err error) none serves = absurd none
+run_of conn moment old new given result is serves = no_run old.server new.server serves
 
 pub answered : (sound : Type 0) (conn : Conn) (moment : ℤ) (old new : FrontState) (result : Result (Option Answer) FrontError)
     → AnswersLine sound conn moment old result new → IsPlayed sound old new (event.Answer conn moment ∷ []) (outcome.Answered result ∷ [])
@@ -62,10 +62,7 @@ pub plays_on : (events others : List Event) (outcomes rest : List Outcome) (next
 plays_on [] others [] rest [] more old mid new same plays = subst (λ (l : Lines). Plays others rest more l new) same plays
 plays_on (e ∷ events) others (o ∷ outcomes) rest (given ∷ nexts) more old mid new (first, did, rest_of) plays =
     (first, did, plays_on events others outcomes rest nexts more first mid new rest_of plays)
-plays_on [] others [] rest (given ∷ nexts) more old mid new none plays = absurd none
-plays_on [] others (o ∷ outcomes) rest nexts more old mid new none plays = absurd none
-plays_on (e ∷ events) others [] rest nexts more old mid new none plays = absurd none
-plays_on (e ∷ events) others (o ∷ outcomes) rest [] more old mid new none plays = absurd none
+plays_on _ others _ rest _ more old mid new none plays = absurd none
 
 pub cut_on : (events others : List Event) (outcomes : List Outcome) (nexts more : List (Option Next)) (old mid : Lines) → Plays events outcomes nexts old mid
     → messages_cut (events ++ others) (nexts ++ more) ≡ messages_cut events nexts ++ messages_cut others more
@@ -73,10 +70,7 @@ cut_on [] others [] [] more old mid plays = refl
 cut_on (e ∷ events) others (o ∷ outcomes) (given ∷ nexts) more old mid (first, did, rest_of) =
     ap (λ (ms : List messages.Event). message_cut e given ++ ms) (cut_on events others outcomes nexts more first mid rest_of)
     ∙ sym (append_assoc (message_cut e given) (messages_cut events nexts) (messages_cut others more))
-cut_on [] others [] (given ∷ nexts) more old mid none = absurd none
-cut_on [] others (o ∷ outcomes) nexts more old mid none = absurd none
-cut_on (e ∷ events) others [] nexts more old mid none = absurd none
-cut_on (e ∷ events) others (o ∷ outcomes) [] more old mid none = absurd none
+cut_on _ others _ _ more old mid none = absurd none
 
 pub given_on : (events : List Event) (outcomes rest : List Outcome) (nexts more : List (Option Next)) (old mid : Lines) → Plays events outcomes nexts old mid
     → replies_given (nexts ++ more) (outcomes ++ rest) ≡ replies_given nexts outcomes ++ replies_given more rest
@@ -84,10 +78,7 @@ given_on [] [] rest [] more old mid plays = refl
 given_on (e ∷ events) (o ∷ outcomes) rest (given ∷ nexts) more old mid (first, did, rest_of) =
     ap (λ (rs : List Reply). reply_given given o ++ rs) (given_on events outcomes rest nexts more first mid rest_of)
     ∙ sym (append_assoc (reply_given given o) (replies_given nexts outcomes) (replies_given more rest))
-given_on [] [] rest (given ∷ nexts) more old mid none = absurd none
-given_on [] (o ∷ outcomes) rest nexts more old mid none = absurd none
-given_on (e ∷ events) [] rest nexts more old mid none = absurd none
-given_on (e ∷ events) (o ∷ outcomes) rest [] more old mid none = absurd none
+given_on _ _ rest _ more old mid none = absurd none
 
 pub none_played : (sound : Type 0) (old : FrontState) → IsPlayed sound old old [] []
 none_played sound old = record { nexts = []; plays = refl; run = λ holds. no_run old.server old.server refl }
@@ -105,12 +96,6 @@ played_on sound before old mid new events others outcomes rest was first later =
       (runs_on old.server mid.server new.server (messages_cut events first.nexts) (messages_cut others later.nexts) (replies_given first.nexts outcomes)
       (replies_given later.nexts rest) (first.run (was holds)) (later.run holds)));
 }
-
-pub steps_are : (sound : Type 0) → StepsArePlayed sound
-steps_are sound = (
-  none_played sound,
-  λ old mid new events others outcomes rest first later. played_on sound sound old mid new events others outcomes rest (λ holds. holds) first later,
-)
 
 -- ---- the keeper, over one event more
 

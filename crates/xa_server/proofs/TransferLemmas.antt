@@ -1,11 +1,10 @@
 -- What is known of calls, one after another.
 use Rattle.std.proofs.Common.{◌≡◌, ℕ, List, [], ◌∷◌, ◌++◌, refl, sym, ap, subst, ◌∙◌, Option, Some, None}
 use Rattle.std.specs.Io.KnownBytes.{Appends, Consumes}
-use Rattle.std.specs.Prelude.{ℤ}
 use Rattle.std.proofs.lemmas.List.{append-nil, append_assoc}
-use Rattle.xa_server.proofs.ConnectionLemmas.{appends_none, appends_trans, consumes_none, consumes_trans}
+use Rattle.std.proofs.KnownBytes.{Appends-trans, Consumes-trans}
 use Rattle.xa_server.specs.Driven.{AreMade, AreSent, Calls, Known}
-use Rattle.xa_server.specs.Transfers.{Grows, IsWrittenWhole, ReadEnd, WriteEnd, bytes_read, bytes_taken, flushed, gave, took, unflushed, unread, unwritten}
+use Rattle.xa_server.specs.Transfers.{Grows, IsWrittenWhole, ReadEnd, WriteEnd, bytes_read, bytes_taken, gave, took, unread}
 
 pub grows_none : {A : Type 0} (a : Option (List A)) → Grows a a []
 grows_none None = tt
@@ -13,9 +12,9 @@ grows_none (Some x) = sym (append-nil x)
 
 pub grows_trans : {A : Type 0} (a b c : Option (List A)) (xs ys : List A) → Grows a b xs → Grows b c ys → Grows a c (xs ++ ys)
 grows_trans None b c xs ys p q = tt
+grows_trans {A} (Some x) (Some y) (Some z) xs ys p q = q ∙ ap (λ (l : List A). l ++ ys) p ∙ append_assoc x xs ys
 grows_trans (Some x) None c xs ys p q = absurd p
 grows_trans (Some x) (Some y) None xs ys p q = absurd q
-grows_trans {A} (Some x) (Some y) (Some z) xs ys p q = q ∙ ap (λ (l : List A). l ++ ys) p ∙ append_assoc x xs ys
 
 pub read_trans : (rs qs : List ReadEnd) → bytes_read (rs ++ qs) ≡ bytes_read rs ++ bytes_read qs
 read_trans [] qs = refl
@@ -25,14 +24,9 @@ read_trans (unread kind ∷ rs) qs = read_trans rs qs
 pub taken_trans : (ws vs : List WriteEnd) → bytes_taken (ws ++ vs) ≡ bytes_taken ws ++ bytes_taken vs
 taken_trans [] vs = refl
 taken_trans (took bytes ∷ ws) vs = ap (λ (bs : List ℕ). bytes ++ bs) (taken_trans ws vs) ∙ sym (append_assoc bytes (bytes_taken ws) (bytes_taken vs))
-taken_trans (unwritten kind ∷ ws) vs = taken_trans ws vs
-taken_trans (flushed ∷ ws) vs = taken_trans ws vs
-taken_trans (unflushed kind ∷ ws) vs = taken_trans ws vs
+taken_trans (_ ∷ ws) vs = taken_trans ws vs
 
 -- ---- all together
-
-abbrev pub no_calls : Calls
-no_calls = record { reads = []; writes = []; told = [] }
 
 -- these, and then those
 abbrev pub both : Calls → Calls → Calls
@@ -42,24 +36,15 @@ both first later = record {
   told = first.told ++ later.told;
 }
 
-pub made_none : (x : Known) → AreMade no_calls x x
-made_none x = record {
-  left = consumes_none x.left;
-  reads = grows_none x.reads;
-  contents = appends_none x.contents;
-  writes = grows_none x.writes;
-  told = grows_none x.told;
-}
-
 pub made_trans : (first later : Calls) (x y z : Known) → AreMade first x y → AreMade later y z → AreMade (both first later) x z
 made_trans first later x y z a b = record {
   left =
       subst (λ (bs : List ℕ). Consumes x.left z.left bs) (sym (read_trans first.reads later.reads))
-      (consumes_trans x.left y.left z.left (bytes_read first.reads) (bytes_read later.reads) a.left b.left);
+      (Consumes-trans x.left y.left z.left (bytes_read first.reads) (bytes_read later.reads) a.left b.left);
   reads = grows_trans x.reads y.reads z.reads first.reads later.reads a.reads b.reads;
   contents =
       subst (λ (bs : List ℕ). Appends x.contents z.contents bs) (sym (taken_trans first.writes later.writes))
-      (appends_trans x.contents y.contents z.contents (bytes_taken first.writes) (bytes_taken later.writes) a.contents b.contents);
+      (Appends-trans x.contents y.contents z.contents (bytes_taken first.writes) (bytes_taken later.writes) a.contents b.contents);
   writes = grows_trans x.writes y.writes z.writes first.writes later.writes a.writes b.writes;
   told = grows_trans x.told y.told z.told first.told later.told a.told b.told;
 }

@@ -1,11 +1,13 @@
 -- A connection: what it takes and what it is answered, once and several times.
-use Rattle.std.specs.Prelude.{◌≡◌, ◌+◌, ◌<◌, ◌≤◌, ◌⊎◌, ℕ, ℤ, Bool, true, false, List, [], ◌∷◌, ◌++◌, length, map}
-use Rattle.std.specs.Prelude.{Option, Some, None, Result, Ok, Err, IsTrue}
+use Rattle.std.specs.Prelude.{◌≡◌, ◌≢◌, ◌+◌, ◌<◌, ◌≤◌, ◌⊎◌, ℕ, ℤ, true, false, List, [], ◌∷◌, ◌++◌, length, map}
+use Rattle.std.specs.Prelude.{Option, Some, None, option_map, Result, Ok, Err, IsTrue}
+use Rattle.std.specs.declared.alloc.AllocError.{AllocError}
 use Rattle.xa_http.specs.declared.fault.SessionFault.{SessionFault}
 use Rattle.xa_http.specs.declared.message.Message.{Message}
+use Rattle.xa_http.specs.declared.session.Look.TheVariants as look
 use Rattle.xa_http.specs.declared.session.Next.{Next}
 use Rattle.xa_http.specs.declared.session.Next.TheVariants as next
-use Rattle.xa_http.specs.Messages.{Cuts, IsFirst, IsNext}
+use Rattle.xa_http.specs.Messages.{Cuts, IsFirst, IsLook, IsNext}
 use Rattle.xa_http.specs.Stream.{Stream, fed}
 use Rattle.xa_records.specs.declared.refusal.Failure.TheVariants.{Store}
 use Rattle.xa_records.specs.Keeper.{Custody}
@@ -17,6 +19,8 @@ use Rattle.xa_server.specs.declared.connection.Answered.TheVariants as answered
 use Rattle.xa_server.specs.declared.event.Answer.{Answer}
 use Rattle.xa_server.specs.declared.front_error.FrontError.{FrontError}
 use Rattle.xa_server.specs.declared.front_error.FrontError.TheVariants.{Memory, Full}
+use Rattle.xa_server.specs.declared.holding.Holding.{Holding}
+use Rattle.xa_server.specs.declared.holding.Holding.TheVariants as holding
 use Rattle.xa_server.specs.declared.replies.Reply.{Reply}
 use Rattle.xa_server.specs.declared.replies.Reply.TheVariants.{Sent, Refused}
 use Rattle.xa_server.specs.ErrorCode.{code_of_session_fault, error_reply}
@@ -40,12 +44,22 @@ TakesPiece piece old (Err Full) new = (1_048_576 < length old.held + length piec
 TakesPiece piece old (Err Memory) new = (length old.held + length piece ≤ 1_048_576) × (new ≡ old)
 TakesPiece piece old (Err _) new = ⊥
 
--- ---- one answer
+-- ---- what is held
 
--- the reply to a message, by whether the session has ended with it
-abbrev pub answered_by : Bool → Reply → Answered
-answered_by true reply = answered.Last reply
-answered_by false reply = answered.Reply reply
+-- what a connection holds, before anything of it is answered
+abbrev pub IsHolding : Stream → Holding → Type 0
+IsHolding stream holding.Nothing = IsLook stream look.More × (stream.held ≡ [])
+IsHolding stream holding.Part = IsLook stream look.More × (stream.held ≢ [])
+IsHolding stream holding.Whole =
+    IsLook stream look.Message ⊎ ((fault : SessionFault) × IsLook stream (look.Fault fault))
+IsHolding stream holding.Ended = stream.ended ≡ true
+
+-- what a connection holds, if it is there
+abbrev pub IsHoldingOf : Option Stream → Holding → Type 0
+IsHoldingOf None holding = ⊥
+IsHoldingOf (Some stream) holding = IsHolding stream holding
+
+-- ---- one answer
 
 -- a server has served a message: its world went over, and the work was done
 abbrev pub Serves : ℤ → Message → Reply → ServerState → ServerState → Type 0
@@ -53,17 +67,32 @@ Serves moment message reply old new =
     IsServed old.world new.world moment message reply
     × IsWork old.world.kept moment message reply old.decisions new.decisions
 
+-- the answer to a message; it is the last if the session has ended with it
+abbrev pub answer_after : Stream → Reply → Answer
+answer_after after reply = record { reply = reply; last = after.ended }
+
+-- the answer to the fault by which a stream ends
+abbrev pub fault_answer : SessionFault → Answer
+fault_answer fault = record { reply = Sent (error_reply (code_of_session_fault fault)); last = true }
+
+-- the answer, if there is one
+abbrev pub answer_of : Answered → Option Answer
+answer_of (answered.Reply answer) = Some answer
+answer_of answered.Waits = None
+answer_of answered.Ended = None
+
 -- the reply of an answer, if there is one
+abbrev pub reply_if : Option Answer → Option Reply
+reply_if answer = option_map (λ a. a.reply) answer
+
+-- the reply that a connection is answered, if it is one
 abbrev pub reply_of : Answered → Option Reply
-reply_of (answered.Reply reply) = Some reply
-reply_of (answered.Last reply) = Some reply
-reply_of answered.Waits = None
-reply_of answered.Ended = None
+reply_of answered = reply_if (answer_of answered)
 
 -- what a connection is answered, by what its session gives next; `after` is the rest of its stream
 abbrev pub IsGiven : Next → Stream → Answered → Type 0
-IsGiven (next.Message message) after given = (reply : Reply) × (given ≡ answered_by after.ended reply)
-IsGiven (next.Fault fault) after given = given ≡ answered.Last (Sent (error_reply (code_of_session_fault fault)))
+IsGiven (next.Message message) after given = (reply : Reply) × (given ≡ answered.Reply (answer_after after reply))
+IsGiven (next.Fault fault) after given = given ≡ answered.Reply (fault_answer fault)
 IsGiven next.More after given = given ≡ answered.Waits
 IsGiven next.Ended after given = given ≡ answered.Ended
 
@@ -72,46 +101,26 @@ abbrev pub ServesNext : ℤ → ServerState → Option Next → Option Reply →
 ServesNext moment old (Some (next.Message message)) (Some reply) new = Serves moment message reply old new
 ServesNext moment old _ reply new = new ≡ old
 
--- the next of a connection was answered; `given` is what its session gave. Or there was no memory, and nothing was
--- done. What the server did is said if `sound` holds
-abbrev pub IsAnswered : {E : Type 0} → Type 0 → ℤ → ServerState → Stream → Option Next → Result Answered E
-    → ServerState → Stream → Type 0
-IsAnswered sound moment old stream (Some given) (Ok answered) new after =
-    IsNext stream given after × IsGiven given after answered
+-- the next of a connection was answered, by what its session gave; or there was no memory, and nothing was done. What
+-- the server did is said if `sound` holds
+abbrev pub AnswersNext : Type 0 → ℤ → ServerState → Stream → Result Answered AllocError → ServerState → Stream → Type 0
+AnswersNext sound moment old stream (Ok answered) new after =
+    (given : Next) × IsNext stream given after × IsGiven given after answered
     × (sound → ServesNext moment old (Some given) (reply_of answered) new)
-IsAnswered sound moment old stream None (Err _) new after = (stream.ended ≡ false) × (new ≡ old) × (after ≡ stream)
-IsAnswered sound moment old stream _ _ new after = ⊥
-
--- `IsAnswered`, whatever its session gave
-abbrev pub AnswersNext : {E : Type 0} → Type 0 → ℤ → ServerState → Stream → Result Answered E → ServerState → Stream
-    → Type 0
-AnswersNext sound moment old stream result new after =
-    (given : Option Next) × IsAnswered sound moment old stream given result new after
+AnswersNext sound moment old stream (Err _) new after = (stream.ended ≡ false) × (new ≡ old) × (after ≡ stream)
 
 -- the message that stands first was served
-abbrev pub ServesFirst : Type 0 → ℤ → ServerState → Stream → Reply → ServerState → Stream → Type 0
-ServesFirst sound moment old stream reply new after =
-    (message : Message) × IsFirst stream message after × (sound → Serves moment message reply old new)
+abbrev pub ServesFirst : Type 0 → ℤ → ServerState → Stream → Answer → ServerState → Stream → Type 0
+ServesFirst sound moment old stream answer new after =
+    (message : Message) × IsFirst stream message after × (answer.last ≡ after.ended)
+    × (sound → Serves moment message answer.reply old new)
 
 -- the session has ended by the fault that stands first
-abbrev pub EndsBy : SessionFault → Stream → Reply → Stream → Type 0
-EndsBy fault old reply new =
-    IsNext old (next.Fault fault) new × (reply ≡ Sent (error_reply (code_of_session_fault fault)))
+abbrev pub EndsBy : SessionFault → Stream → Answer → Stream → Type 0
+EndsBy fault old answer new = IsNext old (next.Fault fault) new × (answer ≡ fault_answer fault)
 
--- the answer as a front gives it: the reply, if there is one, and whether it is the last
-abbrev pub answer_of : Answered → Option Answer
-answer_of (answered.Reply reply) = Some (record { reply = reply; last = false })
-answer_of (answered.Last reply) = Some (record { reply = reply; last = true })
-answer_of answered.Waits = None
-answer_of answered.Ended = None
-
--- the reply to a message that was served
-abbrev pub reply_if : {E : Type 0} → Result Reply E → Option Reply
-reply_if (Ok reply) = Some reply
-reply_if (Err _) = None
-
--- the reply of a result, if there is one
-abbrev pub reply_in : {E : Type 0} → Result Answered E → Option Reply
+-- the reply in a result, if there is one
+abbrev pub reply_in : Result Answered AllocError → Option Reply
 reply_in (Ok answered) = reply_of answered
 reply_in (Err _) = None
 

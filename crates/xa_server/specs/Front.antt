@@ -1,12 +1,13 @@
 -- Many connections over one server: what an answer is, and what one event after another does.
-use Rattle.std.specs.Prelude.{◌≡◌, ℤ, false, List, [], ◌∷◌, ◌++◌, Option, Some, None, Result, Ok, Err, IsTrue}
+use Rattle.std.specs.Prelude.{◌≡◌, ℕ, ℤ, false, List, [], ◌∷◌, ◌++◌, Option, Some, None, Result, Ok, Err, IsTrue}
 use Rattle.xa_http.specs.declared.session.Next.{Next}
 use Rattle.xa_http.specs.declared.session.Next.TheVariants as next
 use Rattle.xa_http.specs.Messages.{IsNext}
 use Rattle.xa_http.specs.Stream.{Stream}
+use Rattle.xa_records.specs.declared.refusal.Failure.TheVariants.{Store}
 use Rattle.xa_records.specs.Keeper.{Custody}
 use Rattle.xa_server.specs.Alone as messages
-use Rattle.xa_server.specs.Connection.{IsGiven, IsOneRun, ServesNext, answer_of}
+use Rattle.xa_server.specs.Connection.{CountsReplyIf, IsGiven, IsOneRun, ServesNext, answer_of, reply_if}
 use Rattle.xa_server.specs.declared.connection.Answered.{Answered}
 use Rattle.xa_server.specs.declared.event.Answer.{Answer}
 use Rattle.xa_server.specs.declared.event.Event.{Event}
@@ -18,6 +19,7 @@ use Rattle.xa_server.specs.declared.front_error.FrontError.{FrontError}
 use Rattle.xa_server.specs.declared.front_error.FrontError.TheVariants.{Memory, NoSuchConnection}
 use Rattle.xa_server.specs.declared.lines.Conn.{Conn}
 use Rattle.xa_server.specs.declared.replies.Reply.{Reply}
+use Rattle.xa_server.specs.declared.replies.Reply.TheVariants.{Refused}
 use Rattle.xa_server.specs.Lines.{IsClosed, IsHeld, IsOpen, IsOpened, Lines, line_at, with_line}
 use Rattle.xa_server.specs.World.{ServerState, server_state}
 
@@ -44,8 +46,8 @@ front_is_open custody front = IsTrue (custody front.server.records).is_open
 
 -- the reply in the result of an answer, if there is one
 abbrev pub reply_in_result : Result (Option Answer) FrontError → Option Reply
-reply_in_result (Ok (Some answer)) = Some answer.reply
-reply_in_result _ = None
+reply_in_result (Ok answer) = reply_if answer
+reply_in_result (Err _) = None
 
 -- a connection is answered, and no other changes; `given` is what its session gave. Or nothing is done
 abbrev pub AnswersAt : Conn → Lines → Option Next → Result (Option Answer) FrontError → Lines → Type 0
@@ -107,3 +109,22 @@ pub record IsPlayed (sound : Type 0) (old new : FrontState) (events : List Event
   pub nexts : List (Option Next)
   pub plays : Plays events outcomes nexts old.lines new.lines
   pub run : sound → IsOneRun old.server new.server (messages_cut events nexts) (replies_given nexts outcomes)
+
+-- ---- what calls tell of the keeper
+
+-- the reply in an outcome, if there is one
+abbrev pub reply_in_outcome : Outcome → Option Reply
+reply_in_outcome (outcome.Answered result) = reply_in_result result
+reply_in_outcome _ = None
+
+-- none of the events cut off a message that was refused for want of storage
+abbrev pub NoneRefusedByStore : List Outcome → Type 0
+NoneRefusedByStore [] = Unit {0}
+NoneRefusedByStore (outcome ∷ outcomes) =
+    ¬ (reply_in_outcome outcome ≡ Some (Refused Store)) × NoneRefusedByStore outcomes
+
+-- how often the keeper has failed by events: once more for each message that was refused for want of storage
+abbrev pub CountsOutcomes : ℕ → ℕ → List Outcome → Type 0
+CountsOutcomes old new [] = new ≡ old
+CountsOutcomes old new (outcome ∷ outcomes) =
+    (mid : ℕ) × CountsReplyIf old mid (reply_in_outcome outcome) × CountsOutcomes mid new outcomes

@@ -7,14 +7,17 @@ use Rattle.xa_http.specs.declared.session.Next.TheVariants as next
 use Rattle.xa_http.specs.Laws.{GoesThrough, Step, StopsAt, answers, bytes_fed, feeds}
 use Rattle.xa_http.specs.Messages.{Cuts}
 use Rattle.xa_http.specs.Stream.{Stream, fed}
+use Rattle.xa_records.specs.Keeper.{Custody}
 use Rattle.xa_server.specs.declared.event.Event.{Event}
 use Rattle.xa_server.specs.declared.event.Event.TheVariants as event
 use Rattle.xa_server.specs.declared.event.Outcome.{Outcome}
 use Rattle.xa_server.specs.declared.event.Outcome.TheVariants as outcome
+use Rattle.xa_server.specs.declared.front.Front.{Front}
 use Rattle.xa_server.specs.declared.lines.Conn.{Conn}
 use Rattle.xa_server.specs.declared.replies.Reply.{Reply}
-use Rattle.xa_server.specs.Front.{FrontState, IsPlayed, Plays}
+use Rattle.xa_server.specs.Front.{IsPlayed, Plays, front_is_sound, front_state}
 use Rattle.xa_server.specs.Lines.{IsOpen, Lines}
+use Rattle.xa_server.specs.Serving.{PlaysServed}
 
 -- what is done to a connection's session by an event of a connection: the step, if they are the same
 abbrev pub own_step : Conn → Conn → Step → List Step
@@ -68,11 +71,19 @@ LinesAreStreams =
     (map (λ exchange. exchange.0) (exchanges_on conn events nexts outcomes)) rest
     × StopsAt rest after
 
--- the law: if nothing was done, no event was played; and events that were played before others were played with them.
--- So calls that were made one after another, each the play of one event, were played
-abbrev pub StepsArePlayed : Type 0 → Type 0
-StepsArePlayed sound =
-    ((old : FrontState) → IsPlayed sound old old [] [])
-    × ((old mid new : FrontState) (events others : List Event) (outcomes rest : List Outcome)
-    → IsPlayed sound old mid events outcomes → IsPlayed sound mid new others rest
-    → IsPlayed sound old new (events ++ others) (outcomes ++ rest))
+-- the law: if nothing was done, no event was played; and events that were played, and then others, were played
+-- together, and the messages that they cut off were served one after another. So calls that were made one after
+-- another, each the play of one event, were played
+abbrev pub PlaysGoOn : {R : Type 0} → (R → Custody) → Type 0
+PlaysGoOn {R} custody =
+    ((front : Front R)
+    → IsPlayed (front_is_sound custody front) (front_state custody front) (front_state custody front) [] []
+    × PlaysServed custody front front [] [])
+    × ((old mid new : Front R) (events others : List Event) (outcomes rest : List Outcome)
+    → (front_is_sound custody new → front_is_sound custody mid)
+    → (IsPlayed (front_is_sound custody mid) (front_state custody old) (front_state custody mid) events outcomes
+    → IsPlayed (front_is_sound custody new) (front_state custody mid) (front_state custody new) others rest
+    → IsPlayed (front_is_sound custody new) (front_state custody old) (front_state custody new) (events ++ others)
+    (outcomes ++ rest))
+    × (PlaysServed custody old mid events outcomes → PlaysServed custody mid new others rest
+    → PlaysServed custody old new (events ++ others) (outcomes ++ rest)))

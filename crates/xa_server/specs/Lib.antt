@@ -19,7 +19,6 @@ pub mod Resources
 pub mod Connection
 pub mod Lines
 pub mod Front
-pub mod Fronting
 pub mod Serving
 pub mod FrontLaws
 pub mod Transfers

@@ -37,6 +37,10 @@ module _ {R : Type 0} (custody : R → Custody) where
       Serves custody old mid event reply × ServesEach mid events replies servers new
   ServesEach old _ _ _ new = ⊥
 
+  -- messages were served one after another, by some servers
+  abbrev pub HaveServed : ServerModel R → List messages.Event → List Reply → ServerModel R → Type 0
+  HaveServed old events replies new = (servers : List (ServerModel R)) × ServesEach old events replies servers new
+
   -- whether the keeper was open after each of the messages
   abbrev pub opens_in : List (ServerModel R) → List Bool
   opens_in servers = map (λ s. (custody s.records).is_open) servers

@@ -1,21 +1,19 @@
 //! A connection: the messages of its own bytes, each answered by a server.
 //!
-//! An answer has two steps, each in a function whose clauses settle one question:
-//! 1. `Connection::answer`: what stands at the front of the stream? By a look, which keeps the head that it
-//!    has read (`IsAnswered`).
-//! 2. `serve_first` and `end_by`: the message is cut off and served, or the session ends by the fault. What
-//!    the keeper is told follows from the server's clauses (`HandsOn`).
+//! What stands at the front of its stream is told by a look, which keeps the head that it has read. By it a
+//! message is cut off and served (`serve_first`), or the session ends by a fault (`end_by`). What the keeper
+//! is told follows from the server's clauses (`HandsOn`).
 ghost use Rattle.std.specs.Prelude.{◌≡◌, true, IfOk, OnErr, MatchResult, Ok, Some};
 ghost use Rattle.xa_http.specs.declared.session.Look.TheVariants as look;
 ghost use Rattle.xa_http.specs.Messages.{IsLook};
 ghost use Rattle.xa_server.specs.Connection.{AnswersNext, EndsBy, HandsOn, HasNoFirst, ServesFirst};
-ghost use Rattle.xa_server.specs.Connection.{TakesPiece};
-ghost use Rattle.xa_server.specs.Connection.{answer_of, answered_by, empty_stream, reply_if, reply_in};
+ghost use Rattle.xa_server.specs.Connection.{IsHolding, TakesPiece, answer_of, empty_stream, reply_in};
 ghost use Rattle.xa_server.specs.World.{server_state};
 
 use crate::error_code::fault_reply;
 use crate::event::Answer;
 use crate::front_error::FrontError;
+use crate::holding::Holding;
 use crate::replies::Reply;
 use crate::server::Server;
 use std::alloc::{AllocError, Global};
@@ -26,17 +24,14 @@ use xa_value::Moment;
 
 /// How many bytes a connection holds at most: more than the longest message, of 16,384 bytes of a head and
 /// 524,288 of a body, and a piece of 65,536. So one that waits for the rest of a message has room for each
-/// piece that is read, and for `drive` a piece that fails is want of memory.
+/// piece that is read.
 const MAX_CONNECTION_BYTES: usize = 1_048_576;
 
 /// What a connection is answered.
 #[derive(Debug, Drop)]
 pub enum Answered {
-    /// The reply to its first message. Its session goes on.
-    Reply(Reply),
-    /// The reply to its first message, or to the fault by which its stream ends. It is the last: the session
-    /// has ended with it (RFC 9112, section 9.6).
-    Last(Reply),
+    /// The reply to its first message, or to the fault by which its stream ends.
+    Reply(Answer),
     /// No whole message has come yet.
     Waits,
     /// The session has ended before.
@@ -44,24 +39,12 @@ pub enum Answered {
 }
 
 impl Answered {
-    /// The reply to a message, by whether the session has ended with it.
-    fn by(last: bool, reply: Reply) -> Answered
-        ensures { result ≡ answered_by last reply }
-    {
-        if last {
-            Answered::Last(reply)
-        } else {
-            Answered::Reply(reply)
-        }
-    }
-
-    /// The answer as `Front` gives it; none if there is no reply.
+    /// The answer, if there is one.
     pub(crate) fn into_answer(self) -> Option<Answer>
         ensures { result ≡ answer_of self }
     {
         match self {
-            Answered::Reply(reply) => Some(Answer { reply, last: false }),
-            Answered::Last(reply) => Some(Answer { reply, last: true }),
+            Answered::Reply(answer) => Some(answer),
             Answered::Waits | Answered::Ended => None,
         }
     }
@@ -125,11 +108,24 @@ impl Connection {
         self.session.look()
     }
 
+    /// What it holds of its stream. Nothing is changed.
+    pub fn holding(&mut self) -> Result<Holding, AllocError>
+        ensures holding { IfOk result (IsHolding self.old) }
+        ensures same { self.new ≡ self.old }
+    {
+        Ok(match self.session.look()? {
+            Look::Message | Look::Fault(_) => Holding::Whole,
+            Look::More if self.session.held_len() == 0 => Holding::Nothing,
+            Look::More => Holding::Part,
+            Look::Ended => Holding::Ended,
+        })
+    }
+
     /// Has the first whole message that it holds answered by the server, at that moment, or the fault by
     /// which its stream ends; nothing if there is neither. The reply to a fault is the same at every
     /// moment. Without memory before the message is cut off, or for the reply to the fault, nothing has
     /// changed. If no message is whole the server isn't asked.
-    #[tactic(auto, using(crate::proofs::NextLemmas::first_answered, crate::proofs::NextLemmas::fault_answered, crate::proofs::NextLemmas::none_answered, crate::proofs::NextLemmas::waits_answered, crate::proofs::NextLemmas::ended_answered, crate::proofs::NextLemmas::first_handed, crate::proofs::NextLemmas::fault_handed, crate::proofs::NextLemmas::none_handed, crate::proofs::NextLemmas::message_first))]
+    #[tactic(auto, using(crate::proofs::NextLemmas::waits_answered, crate::proofs::NextLemmas::ended_answered, crate::proofs::NextLemmas::unasked, crate::proofs::NextLemmas::message_first))]
     pub fn answer<R: Records>(
         &mut self,
         server: &mut Server<R>,
@@ -143,11 +139,8 @@ impl Connection {
         ensures handed { HandsOn R.custody server.old server.new moment (Some self.old) (reply_in result) }
     {
         match self.session.look()? {
-            Look::Message => {
-                let reply = self.serve_first(server, moment)?;
-                Ok(Answered::by(self.has_ended(), reply))
-            }
-            Look::Fault(fault) => Ok(Answered::Last(self.end_by(fault)?)),
+            Look::Message => Ok(Answered::Reply(self.serve_first(server, moment)?)),
+            Look::Fault(fault) => Ok(Answered::Reply(self.end_by(fault)?)),
             Look::More => Ok(Answered::Waits),
             Look::Ended => Ok(Answered::Ended),
         }
@@ -158,30 +151,33 @@ impl Connection {
         &mut self,
         server: &mut Server<R>,
         moment: Moment,
-    ) -> Result<Reply, AllocError>
+    ) -> Result<Answer, AllocError>
         requires { IsLook self.old look.Message }
-        ensures served { IfOk result (λ reply. ServesFirst (R.custody server.new.records).sound moment
-            (server_state R.custody server.old) self.old reply
+        ensures served { IfOk result (λ answer. ServesFirst (R.custody server.new.records).sound moment
+            (server_state R.custody server.old) self.old answer
             (server_state R.custody server.new) self.new) }
+        ensures handed { IfOk result (λ answer.
+            HandsOn R.custody server.old server.new moment (Some self.old) (Some answer.reply)) }
         ensures err { OnErr result ((server.new ≡ server.old) × (self.new ≡ self.old)) }
-        ensures handed { HandsOn R.custody server.old server.new moment (Some self.old) (reply_if result) }
     {
         // The look has read the head, and the session has kept it: it isn't read again.
         let Next::Message(message) = self.session.next()? else {
             unreachable!()
         };
-        Ok(server.serve(moment, &message))
+        let reply = server.serve(moment, &message);
+        let last = self.session.has_ended();
+        Ok(Answer { reply, last })
     }
 
     /// Ends its session by the fault that stands at the front of its stream, and gives the reply to it.
     /// Without memory for that the session hasn't ended.
-    pub(crate) fn end_by(&mut self, fault: SessionFault) -> Result<Reply, AllocError>
+    pub(crate) fn end_by(&mut self, fault: SessionFault) -> Result<Answer, AllocError>
         requires { IsLook self.old (look.Fault fault) }
-        ensures { MatchResult result (λ reply. EndsBy fault self.old reply self.new)
+        ensures { MatchResult result (λ answer. EndsBy fault self.old answer self.new)
             (λ _. self.new ≡ self.old) }
     {
-        let reply = fault_reply(self.alloc, fault)?;
+        let reply = Reply::Sent(fault_reply(self.alloc, fault)?);
         self.session.end();
-        Ok(Reply::Sent(reply))
+        Ok(Answer { reply, last: true })
     }
 }

@@ -5,17 +5,18 @@
 //! borrows it (`lines`), and makes the same calls, as `drive` does. `play` makes a list of calls, by `step`.
 ghost use Rattle.std.specs.Prelude.{◌≡◌, [], ◌∷◌, IfOk, IsTrue, OnErr, MatchResult, Some};
 ghost use Rattle.xa_records.specs.declared.refusal.Failure.TheVariants.{Store};
-ghost use Rattle.xa_server.specs.Connection.{CountsReplyIf, HandsOn, HasNoFirst};
+ghost use Rattle.xa_server.specs.Connection.{CountsReplyIf, HandsOn, HasNoFirst, IsHoldingOf};
 ghost use Rattle.xa_server.specs.Front.{AnswersLine, IsPlayed, front_is_clean, front_is_open, front_is_sound};
-ghost use Rattle.xa_server.specs.Front.{front_state, reply_in_result};
-ghost use Rattle.xa_server.specs.Fronting.{CountsOutcomes, NoneRefusedByStore, reply_in_outcome};
-ghost use Rattle.xa_server.specs.FrontLaws.{LinesAreStreams, StepsArePlayed};
+ghost use Rattle.xa_server.specs.Front.{CountsOutcomes, NoneRefusedByStore, front_state, reply_in_outcome};
+ghost use Rattle.xa_server.specs.Front.{reply_in_result};
+ghost use Rattle.xa_server.specs.FrontLaws.{LinesAreStreams, PlaysGoOn};
 ghost use Rattle.xa_server.specs.Serving.{PlaysServed};
 ghost use Rattle.xa_server.specs.Lines.{IsClosed, IsHeld, IsOpened, all_open, line_at, none_open};
 ghost use Rattle.xa_server.specs.declared.replies.Reply.TheVariants.{Refused};
 
 use crate::event::{Answer, Event, Outcome};
 use crate::front_error::FrontError;
+use crate::holding::Holding;
 use crate::lines::{Conn, Lines};
 use crate::server::Server;
 use std::alloc::{AllocError, AllocFailed, Global};
@@ -95,12 +96,24 @@ impl<R: Records> Front<R> {
         }
     }
 
+    /// What the connection holds of its stream. Nothing is changed. Fails with `NoSuchConnection`, if it
+    /// isn't open; else with `Memory` alone.
+    pub fn holding(&mut self, conn: Conn) -> Result<Holding, FrontError>
+        ensures holding { IfOk result (IsHoldingOf (line_at conn self.old.lines)) }
+        ensures same { self.new ≡ self.old }
+    {
+        match self.lines.get_mut(conn) {
+            Some(connection) => Ok(connection.holding()?),
+            None => Err(FrontError::NoSuchConnection),
+        }
+    }
+
     /// Answers the first whole message of the connection's bytes, or the fault by which its stream ends;
     /// nothing if there is neither. No other connection's bytes change. Without memory before the
     /// message is cut off, or for the reply to the fault, nothing has changed. The reply to a fault is
     /// the same at every moment. Fails with `NoSuchConnection`, if it isn't open; else with `Memory`
     /// alone.
-    #[tactic(auto, using(crate::proofs::NextLemmas::answered_at, crate::proofs::NextLemmas::unanswered_at, crate::proofs::NextLemmas::line_handed, crate::proofs::NextLemmas::none_handed))]
+    #[tactic(auto, using(crate::proofs::NextLemmas::unanswered_at, crate::proofs::NextLemmas::unasked))]
     pub fn answer(&mut self, conn: Conn, moment: Moment) -> Result<Option<Answer>, FrontError>
         ensures answered { AnswersLine (front_is_sound R.custody self.new) conn moment
             (front_state R.custody self.old) result (front_state R.custody self.new) }
@@ -127,7 +140,7 @@ impl<R: Records> Front<R> {
 
     /// Makes one call, and gives what it has given: that is to play one event, and takes no memory for a
     /// list.
-    #[tactic(auto, using(crate::proofs::PlayLemmas::begun, crate::proofs::PlayLemmas::held, crate::proofs::PlayLemmas::answered, crate::proofs::PlayLemmas::finished))]
+    #[tactic(auto, using(crate::proofs::PlayLemmas::unasked_played, crate::proofs::PlayLemmas::answered))]
     pub fn step(&mut self, event: &Event<'_>) -> Outcome
         ensures played { IsPlayed (front_is_sound R.custody self.new) (front_state R.custody self.old)
             (front_state R.custody self.new) (event.now ∷ []) (result ∷ []) }
@@ -178,10 +191,10 @@ impl<R: Records> Front<R> {
         Ok(outcomes)
     }
 
-    /// Law: to play events is to make their calls, one after another. So who makes them by `step`, or by the
-    /// calls that it makes, has played them, and needs no list of outcomes.
-    pub fn steps_are_played(&self)
-        ensures { StepsArePlayed (front_is_sound R.custody self.now) }
+    /// Law: events that were played, and then others, were played together. So who makes calls one after
+    /// another, by `step`, has played them, and needs no list of outcomes.
+    pub fn plays_go_on()
+        ensures { PlaysGoOn R.custody }
     {}
 }
 

@@ -1,5 +1,5 @@
 //! The connections of a front, by their numbers.
-ghost use Rattle.std.specs.Prelude.{◌≡◌, option_map, IfOk};
+ghost use Rattle.std.specs.Prelude.{◌≡◌, ◌<◌, length, option_map, IfOk, IfSome};
 ghost use Rattle.std.specs.Borrow.{sem};
 ghost use Rattle.xa_server.specs.Lines.{IsClosed, IsOpened, all_open, first_free, line_at, none_open};
 ghost use Rattle.xa_server.specs.Lines.{with_line};
@@ -106,14 +106,15 @@ impl Lines {
 }
 
 /// The least place at which no connection is.
-#[tactic(auto, using(crate::proofs::LineLemmas::from_first))]
 fn first_free(connections: &[Option<Connection>]) -> Option<usize>
-    ensures { result ≡ first_free connections.now }
+    ensures free { result ≡ first_free connections.now }
+    ensures within { IfSome result (λ number. number < length connections.now) }
 {
-    for (number, connection) in connections.iter().enumerate() {
-        if connection.is_none() {
-            return Some(number);
-        }
+    let [first, rest @ ..] = connections else {
+        return None;
+    };
+    if first.is_none() {
+        return Some(0);
     }
-    None
+    Some(first_free(rest)? + 1)
 }

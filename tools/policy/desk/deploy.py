@@ -40,7 +40,8 @@ def told(run: Callable[[argparse.Namespace], int]) -> Callable[[argparse.Namespa
         except ServerFault as fault:
             if getattr(options, "json", False):
                 print(json.dumps({"error": str(fault)}))
-            print(text.wrapped(f"policy: {fault}.", "", "    "), file=sys.stderr)
+            end = "" if str(fault).endswith("?") else "."
+            print(text.wrapped(f"policy: {fault}{end}", "", "    "), file=sys.stderr)
             return NOT_DONE
     return telling
 

@@ -1,5 +1,5 @@
 """Messages to a server (docs/guide/API.md), by the client for applications (clients/python), and the token that they
-show. Each message has a connection of its own, since a server serves one after another."""
+show. Each message has a connection of its own, since `pdpd serve` takes one after another."""
 from __future__ import annotations
 
 import json

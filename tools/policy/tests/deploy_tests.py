@@ -1,7 +1,7 @@
 """What the tests of deployment share: a server, domains on it, folders, and asks between the requests of a
 deployment.
 
-The server is `pdpd serve` where it is built (crates/pdpd/out/pdpd, build/pdpd, or the path in DESK_PDPD),
+The server is `pdpd listen` where it is built (crates/pdpd/out/pdpd, build/pdpd, or the path in DESK_PDPD),
 and else the model's server in Python.
 """
 from __future__ import annotations
@@ -181,7 +181,7 @@ class Running:
             self.served = ModelServed(self.model, self.port)
         else:
             self.served = serving.Served(PDPD, str(self.folder / "store.db"), str(self.folder / "token"),
-                                         port=self.port)
+                                         port=self.port, command="listen")
 
     def kill(self) -> None:
         self.served.kill()

@@ -44,7 +44,9 @@ class Refused(DeployTest):
         return found, written + said
 
     def test_servers_that_are_none(self) -> None:
-        self.assertIn("Connection refused", self.at(f"http://127.0.0.1:{serving.free_port()}")[1])
+        said = self.at(f"http://127.0.0.1:{serving.free_port()}")[1]
+        self.assertIn("Connection refused", said)
+        self.assertRegex(said, r"right\?\n")  # (a question ends with no full stop)
         for server in ("127.0.0.1:8080", "ftp://127.0.0.1", "http://127.0.0.1:x", "http://user@127.0.0.1"):
             self.assertEqual(self.at(server)[0], 2, server)
         for held in (b"", b"hello\r\n\r\n", b"HTTP/1.1 200 OK\r\nContent-Length: 2\r\n\r\n[]",

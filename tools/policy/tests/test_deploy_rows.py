@@ -60,8 +60,7 @@ class Weighed(DeployTest):
     def test_what_pages_say(self) -> None:
         """So many rows of an ordinary length fit, and hardly more."""
         count, size = re.search(r"room for some ([0-9,]+) of ([0-9]+) bytes", page("docs/guide/API.md")).groups()
-        for other in ("README.md", "docs/guide/POLICIES.md"):
-            self.assertIn(f"{count}](", page(other))
+        self.assertIn(f"{count}](", page("README.md"))
         ordinary = json.dumps(row("first.last0001@example.com", ROLE, "accountant"), separators=(",", ":"))
         self.assertEqual(len(ordinary), int(size))
         number = int(count.replace(",", ""))

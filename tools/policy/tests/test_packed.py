@@ -134,7 +134,7 @@ class Packed(DeployTest):
     def test_the_version(self) -> None:
         """It is that of pdpd."""
         held = (TOP / "crates" / "pdpd" / "src" / "help.rt").read_text(encoding="utf-8")
-        version = re.search(r'VERSION: &str = "pdpd ([0-9.]+)"', held)[1]
+        version = re.search(r'VERSION: &str = "pdpd ([0-9.]+)["\n]', held)[1]
         self.assertTrue(self.ran(sys.executable, "--version").stdout.startswith(f"policy {version}, "))
 
 

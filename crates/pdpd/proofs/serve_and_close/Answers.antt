@@ -1,18 +1,41 @@
 use Rattle.std.proofs.Common.{rules, ◌≡◌, ◌∙◌, ap, Err, Ok}
 use Rattle.sqlite.specs.WalFiles.{image_at}
 use Rattle.pdpd.proofs.BeginningLemmas.{serves_files}
+use Rattle.pdpd.proofs.EndingLemmas.{serves_as}
 use Rattle.pdpd.specs.Beginning.{known_text}
+use Rattle.pdpd.specs.Connections.{at_clock}
 use Rattle.pdpd.specs.declared.fault.Fault.TheVariants.{Address}
 use Rattle.pdpd.proofs.serve_and_close.Goals as goal
 
-pub returns-clause-served : goal.returns-clause-served
-returns-clause-served g c =
-    serves_files (image_at g.S.Start) (known_text g.F.Read.remaining c.args.token) c.args.serving.now.connections c.in_ok-front.front c.into_records.result c.close_records.result
-    (c.into_records.ensures ∙ ap (λ s. s.records) c.into_server.ensures) c.in_ok-front.ensures.served
-    c.close_records.ensures.closed
+pub returns-in-Err-result-clause-left : goal.returns-in-Err-result-clause-left
+returns-in-Err-result-clause-left g c = (
+  c.in-Err-result.is,
+  serves_as (image_at g.S.Start) (known_text g.F.Read.remaining c.args.token) (g.C.Clock.told c.args.clock.now) c.args.serving.now.connections c.in-Ok.left.result (Err c.in-Err-result.fault)
+      (at_clock c.in-Ok.left.front (g.C.Clock.told c.serve.new.clock)) c.in-Err-result.is c.in-Ok.ensures.served,
+)
 
-pub returns-clause-address : goal.returns-clause-address
-returns-clause-address g c none =
-    let served : c.serve.result ≡ Ok c.in_ok-front.front = search rules in
+pub returns-in-Err-result-clause-address : goal.returns-in-Err-result-clause-address
+returns-in-Err-result-clause-address g c none =
+    let served : c.serve.result ≡ Ok c.in-Ok.left = search rules in
+    let refused : c.serve.result ≡ Err Address = c.serve.ensures.address.1 none in
+    absurd cc
+
+pub returns-in-Ok-close_records-clause-served : goal.returns-in-Ok-close_records-clause-served
+returns-in-Ok-close_records-clause-served g c =
+    serves_files (image_at g.S.Start) (known_text g.F.Read.remaining c.args.token) (g.C.Clock.told c.args.clock.now) (g.C.Clock.told c.serve.new.clock) c.args.serving.now.connections
+    c.in-Ok.left.front c.into_records.result (Ok c.in-Ok-close_records.closed) (c.into_records.ensures ∙ ap (λ s. s.records) c.into_server.ensures)
+    (serves_as (image_at g.S.Start) (known_text g.F.Read.remaining c.args.token) (g.C.Clock.told c.args.clock.now) c.args.serving.now.connections c.in-Ok.left.result (Ok tt)
+    (at_clock c.in-Ok.left.front (g.C.Clock.told c.serve.new.clock)) c.in_default.is c.in-Ok.ensures.served)
+    c.in-Ok-close_records.ensures.closed
+
+pub returns-in-Ok-close_records-clause-address : goal.returns-in-Ok-close_records-clause-address
+returns-in-Ok-close_records-clause-address g c none =
+    let served : c.serve.result ≡ Ok c.in-Ok.left = search rules in
+    let refused : c.serve.result ≡ Err Address = c.serve.ensures.address.1 none in
+    absurd cc
+
+pub returns-in-Err-close_records-clause-address : goal.returns-in-Err-close_records-clause-address
+returns-in-Err-close_records-clause-address g c none =
+    let served : c.serve.result ≡ Ok c.in-Ok.left = search rules in
     let refused : c.serve.result ≡ Err Address = c.serve.ensures.address.1 none in
     absurd cc

@@ -1,16 +1,16 @@
 -- How the store's file is opened.
-use Rattle.std.specs.Prelude.{◌≡◌, Bool, Ok}
+use Rattle.std.specs.Prelude.{◌≡◌, Bool, Ok, IsTrue}
 use Rattle.sqlite.specs.Files.{IsBlankAs, IsOpened, file_state, over_files}
 use Rattle.sqlite.specs.FileStore.{view}
-use Rattle.sqlite.specs.Held.{Held}
+use Rattle.sqlite.specs.Held.{Held, state}
 use Rattle.sqlite.specs.Recovery.{Image}
 use Rattle.sqlite.specs.Start.{FindsIn}
 use Rattle.sqlite.specs.State.{State, HasCleanDisk}
 use Rattle.sqlite.specs.Store.{Ghosts}
 use Rattle.sqlite_disk.specs.declared.Disk as disk
 use Rattle.sqlite_store.specs.declared.store.FileStore.{FileStore}
-use Rattle.xa_store.specs.Keeper.{Keeper}
-use Rattle.xa_store.specs.Opening.{IsBlank, Makes, Migrates, Opens}
+use Rattle.xa_store.specs.Keeper.{IsSound, Keeper}
+use Rattle.xa_store.specs.Opening.{IsBlank, IsKnown, Makes, Migrates, Opens}
 use Rattle.xa_store.specs.Sound.{Rests, RestsIn}
 use Rattle.xa_store.specs.Tables.{schema_1}
 
@@ -19,6 +19,8 @@ pub record IsKeeperOver {S : Type 0} (g : Ghosts S) (s : State) (k : Keeper S) :
   pub opens : Rests s → Opens g s (Ok k)
   pub migrates : RestsIn schema_1 s → Migrates g s (Ok k)
   pub makes : IsBlank s → Makes g s (Ok k)
+  pub stays : HasCleanDisk (state g k.conn) → IsKnown s → IsTrue (state g k.conn).is_open
+  pub sound : IsTrue (state g k.conn).is_open → IsSound g k
 
 -- the keeper is what opening a connection to two files gave that held `image`, and the disk has returned what was
 -- written; files that held no database yet have sums, if new ones are to have them

@@ -1,12 +1,13 @@
 -- What is served.
-use Rattle.std.specs.Prelude.{◌⊎◌, ℕ}
+use Rattle.std.specs.Prelude.{◌≡◌, ◌⊎◌, ℕ, List, Option, None, Some, Result, Ok, Err}
 use Rattle.xa_records.specs.Keeper.{Custody}
 use Rattle.xa_server.specs.declared.front.Front.{Front}
+use Rattle.xa_server.specs.declared.replies.Reply.{Reply as ServerReply}
+use Rattle.xa_server.specs.Alone.{Event}
 use Rattle.xa_server.specs.Driven.{Known}
-use Rattle.xa_server.specs.Front.{FrontState}
 use Rattle.pdpd.specs.declared.fault.Fault.{Fault}
 use Rattle.pdpd.specs.declared.serve.setting.Setting.TheVariants.{Work, Reply, Reading, Views, Idle, Sums}
-use Rattle.pdpd.specs.Connections.{AreIsolated, IsConnectionServed}
+use Rattle.pdpd.specs.Connections.{AreIsolated, AreOneRun, Clocked, ServesOne, ServesSome}
 use Rattle.pdpd.specs.Fault.{IsOfSetting}
 
 -- a fault of one of the settings
@@ -16,13 +17,35 @@ IsOfSettings fault =
     ⊎ (IsOfSetting Reply fault
     ⊎ (IsOfSetting Reading fault ⊎ (IsOfSetting Views fault ⊎ (IsOfSetting Idle fault ⊎ IsOfSetting Sums fault))))
 
--- a connection was served, whatever is known of its reader, its writer and the clock
-unfoldable pub ServesOne : FrontState → FrontState → Type 0
-ServesOne old new = (known_old : Known) × (known_new : Known) × IsConnectionServed old new known_old known_new
+-- the fault by which the program ends, if it does
+abbrev pub fault_in : Result (Unit {0}) Fault → Option Fault
+fault_in (Ok _) = None
+fault_in (Err fault) = Some fault
 
--- that many connections were served, as `AreIsolated` says
-unfoldable pub Serves : ℕ → FrontState → FrontState → Type 0
-Serves count old new = AreIsolated count old new
+-- a connection was served, and the next is; or the program ends by the fault. `known_old` and `known_new` are what is
+-- known of its reader, its writer and the clock
+unfoldable pub ServesConnection : {R : Type 0} → (R → Custody) → Result (Unit {0}) Fault → Front R → Front R → Known
+    → Known → Type 0
+ServesConnection custody result old new known_old known_new =
+    (events : List Event) × (replies : List ServerReply)
+    × ServesOne custody (fault_in result) old new known_old known_new events replies
+    × AreOneRun custody old new events replies
+
+-- some connection was served so
+abbrev pub ServesAny : {R : Type 0} → (R → Custody) → Option Fault → Clocked R → Clocked R → Type 0
+ServesAny custody fault old new =
+    (events : List Event) × (replies : List ServerReply) × ServesSome custody fault old new events replies
+    × AreOneRun custody old.front new.front events replies
+
+-- what serving the next connection has come to: it was served, and the next is; or the program ends by the fault,
+-- before a connection was there or after it was served
+unfoldable pub ServesNext : {R : Type 0} → (R → Custody) → Result (Unit {0}) Fault → Clocked R → Clocked R → Type 0
+ServesNext custody (Ok _) old new = ServesAny custody None old new
+ServesNext custody (Err fault) old new = (new ≡ old) ⊎ ServesAny custody (Some fault) old new
+
+-- connections were served, as `AreIsolated` says
+unfoldable pub Serves : {R : Type 0} → (R → Custody) → ℕ → Result (Unit {0}) Fault → Clocked R → Clocked R → Type 0
+Serves custody count result old new = AreIsolated custody count result old new
 
 -- the keeper behind a front holds what it is told to hold: it did before, if it does afterwards
 abbrev pub WasSound : {R : Type 0} → (R → Custody) → Front R → Front R → Type 0

@@ -47,13 +47,9 @@ fn answer_next<R: Records, W: Write>(
     ensures err { IfErr result (λ exit. IsTrue (breaks_off exit)) }
 {
     match connection.answer(server, heading.moment)? {
-        Answered::Reply(reply) => {
-            write_reply(writer, heading.connection, reply.bytes())?;
-            Ok(true)
-        }
-        Answered::Last(reply) => {
-            write_reply(writer, heading.connection, reply.bytes())?;
-            Ok(false)
+        Answered::Reply(answer) => {
+            write_reply(writer, heading.connection, answer.reply.bytes())?;
+            Ok(!answer.last)
         }
         Answered::Waits | Answered::Ended => Ok(false),
     }

@@ -113,15 +113,22 @@ fn is_of_network(number: u32) -> bool
 }
 
 /// Whether a failure of that number says that there was no room for a connection.
-fn is_want_of_room(number: u32) -> bool
+pub(crate) fn is_want_of_room(number: u32) -> bool
     ensures { result ≡ is_want_of_room number }
 {
     matches!(number, EMFILE | ENFILE | ENOMEM | ENOBUFS)
 }
 
 /// The system's number of a failure; 0 if it has none.
-fn number_of(error: &io::Error) -> u32 {
+pub(crate) fn number_of(error: &io::Error) -> u32 {
     error.raw_os_error().unwrap_or(0).unsigned_abs()
+}
+
+/// Whether the next connection may be taken after a failure of that kind and number.
+pub(crate) fn goes_on_after(kind: ErrorKind, number: u32) -> bool
+    ensures { result ≡ goes_on_after kind number }
+{
+    is_want_of_room(number) || is_passing(kind) || is_of_network(number)
 }
 
 /// Passes over that failure, after a pause if there was no room; or it is a fault.

@@ -27,9 +27,31 @@ const DEFAULT_VIEWS: usize = 268_435_456;
 /// served at a time, so a silent one would stop everybody.
 const DEFAULT_IDLE: usize = 30;
 
+/// For how many seconds a message may come from its first byte on if PDPD_MESSAGE isn't set.
+const DEFAULT_MESSAGE: usize = 10;
+
 /// Whether a new file has sums if PDPD_SUMS isn't set: it has. By them a changed bit of a file that nobody
 /// has open is refused; without them a policy may be served that nobody wrote.
 const DEFAULT_SUMS: usize = 1;
+
+/// All settings that are numbers.
+const NUMBERS: [Setting; 7] = [
+    Setting::Work,
+    Setting::Reply,
+    Setting::Reading,
+    Setting::Views,
+    Setting::Idle,
+    Setting::Message,
+    Setting::Sums,
+];
+
+/// The name of the variable that says how the program is told to end.
+pub const END: &str = "PDPD_END";
+
+/// Whether a command looks at the variable of that name.
+pub fn is_setting(name: &str) -> bool {
+    name == END || NUMBERS.iter().any(|setting| setting.variable() == name)
+}
 
 /// A setting that the environment gives.
 #[derive(Clone, Copy)]
@@ -44,6 +66,8 @@ pub enum Setting {
     Views,
     /// For how many seconds a connection may give nothing, or take nothing; 0 for ever.
     Idle,
+    /// For how many seconds a message may come from its first byte until it is whole; 0 for ever.
+    Message,
     /// 1 if a new file of a store has sums, else 0.
     Sums,
 }
@@ -57,6 +81,7 @@ impl Setting {
             Setting::Reading => "PDPD_READING",
             Setting::Views => "PDPD_VIEWS",
             Setting::Idle => "PDPD_IDLE",
+            Setting::Message => "PDPD_MESSAGE",
             Setting::Sums => "PDPD_SUMS",
         }
     }
@@ -71,6 +96,7 @@ impl Setting {
             }
             Setting::Views => "PDPD_VIEWS is to be a number of bytes of memory, or 0 for none",
             Setting::Idle => "PDPD_IDLE is to be a number of seconds, or 0 for no limit",
+            Setting::Message => "PDPD_MESSAGE is to be a number of seconds, or 0 for no limit",
             Setting::Sums => "PDPD_SUMS is to be 1, or 0 for a new file without sums",
         }
     }
@@ -85,6 +111,7 @@ impl Setting {
             Setting::Reading => DEFAULT_READING,
             Setting::Views => DEFAULT_VIEWS,
             Setting::Idle => DEFAULT_IDLE,
+            Setting::Message => DEFAULT_MESSAGE,
             Setting::Sums => DEFAULT_SUMS,
         }
     }
@@ -95,9 +122,8 @@ impl Setting {
     {
         match self {
             Setting::Sums => 1,
-            Setting::Work | Setting::Reply | Setting::Reading | Setting::Views | Setting::Idle => {
-                usize::MAX
-            }
+            Setting::Work | Setting::Reply | Setting::Reading | Setting::Views => usize::MAX,
+            Setting::Idle | Setting::Message => usize::MAX,
         }
     }
 

@@ -8,6 +8,7 @@ ghost use Rattle.pdpd.specs.Setting.{limit_of};
 
 use crate::fault::Fault;
 use crate::serve::setting::Setting;
+use crate::serve::unknown::tell_of_unknown;
 use sqlite::Alter;
 use std::alloc::Global;
 use xa_records::{Digest, Records};
@@ -33,10 +34,12 @@ pub struct Settings {
 }
 
 impl Settings {
-    /// What the environment sets, or the fault of the first variable that is set to no number.
+    /// What the environment sets, or the fault of the first variable that is set to no number. A line on
+    /// standard error tells of each that is named as they are, and is none.
     pub fn read(rt: &HostRuntime) -> Result<Settings, Fault>
         ensures { IfErr result IsOfSettings }
     {
+        tell_of_unknown(rt);
         Ok(Settings {
             work: Setting::Work.value(rt)?,
             reply: Setting::Reply.value(rt)?,

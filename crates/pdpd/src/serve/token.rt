@@ -8,7 +8,7 @@ ghost use Rattle.pdpd.specs.Fault.{IsOfToken, fault_of_reading};
 ghost use Rattle.pdpd.specs.Beginning.{known_text};
 ghost use Rattle.pdpd.specs.Token.{IsOperatorIn, first_line};
 
-use crate::fault::{Fault, OneLine};
+use crate::fault::{Fault, Named};
 use crate::mode::lets_others_read;
 use std::alloc::Global;
 use std::fs::OpenFile;
@@ -87,7 +87,7 @@ fn is_open_to_others(file: &impl OpenFile) -> bool {
 /// why it can't be opened. A line on standard error tells of a file that others can read.
 pub fn operator_of_file<F: OpenFile + Read + Drop>(
     rt: &HostRuntime,
-    path: &str,
+    named: Named<'_>,
     opened: io::Result<F>,
 ) -> Result<Digest, Fault>
     ensures operator { IfOk result (IsOperatorIn (known_text F.remaining opened)) }
@@ -99,8 +99,7 @@ pub fn operator_of_file<F: OpenFile + Read + Drop>(
     };
     if is_open_to_others(&file) {
         let _ = eprintln!(rt;
-            "pdpd serve: {}: others than its owner can read the operator's token; chmod 600",
-            OneLine { text: path }
+            "{named}: others than its owner can read the operator's token; chmod 600"
         );
     }
     operator_of(rt.alloc(), file)

@@ -1,20 +1,27 @@
--- How a connection is driven: one read, one reply, and its messages so far.
-use Rattle.std.specs.Prelude.{◌≡◌, ◌≢◌, ◌+◌, ℕ, Bool, true, false, List, [], ◌∷◌, Option, Result, Ok, Err}
+-- How a connection is driven: one read, one reply, and what is known of its messages and of its end.
+use Rattle.std.specs.Prelude.{◌≡◌, ◌≢◌, ℕ, Bool, true, false, List, [], ◌∷◌, Option, Result, Ok, Err, IsTrue}
 use Rattle.std.specs.Io.KnownBytes.{Consumes, IsAtEnd}
 use Rattle.std.specs.declared.io.ErrorKind.{ErrorKind}
 use Rattle.std.specs.declared.io.ErrorKind.TheVariants.{Interrupted}
-use Rattle.xa_http.specs.declared.fault.SessionFault.{SessionFault}
-use Rattle.xa_http.specs.declared.session.Next.TheVariants as next
-use Rattle.xa_http.specs.Messages.{IsNext}
 use Rattle.xa_http.specs.Stream.{Stream, fed}
+use Rattle.xa_records.specs.Keeper.{Custody}
+use Rattle.xa_server.specs.Alone.{Event}
+use Rattle.xa_server.specs.Connection.{IsOneRun, TakesPiece}
 use Rattle.xa_server.specs.declared.drive_end.DriveEnd.{DriveEnd}
 use Rattle.xa_server.specs.declared.drive_end.DriveEnd.TheVariants.{Ended, ReadFault, WriteFault, Memory, Shut}
+use Rattle.xa_server.specs.declared.front_error.FrontError.TheVariants as refused
 use Rattle.xa_server.specs.declared.replies.Reply.{Reply}
-use Rattle.xa_server.specs.Driven.{HasAnswered, IsDrivenWithin, IsWaiting, Situation}
-use Rattle.xa_server.specs.ErrorCode.{code_of_session_fault, error_reply}
-use Rattle.xa_server.specs.Replies.{bytes_of}
-use Rattle.xa_server.specs.Served.{may_go_on}
-use Rattle.xa_server.specs.Transfers.{Grows, IsReadOn, IsWritten, ReadEnd, WriteEnd, bytes_read, gave, unread}
+use Rattle.xa_server.specs.Driven.{Ends, HasAnswered, IsWaiting, Situation}
+use Rattle.xa_server.specs.Serving.{HaveServed}
+use Rattle.xa_server.specs.Transfers.{Grows, IsReadOn, ReadEnd, bytes_read, gave, unread}
+use Rattle.xa_server.specs.World.{server_state}
+
+-- what calls leave of a keeper, whatever it has come to
+pub record LeavesKeeper (old new : Custody) : Type 0 where
+  pub sound : new.sound → old.sound
+  pub clean : new.clean → old.clean
+  pub stays : new.clean → old.sound → IsTrue new.is_open → new.sound
+  pub was_open : IsTrue new.is_open → IsTrue old.is_open
 
 -- ---- one read
 
@@ -25,7 +32,7 @@ IsReadAs (Err Ended) read left old new = (read ≡ gave 65_536 []) × IsAtEnd le
 IsReadAs (Err ReadFault) read left old new =
     (kind : ErrorKind) × (kind ≢ Interrupted) × (read ≡ unread kind) × (new ≡ old)
 IsReadAs (Err Memory) read left old new =
-    (piece : List ℕ) × (read ≡ gave 65_536 piece) × IsReadOn read × (new ≡ old)
+    (piece : List ℕ) × (read ≡ gave 65_536 piece) × IsReadOn read × TakesPiece piece old (Err refused.Memory) new
 IsReadAs (Err _) read left old new = ⊥
 
 -- a reader was read from once, and what it gave was handed over
@@ -36,43 +43,32 @@ pub record ReadsOnce (result : Result (Unit {0}) DriveEnd) (old new : Stream) (l
   pub reads : Grows reads_old reads_new (read ∷ [])
   pub is_read : IsReadAs result read left_new old new
 
--- ---- one reply
+-- ---- one answer
 
--- a reply was written whole, and the connection goes on after it; or how it has ended
-abbrev pub IsReplySent : Result (Unit {0}) DriveEnd → Reply → Bool → Option (List ℕ) → Option (List ℕ)
-    → Option (List WriteEnd) → Option (List WriteEnd) → Type 0
-IsReplySent (Ok _) reply is_open contents_old contents_new writes_old writes_new =
-    IsWritten true (bytes_of reply) contents_old contents_new writes_old writes_new × (may_go_on reply is_open ≡ true)
-IsReplySent (Err Shut) reply is_open contents_old contents_new writes_old writes_new =
-    IsWritten true (bytes_of reply) contents_old contents_new writes_old writes_new × (may_go_on reply is_open ≡ false)
-IsReplySent (Err WriteFault) reply is_open contents_old contents_new writes_old writes_new =
-    IsWritten false (bytes_of reply) contents_old contents_new writes_old writes_new
-IsReplySent (Err _) reply is_open contents_old contents_new writes_old writes_new = ⊥
+-- how a connection goes on after an answer, by whether its reply was written whole, whether it may go on after that
+-- reply, and whether the answer is its last
+abbrev pub IsSentAs : (Bool → Type 0) → Bool → Bool → Result Bool DriveEnd → Type 0
+IsSentAs written may_go_on last (Ok true) = written true × (may_go_on ≡ true) × (last ≡ false)
+IsSentAs written may_go_on last (Err Ended) = written true × (may_go_on ≡ true) × (last ≡ true)
+IsSentAs written may_go_on last (Err Shut) = written true × (may_go_on ≡ false)
+IsSentAs written may_go_on last (Err WriteFault) = written false
+IsSentAs written may_go_on last _ = ⊥
 
--- the session has ended by a fault, and the reply to it was written, or a part of it; or there was no memory for that
-abbrev pub IsFaultSent : DriveEnd → SessionFault → Stream → Stream → Option (List ℕ) → Option (List ℕ)
-    → Option (List WriteEnd) → Option (List WriteEnd) → Type 0
-IsFaultSent Ended fault old new contents_old contents_new writes_old writes_new =
-    IsNext old (next.Fault fault) new
-    × IsWritten true (error_reply (code_of_session_fault fault)) contents_old contents_new writes_old writes_new
-IsFaultSent WriteFault fault old new contents_old contents_new writes_old writes_new =
-    IsNext old (next.Fault fault) new
-    × IsWritten false (error_reply (code_of_session_fault fault)) contents_old contents_new writes_old writes_new
-IsFaultSent Memory fault old new contents_old contents_new writes_old writes_new =
-    (new ≡ old) × (contents_new ≡ contents_old) × (writes_new ≡ writes_old)
-IsFaultSent _ fault old new contents_old contents_new writes_old writes_new = ⊥
+-- a connection has ended, when it might have been read from so often yet: what came last, and how that was served
+pub record HasEnded {R : Type 0} (custody : R → Custody) (end : DriveEnd) (spare : ℕ) (old new : Situation R) : Type 0
+  where
+    pub events : List Event
+    pub replies : List Reply
+    pub ends : Ends custody end spare old new events replies
+    pub sound : (custody new.server.records).sound → (custody old.server.records).sound
+    pub is_run : (custody new.server.records).sound
+        → IsOneRun (server_state custody old.server) (server_state custody new.server) events replies
+    pub served : HaveServed custody old.server events replies new.server
 
--- ---- messages
-
--- the next message was answered, or there is none yet; or the connection has ended, however often it might have been
--- read from yet
-abbrev pub IsNextAnswered : Result Bool DriveEnd → Situation → Situation → Type 0
-IsNextAnswered (Ok true) old new = HasAnswered 0 old new
-IsNextAnswered (Ok false) old new = HasAnswered 0 old new × IsWaiting new.stream
-IsNextAnswered (Err end) old new = (spare : ℕ) → IsDrivenWithin spare end old new
-
--- after so many reads all whole messages were answered, and more bytes are wanted; or the connection has ended before,
--- however often it might have been read from yet
-abbrev pub Reaches : ℕ → Result (Unit {0}) DriveEnd → Situation → Situation → Type 0
-Reaches count (Ok _) old new = HasAnswered count old new × IsWaiting new.stream
-Reaches count (Err end) old new = (spare : ℕ) → IsDrivenWithin (count + spare) end old new
+-- the next message was answered; or there is none yet, and nothing was done; or the connection has ended, maybe after
+-- a message, however often it might have been read from yet
+abbrev pub IsNextAnswered : {R : Type 0} → (R → Custody) → Result Bool DriveEnd → Situation R → Situation R → Type 0
+IsNextAnswered custody (Ok true) old new = HasAnswered custody 0 old new
+IsNextAnswered custody (Ok false) old new = (new ≡ old) × IsWaiting new.stream
+IsNextAnswered {R} custody (Err end) old new =
+    (mid : Situation R) × HasAnswered custody 0 old mid × ((spare : ℕ) → HasEnded custody end spare mid new)

@@ -1,19 +1,15 @@
-use Rattle.std.proofs.Common.{Err, Ok, refl, rules}
-use Rattle.sqlite.specs.Files.{over_files}
+use Rattle.std.proofs.Common.{rules}
 use Rattle.sqlite.specs.WalFiles.{image_at}
-use Rattle.xa_store.specs.KeeperReading.{custody_by}
-use Rattle.pdpd.proofs.ServingLemmas.{address_found, address_unfound, served_from}
+use Rattle.pdpd.proofs.BeginningLemmas.{serves_from}
+use Rattle.pdpd.proofs.ServingLemmas.{address_found}
 use Rattle.pdpd.specs.Beginning.{known_text}
+use Rattle.pdpd.specs.Connections.{at_clock}
 use Rattle.pdpd.proofs.serve.serve.Goals as goal
 
-pub returns-in-Err-clause-address : goal.returns-in-Err-clause-address
-returns-in-Err-clause-address g c =
-    address_unfound c.args.serving.now.address c.in_ok-address.address (Err c.in-Err.fault) c.in-Err.fault (search rules) refl c.in-Err.ensures.err
+pub returns-clause-served : goal.returns-clause-served
+returns-clause-served g c =
+    serves_from (image_at g.S.Start) (known_text g.F.Read.remaining c.args.token) (g.C.Clock.told c.args.clock.now) c.args.serving.now.connections c.serve_at-result.result c.in_ok-front.front
+    (at_clock c.serve_at-result.new.front (g.C.Clock.told c.serve_at-result.new.clock)) c.in_ok-front.ensures.begins c.serve_at-result.ensures.served
 
-pub returns-in-Ok-clause-served : goal.returns-in-Ok-clause-served
-returns-in-Ok-clause-served g c = λ sound.
-    served_from (custody_by over_files) (image_at g.S.Start) (known_text g.F.Read.remaining c.args.token) c.args.serving.now.connections c.in_ok-front.front c.serve_at.new.front
-    (c.in_ok-front.ensures.begins (c.serve_at.ensures.sound sound)) (c.in-Ok.ensures.served sound)
-
-pub returns-in-Ok-clause-address : goal.returns-in-Ok-clause-address
-returns-in-Ok-clause-address g c = address_found c.args.serving.now.address c.in_ok-address.address (Ok c.serve_at.new.front) (search rules) tt
+pub returns-clause-address : goal.returns-clause-address
+returns-clause-address g c = address_found c.args.serving.now.address c.in_ok-address.address _ (search rules) tt

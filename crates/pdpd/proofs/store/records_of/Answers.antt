@@ -1,5 +1,4 @@
 use Rattle.std.proofs.Common.{IsTrue, arith}
-use Rattle.sqlite.proofs.StateLemmas.{clean_if_open}
 use Rattle.sqlite.specs.Held.{state}
 use Rattle.sqlite.specs.State.{HasCleanDisk}
 use Rattle.xa_store.specs.Keeper.{IsSound}
@@ -10,7 +9,13 @@ use Rattle.pdpd.proofs.store.records_of.Goals as goal
 pub returns-in-Ok-clause-keeper : goal.returns-in-Ok-clause-keeper
 returns-in-Ok-clause-keeper g c =
     only_ours (IsKeeperOver g.T.Store (state g.T.Store c.args.conn)) c.with_only_our_tables.result c.in-Ok.records c.with_only_our_tables.ensures
-    (λ own. record { opens = c.in-Ok.ensures.opens; migrates = c.in-Ok.ensures.migrates; makes = c.in-Ok.ensures.makes })
+    (λ own. record {
+      opens = c.in-Ok.ensures.opens;
+      migrates = c.in-Ok.ensures.migrates;
+      makes = c.in-Ok.ensures.makes;
+      stays = c.in-Ok.ensures.stays;
+      sound = c.in-Ok.ensures.sound own;
+    })
 
 pub returns-in-Ok-clause-sound : goal.returns-in-Ok-clause-sound
 returns-in-Ok-clause-sound g c =
@@ -19,8 +24,5 @@ returns-in-Ok-clause-sound g c =
 
 pub returns-in-Ok-clause-clean : goal.returns-in-Ok-clause-clean
 returns-in-Ok-clause-clean g c =
-    only_ours (λ k. IsTrue (state g.T.Store k.conn).is_open → HasCleanDisk (state g.T.Store k.conn) × HasCleanDisk (state g.T.Store c.args.conn)) c.with_only_our_tables.result c.in-Ok.records
-    c.with_only_our_tables.ensures (λ own up.
-    let conn = c.in-Ok.records.conn in
-    let clean : HasCleanDisk (state g.T.Store conn) = clean_if_open (g.T.Store.view conn.store) (g.met.T.Store.shut_if_dirty conn.store) up in
-    (clean, omega (arith, c.in-Ok.ensures.leaves.clean, clean)))
+    only_ours (λ k. HasCleanDisk (state g.T.Store k.conn) → HasCleanDisk (state g.T.Store c.args.conn)) c.with_only_our_tables.result c.in-Ok.records c.with_only_our_tables.ensures
+    (λ own clean. omega (arith, c.in-Ok.ensures.leaves.clean, clean))

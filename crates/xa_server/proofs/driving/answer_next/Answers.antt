@@ -1,55 +1,51 @@
-use Rattle.std.proofs.Common.{◌≡◌, ◌∙◌, Err, refl, rules, sym, true}
+use Rattle.std.proofs.Common.{◌≡◌, Err, refl, rules, sym}
 use Rattle.xa_server.specs.declared.drive_end.DriveEnd.TheVariants.{Memory}
-use Rattle.xa_server.proofs.EndLemmas.{ended_before, fault_sent, holds_less, message_fails, message_goes, message_last, served_last, untimed, waits_for_more, wanted, wanted_at}
+use Rattle.xa_server.proofs.EndLemmas.{ended_before, fault_next, holds_less, message_next, untimed, waits_for_more, wanted}
+use Rattle.xa_server.proofs.EndLemmas.{wanted_at}
 use Rattle.xa_server.proofs.driving.answer_next.Goals as goal
 
 pub returns-in_err-look-clause-answered : goal.returns-in_err-look-clause-answered
-returns-in_err-look-clause-answered g c = λ sound left reads.
+returns-in_err-look-clause-answered g c = λ left reads.
     let failed : c.from_residual.result ≡ Err Memory = search rules in
-    rw (failed, c.look.ensures.same) (λ spare. wanted spare _)
-
-pub returns-in-Fault-clause-answered : goal.returns-in-Fault-clause-answered
-returns-in-Fault-clause-answered g c = λ sound left reads spare.
-    fault_sent spare c.answer_fault.result _ c.answer_fault.new.connection c.in-Fault.fault _ _ (rw (sym c.look.ensures.same) c.answer_fault.ensures)
+    rw (failed, c.look.ensures.same) (wanted g.R.Records.custody _)
 
 pub returns-in-More-clause-answered : goal.returns-in-More-clause-answered
-returns-in-More-clause-answered g c = λ sound left reads.
-    rw c.look.ensures.same (waits_for_more _ c.in_ok-look.field-0 c.in_ok-look.ensures.look c.in-More.is)
+returns-in-More-clause-answered g c = λ left reads.
+    rw c.look.ensures.same (waits_for_more g.R.Records.custody _ (rw c.in-More.is at c.in_ok-look.ensures.look))
 
 pub returns-in-Ended-clause-answered : goal.returns-in-Ended-clause-answered
-returns-in-Ended-clause-answered g c = λ sound left reads spare.
-    rw c.look.ensures.same (ended_before spare _ c.in_ok-look.field-0 c.in_ok-look.ensures.look c.in-Ended.is)
+returns-in-Ended-clause-answered g c = λ left reads.
+    rw c.look.ensures.same (ended_before g.R.Records.custody _ (rw c.in-Ended.is at c.in_ok-look.ensures.look))
 
 pub returns-in_default-clause-answered : goal.returns-in_default-clause-answered
-returns-in_default-clause-answered g c = λ sound left reads spare.
-    rw c.look.ensures.same (untimed spare _ _ c.in_ok-look.field-0 c.now.result c.in_ok-look.ensures.look c.in-Message.is c.now.ensures c.in_default.is)
+returns-in_default-clause-answered g c = λ left reads.
+    rw c.look.ensures.same
+    (untimed g.R.Records.custody _ _ (rw c.in-Message.is at c.in_ok-look.ensures.look) (rw c.in_default.is at c.now.ensures))
 
-pub returns-in_err-reply-clause-answered : goal.returns-in_err-reply-clause-answered
-returns-in_err-reply-clause-answered g c = λ sound left reads.
-    let failed : c.from_residual-in_err-reply.result ≡ Err Memory = search rules in
-    rw (failed, c.in_err-reply.ensures.err.0, c.in_err-reply.ensures.err.1, c.look.ensures.same) (λ spare. wanted_at spare _ _ c.in-Some.moment c.in-Some.ensures)
+pub returns-in_err-answer-in-Message-clause-answered : goal.returns-in_err-answer-in-Message-clause-answered
+returns-in_err-answer-in-Message-clause-answered g c = λ left reads.
+    let failed : c.from_residual-in_err-answer-in-Message.result ≡ Err Memory = search rules in
+    let none = c.in_err-answer-in-Message.ensures.err in
+    rw (failed, none.0, none.1, c.look.ensures.same) (wanted_at g.R.Records.custody _ _ c.in-Some.moment c.in-Some.ensures)
 
-pub returns-in_err-send_reply-clause-answered : goal.returns-in_err-send_reply-clause-answered
-returns-in_err-send_reply-clause-answered g c = λ sound left reads.
-    let failed : c.from_residual-in_err-send_reply.result ≡ Err c.in_err-send_reply.field-0.0 = search rules in
-    rw failed
-    (λ spare. message_fails spare c.in_err-send_reply.field-0.0 _ _ _ c.in-Some.moment c.in_ok-reply.reply (rw (sym c.look.ensures.same) c.in_ok-reply.ensures.served)
-    sound refl refl c.in-Some.ensures c.in_err-send_reply.ensures)
+pub returns-in_err-answer-in-Fault-clause-answered : goal.returns-in_err-answer-in-Fault-clause-answered
+returns-in_err-answer-in-Fault-clause-answered g c = λ left reads.
+    let failed : c.from_residual-in_err-answer-in-Fault.result ≡ Err Memory = search rules in
+    rw (failed, c.in_err-answer-in-Fault.ensures, c.look.ensures.same) (wanted g.R.Records.custody _)
 
-pub returns-then-has_ended-clause-answered : goal.returns-then-has_ended-clause-answered
-returns-then-has_ended-clause-answered g c = λ sound left reads spare.
-    message_last spare _ _ _ c.in_ok-reply.reply
-    (served_last true _ _ _ c.in-Some.moment c.in_ok-reply.reply (rw (sym c.look.ensures.same) c.in_ok-reply.ensures.served)
-    sound refl refl c.in-Some.ensures c.in_ok-send_reply.ensures.0)
-    c.in_ok-send_reply.ensures.1 (sym c.has_ended.ensures ∙ c.if-has_ended.true)
+pub returns-in_ok-answer-in-Message-clause-answered : goal.returns-in_ok-answer-in-Message-clause-answered
+returns-in_ok-answer-in-Message-clause-answered g c = λ left reads.
+    let answer = c.in_ok-answer-in-Message in
+    message_next g.R.Records.custody _ _ c.in-Some.moment answer.answer (rw (sym c.look.ensures.same) answer.ensures.served)
+    (rw (sym c.look.ensures.same) answer.ensures.handed) refl refl c.in-Some.ensures c.send_answer.result c.send_answer.ensures
 
-pub returns-clause-answered : goal.returns-clause-answered
-returns-clause-answered g c = λ sound left reads.
-    message_goes _ _ _ c.in_ok-reply.reply
-    (served_last true _ _ _ c.in-Some.moment c.in_ok-reply.reply (rw (sym c.look.ensures.same) c.in_ok-reply.ensures.served)
-    sound refl refl c.in-Some.ensures c.in_ok-send_reply.ensures.0)
-    c.in_ok-send_reply.ensures.1
+pub returns-in_ok-answer-in-Fault-clause-answered : goal.returns-in_ok-answer-in-Fault-clause-answered
+returns-in_ok-answer-in-Fault-clause-answered g c = λ left reads.
+    let answer = c.in_ok-answer-in-Fault in
+    fault_next g.R.Records.custody _ c.send_answer-in-Fault.result c.end_by.new.self c.in-Fault.fault _ _
+    (rw (sym c.look.ensures.same) answer.ensures.0) (rw answer.ensures.1 at c.send_answer-in-Fault.ensures)
 
-pub returns-clause-fewer : goal.returns-clause-fewer
-returns-clause-fewer g c = λ same.
-    holds_less c.args.connection.now c.serve_first.new.self c.look.new.self c.in_ok-reply.ensures.served.0 c.look.ensures.same c.in_ok-reply.ensures.served.1
+pub returns-in_ok-answer-in-Message-clause-fewer : goal.returns-in_ok-answer-in-Message-clause-fewer
+returns-in_ok-answer-in-Message-clause-fewer g c = λ same.
+    let served = c.in_ok-answer-in-Message.ensures.served in
+    holds_less c.args.connection.now c.serve_first.new.self c.look.new.self served.0 c.look.ensures.same served.1

@@ -1,11 +1,11 @@
 use Rattle.std.proofs.Common.{refl, sym}
-use Rattle.xa_server.proofs.CourseLemmas.{often_driven, open_driven}
+use Rattle.xa_server.proofs.CourseLemmas.{open_driven, shut_at}
 use Rattle.xa_server.proofs.driving.drive.Goals as goal
 
-pub returns-in-Ok-clause-connection : goal.returns-in-Ok-clause-connection
-returns-in-Ok-clause-connection g c = λ sound.
-    often_driven c.args.conn _ _ _ _ c.in-Some.connection.now c.drive_open.new.connection (sym c.in-Some.ensures.value) refl (c.in-Ok.ensures.answered sound)
+pub returns-clause-connection : goal.returns-clause-connection
+returns-clause-connection g c =
+    open_driven g.R.Records.custody c.args.conn _ _ _ _ c.drive_open.result c.in-Some.connection.now c.drive_open.new.connection
+    (sym c.in-Some.ensures.value) refl c.drive_open.ensures.driven
 
-pub returns-in-Err-clause-connection : goal.returns-in-Err-clause-connection
-returns-in-Err-clause-connection g c = λ sound.
-    open_driven c.in-Err.end c.args.conn _ _ _ _ c.in-Some.connection.now c.drive_open.new.connection (sym c.in-Some.ensures.value) refl (c.in-Err.ensures.answered sound)
+pub returns-clause-shut : goal.returns-clause-shut
+returns-clause-shut g c = λ shut. shut_at g.R.Records.custody 1_000_000 _ _ _ shut c.drive_open.ensures.driven

@@ -1,37 +1,63 @@
-use Rattle.std.proofs.Common.{◌≡◌, Err, arith, rules}
-use Rattle.xa_server.proofs.CourseLemmas.{held_last, read_last, read_more, reaches}
-use Rattle.xa_server.proofs.DrivingLemmas.{none_gone}
+use Rattle.std.proofs.Common.{◌≡◌, ◌≤◌, ◌+◌, None, ap, arith, length}
+use Rattle.xa_server.proofs.CourseLemmas.{next_ends, next_goes, read_grows, read_last, read_more, reads_out, waits_at}
+use Rattle.xa_server.proofs.DrivingLemmas.{leaves_on, leaves_same, none_gone}
 use Rattle.xa_server.proofs.driving.drive_open.Goals as goal
 
-pub loop-read-init : goal.loop-read-init
-loop-read-init g c = record { answered = λ sound. none_gone _; sound = λ sound. sound; clean = λ clean. clean; stays = λ clean sound on. sound; was_open = λ on. on }
+pub loop-end-init : goal.loop-end-init
+loop-end-init g c =
+    record { answered = none_gone g.R.Records.custody _; few = omega arith; keeper = leaves_same _ }
 
-pub returns-in_err-answer_held-clause-answered : goal.returns-in_err-answer_held-clause-answered
-returns-in_err-answer_held-clause-answered g c = λ sound.
-    let failed : c.from_residual.result ≡ Err c.in_err-answer_held.field-0.0 = search rules in
-    rw failed
-    (held_last c.loop-read._read c.in_err-answer_held.field-0.0 _ _ _ (omega (arith, c.loop-read-test.true))
-    (c.loop-read.invariant.answered (c.answer_held.ensures.sound sound)) (c.in_err-answer_held.ensures.answered sound _ _))
+pub loop-end-preserved-in-Ok-true : goal.loop-end-preserved-in-Ok-true
+loop-end-preserved-in-Ok-true g c =
+    let so_far = c.loop-end.invariant in
+    record {
+      answered =
+          next_goes g.R.Records.custody c.loop-end.reads _ _ so_far.answered c.in-Ok-true.field-0 _ c.in-Ok-true.field-0-test
+          (c.in-Ok-true.ensures.answered _ _);
+      few = so_far.few;
+      keeper = leaves_on _ _ _ so_far.keeper c.answer_next.ensures.keeper;
+    }
 
-pub returns-in_err-read_piece-clause-answered : goal.returns-in_err-read_piece-clause-answered
-returns-in_err-read_piece-clause-answered g c = λ sound.
-    let failed : c.from_residual-in_err-read_piece.result ≡ Err c.in_err-read_piece.field-0.0 = search rules in
-    rw failed
-    (read_last c.loop-read._read c.in_err-read_piece.field-0.0 _ _ _ _ _ _ c.loop-read-test.true
-    (c.loop-read.invariant.answered (c.answer_held.ensures.sound sound)) (c.in_ok-answer_held.ensures.answered sound _ _) c.in_err-read_piece.ensures)
+pub returns-in-Err-clause-driven : goal.returns-in-Err-clause-driven
+returns-in-Err-clause-driven g c =
+    next_ends g.R.Records.custody c.loop-end.reads _ _ c.loop-end.invariant.answered g.met.R.Records.open_if_sound
+    c.in-Err.end _ c.loop-end.invariant.few (c.in-Err.ensures.answered _ _)
 
-pub loop-read-preserved : goal.loop-read-preserved
-loop-read-preserved g c = record {
-  answered = λ sound.
-      read_more c.loop-read._read _ _ _ _ _ _ (c.loop-read.invariant.answered (c.answer_held.ensures.sound sound))
-      (c.in_ok-answer_held.ensures.answered sound _ _) c.in_ok-read_piece.ensures;
-  sound = λ sound. c.loop-read.invariant.sound (c.answer_held.ensures.sound sound);
-  clean = λ clean. c.loop-read.invariant.clean (c.answer_held.ensures.clean clean);
-  stays = λ clean sound on. c.answer_held.ensures.stays clean (c.loop-read.invariant.stays (c.answer_held.ensures.clean clean) sound (c.answer_held.ensures.was_open on)) on;
-  was_open = λ on. c.loop-read.invariant.was_open (c.answer_held.ensures.was_open on);
-}
+pub returns-then-reads-eq-MAX_READS-clause-driven : goal.returns-then-reads-eq-MAX_READS-clause-driven
+returns-then-reads-eq-MAX_READS-clause-driven g c =
+    reads_out g.R.Records.custody c.loop-end.reads _ _ c.loop-end.invariant.answered g.met.R.Records.open_if_sound _
+    c.if-reads-eq-MAX_READS.true
+    (waits_at g.R.Records.custody c.in-Ok-false.field-0 _ _ c.in-Ok-false.field-0-test (c.in-Ok-false.ensures.answered _ _))
 
-pub returns-clause-answered : goal.returns-clause-answered
-returns-clause-answered g c = λ sound.
-    reaches c.loop-read._read c.answer_held-2.result _ _ _ (omega (arith, c.loop-read-test.false, c.loop-read.auto._read-end))
-    (c.loop-read.invariant.answered (c.answer_held-2.ensures.sound sound)) (c.answer_held-2.ensures.answered sound _ _)
+pub returns-in-Err-read_piece-clause-driven : goal.returns-in-Err-read_piece-clause-driven
+returns-in-Err-read_piece-clause-driven g c =
+    read_last g.R.Records.custody c.loop-end.reads _ _ c.loop-end.invariant.answered g.met.R.Records.open_if_sound
+    c.in-Err-read_piece.end _ _ _ _ (omega (arith, c.loop-end.invariant.few, c.if-reads-eq-MAX_READS.false))
+    (waits_at g.R.Records.custody c.in-Ok-false.field-0 _ _ c.in-Ok-false.field-0-test (c.in-Ok-false.ensures.answered _ _))
+    c.in-Err-read_piece.ensures
+
+pub loop-end-preserved : goal.loop-end-preserved
+loop-end-preserved g c =
+    let so_far = c.loop-end.invariant in
+    record {
+      answered =
+          read_more g.R.Records.custody c.loop-end.reads _ _ so_far.answered _ _ _ _
+          (waits_at g.R.Records.custody c.in-Ok-false.field-0 _ _ c.in-Ok-false.field-0-test (c.in-Ok-false.ensures.answered _ _))
+          c.in_default.ensures;
+      few = omega (arith, so_far.few, c.if-reads-eq-MAX_READS.false);
+      keeper = leaves_on _ _ _ so_far.keeper c.answer_next.ensures.keeper;
+    }
+
+pub read_piece-requires : goal.read_piece-requires
+read_piece-requires g c =
+    (waits_at g.R.Records.custody c.in-Ok-false.field-0 _ _ c.in-Ok-false.field-0-test (c.in-Ok-false.ensures.answered None None)).1
+
+pub loop-end-smaller : goal.loop-end-smaller
+loop-end-smaller g c =
+    let waits =
+    waits_at g.R.Records.custody c.in-Ok-false.field-0 _ _ c.in-Ok-false.field-0-test (c.in-Ok-false.ensures.answered None None) in
+    let same : length c.answer_next.new.connection.held ≡ length c.loop-end.connection.held
+    = ap (λ a. length a.stream.held) waits.0 in
+    let grows : length c.read_piece.new.connection.held ≤ length c.answer_next.new.connection.held + 65_536
+    = read_grows _ _ _ _ _ _ c.in_default.ensures in
+    omega (arith, c.loop-end.invariant.few, c.if-reads-eq-MAX_READS.false, same, grows)

@@ -1,20 +1,18 @@
 use Rattle.std.proofs.Common.{rules, ◌≡◌, ◌+◌, [], ◌∷◌, ◌++◌, take, ap, refl, sym, ◌∙◌}
-use Rattle.std.proofs.lemmas.Grind.{common_steps}
 use Rattle.std.proofs.lemmas.List.{take_more}
-use Rattle.xa_server.proofs.PlayLemmas.{counts_more, none_more, none_played, played_on}
-use Rattle.xa_server.proofs.PlayedLemmas.{none_played_served, played_more, played_of}
+use Rattle.xa_server.proofs.DrivingLemmas.{leaves_on, leaves_same}
+use Rattle.xa_server.proofs.PlayLemmas.{counts_more, none_more}
+use Rattle.xa_server.proofs.PlayedLemmas.{plays_go_on}
 use Rattle.xa_server.proofs.front.Front.play.Goals as goal
 
 pub loop-event-init : goal.loop-event-init
 loop-event-init g c =
     let none : c.in_ok-outcomes.outcomes.items ≡ [] = search rules in
+    let nothing = plays_go_on g.R.Records.custody g.met.R.Records.open_if_sound in
     record {
-      played = rw none (none_played _ _);
-      served = rw none (none_played_served g.R.Records.custody _);
-      sound = λ sound. sound;
-      clean = λ clean. clean;
-      stays = λ clean sound on. sound;
-      was_open = λ on. on;
+      played = rw none (nothing.0 c.args.self.now).0;
+      served = rw none (nothing.0 c.args.self.now).1;
+      keeper = leaves_same _;
       stays_open = λ other on. on;
       counts = rw none refl;
       told = search rules;
@@ -23,25 +21,26 @@ loop-event-init g c =
 
 pub loop-event-preserved : goal.loop-event-preserved
 loop-event-preserved g c =
-    let more : take (c.loop-event.event-index + 1) c.args.events.now ≡ take c.loop-event.event-index c.args.events.now ++ c.event-item.result ∷ [] =
-    take_more c.args.events.now c.loop-event.event-index c.event-item.result c.loop-event-test.true ∙ ap (λ e. take c.loop-event.event-index c.args.events.now ++ e ∷ []) (sym c.event-item.is) in
+    let so_far = c.loop-event.invariant in
+    let step = c.step-outcome.ensures in
+    let first = take c.loop-event.event-index c.args.events.now in
+    let more : take (c.loop-event.event-index + 1) c.args.events.now ≡ first ++ c.event-item.result ∷ [] =
+    take_more c.args.events.now c.loop-event.event-index c.event-item.result c.loop-event-test.true
+    ∙ ap (λ e. first ++ e ∷ []) (sym c.event-item.is) in
     let pushed : c.push.new.self.items ≡ c.loop-event.outcomes.items ++ c.step-outcome.result ∷ [] = search rules in
+    let on =
+    (plays_go_on g.R.Records.custody g.met.R.Records.open_if_sound).1 c.args.self.now c.loop-event.self c.step-outcome.new.self
+    first (c.event-item.result ∷ []) c.loop-event.outcomes.items (c.step-outcome.result ∷ []) step.sound in
     record {
-      played = rw (more, pushed) (played_on _ _ _ _ _ _ _ _ _ c.step-outcome.ensures.sound c.loop-event.invariant.played c.step-outcome.ensures.played);
-      served = rw (more, pushed) (played_more g.R.Records.custody _ _ _ _ _ _ _ c.loop-event.invariant.served c.step-outcome.ensures.served);
-      sound = λ sound. c.loop-event.invariant.sound (c.step-outcome.ensures.sound sound);
-      clean = λ clean. c.loop-event.invariant.clean (c.step-outcome.ensures.clean clean);
-      stays = λ clean sound on. c.step-outcome.ensures.stays clean (c.loop-event.invariant.stays (c.step-outcome.ensures.clean clean) sound (c.step-outcome.ensures.was_open on)) on;
-      was_open = λ on. c.loop-event.invariant.was_open (c.step-outcome.ensures.was_open on);
-      stays_open = λ others on.
+      played = rw (more, pushed) (on.0 so_far.played step.played);
+      served = rw (more, pushed) (on.1 so_far.served step.served);
+      keeper = leaves_on _ _ _ so_far.keeper
+          (record { sound = step.sound; clean = step.clean; stays = step.stays; was_open = step.was_open });
+      stays_open = λ others on_first.
           let none = none_more c.loop-event.outcomes.items c.step-outcome.result (rw pushed at others) in
-          c.step-outcome.ensures.stays_open none.1 (c.loop-event.invariant.stays_open none.0 on);
-      counts = rw pushed (counts_more c.loop-event.outcomes.items c.step-outcome.result _ _ _ c.loop-event.invariant.counts c.step-outcome.ensures.counts);
+          step.stays_open none.1 (so_far.stays_open none.0 on_first);
+      counts = rw pushed
+          (counts_more c.loop-event.outcomes.items c.step-outcome.result _ _ _ so_far.counts step.counts);
       told = search rules;
       room = search rules;
     }
-
-pub returns-clause-served : goal.returns-clause-served
-returns-clause-served g c =
-    let all : take c.loop-event.event-index c.args.events.now ≡ c.args.events.now = search (rules, common_steps) in
-    played_of g.R.Records.custody g.met.R.Records.open_if_sound c.args.self.now c.loop-event.self c.args.events.now c.loop-event.outcomes.items (rw all at c.loop-event.invariant.served)

@@ -2,7 +2,7 @@ use Rattle.std.proofs.Common.{◌≡◌, ◌≤◌, length, take, vec_capacity, 
 use Rattle.xa_server.specs.Served.{IsRun}
 use Rattle.xa_server.specs.Work.{IsWorkOfRun}
 use Rattle.xa_server.specs.World.{world}
-use Rattle.xa_server.proofs.ServingLemmas.{HaveServed}
+use Rattle.xa_server.specs.Serving.{HaveServed}
 use Rattle.xa_server.proofs.server.Server.run.Given as goal
 
 -- the run so far, and room for the replies that are left

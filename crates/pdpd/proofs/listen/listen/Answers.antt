@@ -1,0 +1,13 @@
+use Rattle.std.proofs.Common.{rules}
+use Rattle.sqlite.specs.WalFiles.{image_at}
+use Rattle.pdpd.proofs.ListeningLemmas.{place_found, serves_at_once_from}
+use Rattle.pdpd.specs.Beginning.{known_text}
+use Rattle.pdpd.proofs.listen.listen.Goals as goal
+
+pub returns-clause-served : goal.returns-clause-served
+returns-clause-served g c =
+    serves_at_once_from (image_at g.S.Start) (known_text g.F.Read.remaining c.args.token) c.listen_at-result.result c.in_ok-front.front c.listen_at-result.new.front
+    c.in_ok-front.ensures.begins c.listen_at-result.ensures
+
+pub returns-clause-place : goal.returns-clause-place
+returns-clause-place g c = place_found c.args.listening.now.address c.in_ok-place.place _ (search rules) tt

@@ -1,0 +1,14 @@
+pub mod AlikeLemmas
+pub mod DeedLemmas
+pub mod GoingLemmas
+pub mod KeepsLemmas
+pub mod LanesLemmas
+pub mod PartLemmas
+pub mod RepliesLemmas
+pub mod RunLemmas
+pub mod ShareLemmas
+pub mod SittingLemmas
+pub mod StepLemmas
+pub mod TakingLemmas
+pub mod TurnLemmas
+pub mod WorksLemmas

@@ -1,0 +1,116 @@
+-- A run: turn after turn.
+use Rattle.std.proofs.Common.{◌≡◌, List, [], ◌∷◌, ◌++◌, Bool, ℕ, zero, suc, length, replicate, Option, Some, None, arith, IsTrue, refl, sym, ap, subst, ◌∙◌}
+use Rattle.std.proofs.lemmas.List.{append-nil, append_assoc}
+use Rattle.xa_records.specs.Keeper.{Custody}
+use Rattle.xa_server.specs.declared.front.Front.{Front}
+use Rattle.xa_reactor.specs.declared.board.Board.{Board}
+use Rattle.xa_reactor.specs.declared.limits.Limits.{Limits}
+use Rattle.xa_reactor.specs.Run.{AreTurns, IsServedAtOnce, IsServedWhole, TurnsGoOn, deeds_of}
+use Rattle.xa_reactor.specs.Step.{Works}
+use Rattle.xa_reactor.specs.Traffic.{Traffic}
+use Rattle.xa_reactor.specs.Turn.{AreFree, BreaksOff, Deed, Lanes, TakesTurn, Turn, calls_of, deeds_in, no_lanes, traffic_of}
+use Rattle.xa_reactor.proofs.DeedLemmas.{deeds_work}
+use Rattle.xa_reactor.proofs.PartLemmas.{are_parts, turns_done}
+use Rattle.xa_reactor.proofs.WorksLemmas.{works_more, works_none, works_then_same}
+
+-- turns, and others after them
+pub turns_on : (turns others : List Turn) (old mid new : Lanes) → AreTurns turns old mid → AreTurns others mid new → AreTurns (turns ++ others) old new
+turns_on [] others old mid new same later = subst (λ (lanes : Lanes). AreTurns others lanes new) same later
+turns_on (turn ∷ turns) others old mid new (first, is, rest) later = (first, is, turns_on turns others first mid new rest later)
+
+-- the deeds of turns and of one more
+deeds_more : (turns : List Turn) (turn : Turn) → deeds_of (turns ++ turn ∷ []) ≡ deeds_of turns ++ deeds_in turn
+deeds_more [] turn = append-nil (deeds_in turn)
+deeds_more (first ∷ turns) turn =
+    ap (λ (ds : List Deed). deeds_in first ++ ds) (deeds_more turns turn) ∙ sym (append_assoc (deeds_in first) (deeds_of turns) (deeds_in turn))
+
+-- if no place is taken, none is
+none_there : (lanes : Lanes) (count : ℕ) → AreFree lanes → length lanes ≡ count → lanes ≡ replicate count None
+none_there [] zero free long = refl
+none_there [] (suc count) free long = absurd (omega (arith, long))
+none_there (lane ∷ lanes) zero free long = absurd (omega (arith, long))
+none_there (None ∷ lanes) (suc count) free long = ap (λ (ls : Lanes). None ∷ ls) (none_there lanes count free (omega (arith, long)))
+none_there (Some lane ∷ lanes) (suc count) none long = absurd none
+
+module _ {R N : Type 0} (custody : R → Custody) (done : N → Option (List Traffic)) where
+  -- works of deeds that are others
+  works_of_deeds : (deeds others : List Deed) (front_old front_new : Front R) (network_old network_new : N) → deeds ≡ others
+      → Works custody done (calls_of deeds) (traffic_of deeds) front_old front_new network_old network_new
+      → Works custody done (calls_of others) (traffic_of others) front_old front_new network_old network_new
+  works_of_deeds deeds others front_old front_new network_old network_new same works =
+      subst (λ (ds : List Deed). Works custody done (calls_of ds) (traffic_of ds) front_old front_new network_old network_new) same works
+
+  -- turns were taken so far
+  pub record RunsOn (new : Lanes) (front_old front_new : Front R) (network_old network_new : N) : Type 0 where
+    pub turns : List Turn
+    pub are_turns : AreTurns turns no_lanes new
+    pub works : Works custody done (calls_of (deeds_of turns)) (traffic_of (deeds_of turns)) front_old front_new network_old network_new
+
+module _ {R N : Type 0} (custody : R → Custody) (done : N → Option (List Traffic)) (is_open : (s : R) → (custody s).sound → IsTrue (custody s).is_open) where
+  pub go_on : TurnsGoOn custody done
+  go_on = record { turns = turns_on; deeds = turns_done; parts = are_parts; works = works_more custody is_open done }
+
+  -- none yet
+  pub runs_none : (lanes : Lanes) (front : Front R) (network : N) → lanes ≡ no_lanes → RunsOn custody done lanes front front network network
+  runs_none lanes front network none = record { turns = []; are_turns = none; works = works_none custody is_open done front network }
+
+  -- it was waited
+  pub runs_wait : (lanes : Lanes) (front_old front_new : Front R) (network_old network_mid network_new : N) → RunsOn custody done lanes front_old front_new network_old network_mid
+      → done network_new ≡ done network_mid → RunsOn custody done lanes front_old front_new network_old network_new
+  runs_wait lanes front_old front_new network_old network_mid network_new runs same = record {
+    turns = runs.turns;
+    are_turns = runs.are_turns;
+    works =
+        works_then_same custody is_open done (calls_of (deeds_of runs.turns)) (traffic_of (deeds_of runs.turns)) front_old front_new network_old network_mid network_new runs.works same;
+  }
+
+  -- one turn more
+  pub runs_more : (board : Board) (now : ℕ) (set : Limits) (leaves : Bool) (mid new : Lanes) (front_old front_mid front_new : Front R) (network_old network_mid network_new : N)
+      → RunsOn custody done mid front_old front_mid network_old network_mid → TakesTurn custody done board now set leaves mid new front_mid front_new network_mid network_new
+      → RunsOn custody done new front_old front_new network_old network_new
+  runs_more board now set leaves mid new front_old front_mid front_new network_old network_mid network_new runs turned = record {
+    turns = runs.turns ++ turned.turn ∷ [];
+    are_turns = turns_on runs.turns (turned.turn ∷ []) no_lanes mid new runs.are_turns (new, turned.is_turn, refl);
+    works =
+        works_of_deeds custody done (deeds_of runs.turns ++ deeds_in turned.turn) (deeds_of (runs.turns ++ turned.turn ∷ [])) front_old front_new network_old network_new
+        (sym (deeds_more runs.turns turned.turn))
+        (deeds_work custody done is_open (deeds_of runs.turns) (deeds_in turned.turn) front_old front_mid front_new network_old network_mid network_new runs.works turned.works);
+  }
+
+  -- it halts between two turns
+  pub served_whole : (lanes : Lanes) (front_old front_new : Front R) (network_old network_new : N) → RunsOn custody done lanes front_old front_new network_old network_new
+      → IsServedAtOnce custody done front_old front_new network_old network_new
+  served_whole lanes front_old front_new network_old network_new runs = record {
+    turns = runs.turns;
+    begun = [];
+    mid = lanes;
+    left = lanes;
+    are_turns = runs.are_turns;
+    are_done = refl;
+    works =
+        works_of_deeds custody done (deeds_of runs.turns) (deeds_of runs.turns ++ []) front_old front_new network_old network_new (sym (append-nil (deeds_of runs.turns))) runs.works;
+  }
+
+  -- and all connections have ended
+  pub served_to_end : (lanes : Lanes) (front_old front_new : Front R) (network_old network_new : N) → RunsOn custody done lanes front_old front_new network_old network_new → AreFree lanes
+      → length lanes ≡ 64 → IsServedWhole custody done front_old front_new network_old network_new
+  served_to_end lanes front_old front_new network_old network_new runs free long = record {
+    turns = runs.turns;
+    are_turns = subst (λ (ls : Lanes). AreTurns runs.turns no_lanes ls) (none_there lanes 64 free long) runs.are_turns;
+    works = runs.works;
+  }
+
+  -- it halts in a turn
+  pub served_broken : (mid new : Lanes) (front_old front_mid front_new : Front R) (network_old network_mid network_new : N)
+      → RunsOn custody done mid front_old front_mid network_old network_mid → BreaksOff custody done mid new front_mid front_new network_mid network_new
+      → IsServedAtOnce custody done front_old front_new network_old network_new
+  served_broken mid new front_old front_mid front_new network_old network_mid network_new runs broken = record {
+    turns = runs.turns;
+    begun = broken.deeds;
+    mid = mid;
+    left = new;
+    are_turns = runs.are_turns;
+    are_done = broken.are_done;
+    works =
+        deeds_work custody done is_open (deeds_of runs.turns) broken.deeds front_old front_mid front_new network_old network_mid network_new runs.works broken.works;
+  }

@@ -1,0 +1,254 @@
+-- What one call of a front does for a connection, and what goes over a network one after another.
+use denote.Ref.{Bor}
+use Rattle.std.proofs.Common.{◌≡◌, ◌<◌, inl, inr, ℕ, ℤ, zero, suc, List, [], ◌∷◌, ◌++◌, length, get_or, set-set, IsTrue, Option, Some, None, Result, Ok, Err, nat_eq, refl, sym, ap, subst, ◌∙◌, arith}
+use Rattle.std.specs.Prelude.{if◌then◌else◌, true}
+use Rattle.std.proofs.lemmas.Bool.{eq-eqb}
+use Rattle.std.proofs.lemmas.List.{append-nil, append_assoc, get_or-set_same}
+use Rattle.xa_http.specs.declared.session.Next.{Next}
+use Rattle.xa_http.specs.Stream.{Stream}
+use Rattle.xa_records.specs.Keeper.{Custody}
+use Rattle.xa_server.specs.declared.event.Answer.{Answer}
+use Rattle.xa_server.specs.declared.event.Event.TheVariants as event
+use Rattle.xa_server.specs.declared.event.Outcome.{Outcome}
+use Rattle.xa_server.specs.declared.event.Outcome.TheVariants as outcome
+use Rattle.xa_server.specs.declared.front.Front.{Front}
+use Rattle.xa_server.specs.declared.front_error.FrontError.{FrontError}
+use Rattle.xa_server.specs.declared.front_error.FrontError.TheVariants.{Memory, NoSuchConnection, TooManyConnections, Full}
+use Rattle.xa_server.specs.declared.lines.Conn.{Conn}
+use Rattle.xa_server.specs.Front.{AnswersAt, IsPlayed, Plays, front_is_sound, front_state}
+use Rattle.xa_server.specs.Lines.{IsHeld, IsOpen, Lines, line_at, with_line}
+use Rattle.xa_server.specs.Serving.{PlaysServed}
+use Rattle.xa_server.proofs.LineLemmas.{line_kept}
+use Rattle.xa_reactor.specs.Step.{Keeps, Lasts, no_calls}
+use Rattle.xa_reactor.specs.Traffic.{AreAt, HasFailedIn, Traffic, failed, finished, received, received_at, seated, sent, sent_at, vacated}
+use Rattle.xa_reactor.specs.handling.Going.{Asks, Feeds, FeedsBy, answer_of_outcome, held_in}
+use Rattle.xa_reactor.proofs.WorksLemmas.{makes_none, makes_one}
+
+-- ---- what goes over a network
+
+pub at_on : (place : ℕ) (xs ys : List Traffic) → AreAt place xs → AreAt place ys → AreAt place (xs ++ ys)
+at_on place [] ys none there = there
+at_on place (received other bytes ∷ xs) ys (here, others) there = (here, at_on place xs ys others there)
+at_on place (sent other bytes ∷ xs) ys (here, others) there = (here, at_on place xs ys others there)
+at_on place (failed other kind ∷ xs) ys (here, others) there = (here, at_on place xs ys others there)
+at_on place (finished other ∷ xs) ys (here, others) there = (here, at_on place xs ys others there)
+at_on place (seated other ∷ xs) ys none there = absurd none
+at_on place (vacated other reason ∷ xs) ys none there = absurd none
+
+pub received_on : (place : ℕ) (xs ys : List Traffic) → received_at place (xs ++ ys) ≡ received_at place xs ++ received_at place ys
+received_on place [] ys = refl
+received_on place (received other bytes ∷ xs) ys =
+    ap (λ (l : List ℕ). (if nat_eq other place then bytes else []) ++ l) (received_on place xs ys)
+    ∙ sym (append_assoc (if nat_eq other place then bytes else []) (received_at place xs) (received_at place ys))
+received_on place (sent other bytes ∷ xs) ys = received_on place xs ys
+received_on place (failed other kind ∷ xs) ys = received_on place xs ys
+received_on place (seated other ∷ xs) ys = received_on place xs ys
+received_on place (finished other ∷ xs) ys = received_on place xs ys
+received_on place (vacated other reason ∷ xs) ys = received_on place xs ys
+
+pub sent_on : (place : ℕ) (xs ys : List Traffic) → sent_at place (xs ++ ys) ≡ sent_at place xs ++ sent_at place ys
+sent_on place [] ys = refl
+sent_on place (received other bytes ∷ xs) ys = sent_on place xs ys
+sent_on place (sent other bytes ∷ xs) ys =
+    ap (λ (l : List ℕ). (if nat_eq other place then bytes else []) ++ l) (sent_on place xs ys)
+    ∙ sym (append_assoc (if nat_eq other place then bytes else []) (sent_at place xs) (sent_at place ys))
+sent_on place (failed other kind ∷ xs) ys = sent_on place xs ys
+sent_on place (seated other ∷ xs) ys = sent_on place xs ys
+sent_on place (finished other ∷ xs) ys = sent_on place xs ys
+sent_on place (vacated other reason ∷ xs) ys = sent_on place xs ys
+
+same_number : (n : ℕ) → nat_eq n n ≡ true
+same_number n = eq-eqb n n refl
+
+-- what was read here is all of it
+pub received_here : (place : ℕ) (bytes : List ℕ) → received_at place (received place bytes ∷ []) ≡ bytes
+received_here place bytes = rw (same_number place) (append-nil bytes)
+
+-- a failure, before others and behind them
+pub failed_before : (xs ys : List Traffic) → HasFailedIn xs → HasFailedIn (xs ++ ys)
+failed_before [] ys none = absurd none
+failed_before (failed place kind ∷ xs) ys (inl here) = inl here
+failed_before (failed place kind ∷ xs) ys (inr later) = inr (failed_before xs ys later)
+failed_before (sent place [] ∷ xs) ys is = tt
+failed_before (sent place (b ∷ bytes) ∷ xs) ys is = failed_before xs ys is
+failed_before (received place bytes ∷ xs) ys is = failed_before xs ys is
+failed_before (seated place ∷ xs) ys is = failed_before xs ys is
+failed_before (finished place ∷ xs) ys is = failed_before xs ys is
+failed_before (vacated place reason ∷ xs) ys is = failed_before xs ys is
+
+pub failed_behind : (xs ys : List Traffic) → HasFailedIn ys → HasFailedIn (xs ++ ys)
+failed_behind [] ys is = is
+failed_behind (failed place kind ∷ xs) ys is = inr (failed_behind xs ys is)
+failed_behind (sent place [] ∷ xs) ys is = tt
+failed_behind (sent place (b ∷ bytes) ∷ xs) ys is = failed_behind xs ys is
+failed_behind (received place bytes ∷ xs) ys is = failed_behind xs ys is
+failed_behind (seated place ∷ xs) ys is = failed_behind xs ys is
+failed_behind (finished place ∷ xs) ys is = failed_behind xs ys is
+failed_behind (vacated place reason ∷ xs) ys is = failed_behind xs ys is
+
+-- ---- a connection stays open
+
+within : (n : ℕ) (lines : Lines) (stream : Stream) → get_or lines n None ≡ Some stream → n < length lines
+within n [] stream there = let e : None ≡ Some stream = there in absurd cc
+within zero (line ∷ lines) stream there = omega arith
+within (suc n) (line ∷ lines) stream there = omega (arith, within n lines stream there)
+
+-- nothing was done
+pub lasts_none : (conn : Conn) (lines : Lines) → Lasts conn lines lines
+lasts_none conn lines = λ stream opens. (stream, sym (line_kept conn lines (with_line conn (Some stream) lines) stream stream opens refl refl))
+
+pub lasts_same : (conn : Conn) (old new : Lines) → new ≡ old → Lasts conn old new
+lasts_same conn old new same = subst (λ (l : Lines). Lasts conn old l) (sym same) (lasts_none conn old)
+
+-- something else is there
+pub lasts_put : (conn : Conn) (old new : Lines) (after : Stream) → new ≡ with_line conn (Some after) old → Lasts conn old new
+lasts_put conn old new after put = λ stream opens. (after, put)
+
+-- it wasn't open
+pub lasts_shut : (conn : Conn) (old new : Lines) → line_at conn old ≡ None → Lasts conn old new
+lasts_shut conn old new none = λ stream opens. absurd (shut stream opens) where
+  shut : (stream : Stream) → IsOpen conn old stream → ⊥
+  shut stream opens = let e : None ≡ Some stream = sym none ∙ opens in cc
+
+-- one after another
+pub lasts_on : (conn : Conn) (old mid new : Lines) → Lasts conn old mid → Lasts conn mid new → Lasts conn old new
+lasts_on conn old mid new first later = λ stream opens.
+    let was = first stream opens in
+    let there : IsOpen conn mid was.0 =
+    ap (line_at conn) was.1 ∙ get_or-set_same old conn.number (Some was.0) None (within conn.number old stream opens) in
+    let is = later was.0 there in
+    (is.0, is.1 ∙ ap (λ (l : Lines). with_line conn (Some is.0) l) was.1 ∙ set-set old conn.number (Some was.0) (Some is.0))
+
+-- ---- one call
+
+lasts_held : (conn : Conn) (piece : List ℕ) (old new : Lines) (result : Result (Unit {0}) FrontError) → IsHeld conn piece old result new → Lasts conn old new
+lasts_held conn piece old new (Ok done) (stream, after, opens, takes, put) = lasts_put conn old new after put
+lasts_held conn piece old new (Err NoSuchConnection) (none, same) = lasts_same conn old new same
+lasts_held conn piece old new (Err Memory) (stream, opens, takes, same) = lasts_same conn old new same
+lasts_held conn piece old new (Err Full) (stream, opens, takes, same) = lasts_same conn old new same
+lasts_held conn piece old new (Err TooManyConnections) (stream, opens, takes, same) = lasts_same conn old new same
+
+lasts_answered : (conn : Conn) (old new : Lines) (given : Option Next) (result : Result (Option Answer) FrontError) → AnswersAt conn old given result new → Lasts conn old new
+lasts_answered conn old new (Some given) (Ok answer) is = lasts_put conn old new is.1 is.7
+lasts_answered conn old new None (Err NoSuchConnection) is = lasts_same conn old new is.1
+lasts_answered conn old new None (Err Memory) is = lasts_same conn old new is.3
+lasts_answered conn old new None (Err Full) none = absurd none
+lasts_answered conn old new None (Err TooManyConnections) none = absurd none
+lasts_answered conn old new None (Ok answer) none = absurd none
+lasts_answered conn old new (Some given) (Err error) none = absurd none
+
+-- what a piece does to the lines, whatever its outcome was
+piece_lasts : (conn : Conn) (piece : Bor (List ℕ)) (o : Outcome) (nexts : List (Option Next)) (old new : Lines) → Plays (event.Piece conn piece ∷ []) (o ∷ []) nexts old new → Lasts conn old new
+piece_lasts conn piece (outcome.Held result) (given ∷ []) old new (mid, (none, is), same) =
+    lasts_on conn old mid new (lasts_held conn piece.now old mid result is) (lasts_same conn mid new same)
+piece_lasts conn piece (outcome.Held result) [] old new none = absurd none
+piece_lasts conn piece (outcome.Held result) (given ∷ other ∷ nexts) old new (mid, is, none) = absurd none
+piece_lasts conn piece (outcome.Begun result) [] old new none = absurd none
+piece_lasts conn piece (outcome.Begun result) (given ∷ nexts) old new (mid, none, rest) = absurd none
+piece_lasts conn piece (outcome.Answered result) [] old new none = absurd none
+piece_lasts conn piece (outcome.Answered result) (given ∷ nexts) old new (mid, none, rest) = absurd none
+piece_lasts conn piece (outcome.Finished result) [] old new none = absurd none
+piece_lasts conn piece (outcome.Finished result) (given ∷ nexts) old new (mid, none, rest) = absurd none
+
+answer_lasts : (conn : Conn) (moment : ℤ) (o : Outcome) (nexts : List (Option Next)) (old new : Lines) → Plays (event.Answer conn moment ∷ []) (o ∷ []) nexts old new → Lasts conn old new
+answer_lasts conn moment (outcome.Answered result) (given ∷ []) old new (mid, is, same) =
+    lasts_on conn old mid new (lasts_answered conn old mid given result is) (lasts_same conn mid new same)
+answer_lasts conn moment (outcome.Answered result) [] old new none = absurd none
+answer_lasts conn moment (outcome.Answered result) (given ∷ other ∷ nexts) old new (mid, is, none) = absurd none
+answer_lasts conn moment (outcome.Begun result) [] old new none = absurd none
+answer_lasts conn moment (outcome.Begun result) (given ∷ nexts) old new (mid, none, rest) = absurd none
+answer_lasts conn moment (outcome.Held result) [] old new none = absurd none
+answer_lasts conn moment (outcome.Held result) (given ∷ nexts) old new (mid, none, rest) = absurd none
+answer_lasts conn moment (outcome.Finished result) [] old new none = absurd none
+answer_lasts conn moment (outcome.Finished result) (given ∷ nexts) old new (mid, none, rest) = absurd none
+
+-- no other outcome comes of a piece
+never_fed : (conn : Conn) (piece : Bor (List ℕ)) (o : Outcome) (nexts : List (Option Next)) (old new : Lines) → ((result : Result (Unit {0}) FrontError) → ¬ (o ≡ outcome.Held result))
+    → Plays (event.Piece conn piece ∷ []) (o ∷ []) nexts old new → ⊥
+never_fed conn piece (outcome.Held result) nexts old new other is = other result refl
+never_fed conn piece (outcome.Begun result) [] old new other none = none
+never_fed conn piece (outcome.Begun result) (given ∷ nexts) old new other (mid, none, rest) = none
+never_fed conn piece (outcome.Answered result) [] old new other none = none
+never_fed conn piece (outcome.Answered result) (given ∷ nexts) old new other (mid, none, rest) = none
+never_fed conn piece (outcome.Finished result) [] old new other none = none
+never_fed conn piece (outcome.Finished result) (given ∷ nexts) old new other (mid, none, rest) = none
+
+-- nor of an answer that is asked for
+never_asked : (conn : Conn) (moment : ℤ) (o : Outcome) (nexts : List (Option Next)) (old new : Lines) → ((result : Result (Option Answer) FrontError) → ¬ (o ≡ outcome.Answered result))
+    → Plays (event.Answer conn moment ∷ []) (o ∷ []) nexts old new → ⊥
+never_asked conn moment (outcome.Answered result) nexts old new other is = other result refl
+never_asked conn moment (outcome.Begun result) [] old new other none = none
+never_asked conn moment (outcome.Begun result) (given ∷ nexts) old new other (mid, none, rest) = none
+never_asked conn moment (outcome.Held result) [] old new other none = none
+never_asked conn moment (outcome.Held result) (given ∷ nexts) old new other (mid, none, rest) = none
+never_asked conn moment (outcome.Finished result) [] old new other none = none
+never_asked conn moment (outcome.Finished result) (given ∷ nexts) old new other (mid, none, rest) = none
+
+module _ {R : Type 0} (custody : R → Custody) where
+  -- a piece was handed on: all of it came to the stream, or for want of memory none
+  pub fed_piece : (conn : Conn) (piece : Bor (List ℕ)) (o : Outcome) (old new : Front R)
+      → IsPlayed (front_is_sound custody new) (front_state custody old) (front_state custody new) (event.Piece conn piece ∷ []) (o ∷ [])
+      → PlaysServed custody old new (event.Piece conn piece ∷ []) (o ∷ []) → Keeps custody old new → FeedsBy custody conn piece.now (held_in o) old new
+  fed_piece conn piece (outcome.Held (Ok done)) old new played served keeps = record {
+    feeds = record {
+      read = piece.now;
+      dropped = [];
+      calls = record { events = event.Piece conn piece ∷ []; outcomes = outcome.Held (Ok done) ∷ [] };
+      all = sym (append-nil piece.now);
+      fed = (refl, refl, refl);
+      makes = makes_one custody (event.Piece conn piece) (outcome.Held (Ok done)) old new played served keeps;
+      lasts = piece_lasts conn piece (outcome.Held (Ok done)) played.nexts old.lines new.lines played.plays;
+    };
+    kept = λ whole. refl;
+  }
+  fed_piece conn piece (outcome.Held (Err error)) old new played served keeps = record {
+    feeds = record {
+      read = [];
+      dropped = piece.now;
+      calls = record { events = event.Piece conn piece ∷ []; outcomes = outcome.Held (Err error) ∷ [] };
+      all = refl;
+      fed = (refl, refl, refl);
+      makes = makes_one custody (event.Piece conn piece) (outcome.Held (Err error)) old new played served keeps;
+      lasts = piece_lasts conn piece (outcome.Held (Err error)) played.nexts old.lines new.lines played.plays;
+    };
+    kept = λ whole. absurd cc;
+  }
+  fed_piece conn piece (outcome.Begun result) old new played served keeps = absurd (never_fed conn piece (outcome.Begun result) played.nexts old.lines new.lines (λ given e. absurd cc) played.plays)
+  fed_piece conn piece (outcome.Answered result) old new played served keeps = absurd (never_fed conn piece (outcome.Answered result) played.nexts old.lines new.lines (λ given e. absurd cc) played.plays)
+  fed_piece conn piece (outcome.Finished result) old new played served keeps = absurd (never_fed conn piece (outcome.Finished result) played.nexts old.lines new.lines (λ given e. absurd cc) played.plays)
+
+  -- an answer was asked for
+  pub asked_next : (conn : Conn) (moment : ℤ) (o : Outcome) (old new : Front R)
+      → IsPlayed (front_is_sound custody new) (front_state custody old) (front_state custody new) (event.Answer conn moment ∷ []) (o ∷ [])
+      → PlaysServed custody old new (event.Answer conn moment ∷ []) (o ∷ []) → Keeps custody old new → Asks custody conn (answer_of_outcome o) old new
+  asked_next conn moment (outcome.Answered (Ok given)) old new played served keeps = record {
+    calls = record { events = event.Answer conn moment ∷ []; outcomes = outcome.Answered (Ok given) ∷ [] };
+    asked = (refl, refl);
+    makes = makes_one custody (event.Answer conn moment) (outcome.Answered (Ok given)) old new played served keeps;
+    lasts = answer_lasts conn moment (outcome.Answered (Ok given)) played.nexts old.lines new.lines played.plays;
+  }
+  asked_next conn moment (outcome.Answered (Err error)) old new played served keeps = record {
+    calls = record { events = event.Answer conn moment ∷ []; outcomes = outcome.Answered (Err error) ∷ [] };
+    asked = (refl, refl);
+    makes = makes_one custody (event.Answer conn moment) (outcome.Answered (Err error)) old new played served keeps;
+    lasts = answer_lasts conn moment (outcome.Answered (Err error)) played.nexts old.lines new.lines played.plays;
+  }
+  asked_next conn moment (outcome.Begun result) old new played served keeps = absurd (never_asked conn moment (outcome.Begun result) played.nexts old.lines new.lines (λ given e. absurd cc) played.plays)
+  asked_next conn moment (outcome.Held result) old new played served keeps = absurd (never_asked conn moment (outcome.Held result) played.nexts old.lines new.lines (λ given e. absurd cc) played.plays)
+  asked_next conn moment (outcome.Finished result) old new played served keeps = absurd (never_asked conn moment (outcome.Finished result) played.nexts old.lines new.lines (λ given e. absurd cc) played.plays)
+
+  -- nothing was handed on, and no answer was asked for, because there was nothing to; or it was dropped
+  module _ (is_open : (s : R) → (custody s).sound → IsTrue (custody s).is_open) where
+    abbrev pub fed_none : (conn : Conn) (piece : List ℕ) (front : Front R) → Feeds custody conn piece front front
+    fed_none conn piece front = record {
+      read = [];
+      dropped = piece;
+      calls = no_calls;
+      all = refl;
+      fed = refl;
+      makes = makes_none custody is_open front;
+      lasts = lasts_none conn front.lines;
+    }
+
+    pub asked_none : (conn : Conn) (front : Front R) → Asks custody conn None front front
+    asked_none conn front = record { calls = no_calls; asked = refl; makes = makes_none custody is_open front; lasts = lasts_none conn front.lines }

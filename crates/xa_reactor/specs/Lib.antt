@@ -1,0 +1,7 @@
+pub mod Run
+pub mod Sending
+pub mod Step
+pub mod Timing
+pub mod Traffic
+pub mod Turn
+pub mod handling

@@ -1,0 +1,151 @@
+-- A step: what is done for one connection in its share of a turn.
+use Rattle.std.specs.Prelude.{◌≡◌, ◌≢◌, ◌⊎◌, ℕ, Bool, true, List, [], ◌∷◌, ◌++◌, Option, Some, None, Result, Ok, Err}
+use Rattle.std.specs.List.{Contains}
+use Rattle.xa_http.specs.Stream.{Stream}
+use Rattle.xa_records.specs.Keeper.{Custody}
+use Rattle.xa_server.specs.declared.event.Answer.{Answer}
+use Rattle.xa_server.specs.declared.event.Event.{Event}
+use Rattle.xa_server.specs.declared.event.Event.TheVariants as event
+use Rattle.xa_server.specs.declared.event.Outcome.{Outcome}
+use Rattle.xa_server.specs.declared.event.Outcome.TheVariants as outcome
+use Rattle.xa_server.specs.declared.front.Front.{Front}
+use Rattle.xa_server.specs.declared.lines.Conn.{Conn}
+use Rattle.xa_server.specs.Front.{IsPlayed, front_is_clean, front_is_open, front_is_sound, front_state}
+use Rattle.xa_server.specs.Lines.{IsOpen, Lines, with_line}
+use Rattle.xa_server.specs.Serving.{PlaysServed}
+use Rattle.xa_server.specs.Transfers.{Grows}
+use Rattle.xa_reactor.specs.declared.lane.Lane.{Lane}
+use Rattle.xa_reactor.specs.declared.limits.Stage.{Stage}
+use Rattle.xa_reactor.specs.declared.limits.Stage.TheVariants.{Parting}
+use Rattle.xa_reactor.specs.declared.progress.Progress.{Progress}
+use Rattle.xa_reactor.specs.declared.progress.Progress.TheVariants.{Waits, Goes, Ends}
+use Rattle.xa_reactor.specs.declared.progress.Reason.TheVariants.{Ended, Failed, Late, DrivenOut, WantOfMemory}
+use Rattle.xa_reactor.specs.Sending.{AreSent}
+use Rattle.xa_reactor.specs.Timing.{KeepsTime}
+use Rattle.xa_reactor.specs.Traffic.{AreAt, HasFailedIn, Traffic, received, received_at, sent_at}
+
+-- calls of a front, and what each gave
+pub record Calls : Type 0 where
+  pub events : List Event
+  pub outcomes : List Outcome
+
+-- no call
+abbrev pub no_calls : Calls
+no_calls = record { events = []; outcomes = [] }
+
+-- bytes came to a connection's stream, by one call, or none did; those for which there was no memory were dropped
+abbrev pub IsFed : Conn → List ℕ → List ℕ → List Event → List Outcome → Type 0
+IsFed conn read dropped [] [] = read ≡ []
+IsFed conn read dropped (event.Piece other piece ∷ []) (outcome.Held (Ok _) ∷ []) =
+    (other ≡ conn) × (piece.now ≡ read) × (dropped ≡ [])
+IsFed conn read dropped (event.Piece other piece ∷ []) (outcome.Held (Err _) ∷ []) =
+    (other ≡ conn) × (piece.now ≡ dropped) × (read ≡ [])
+IsFed conn read dropped _ _ = ⊥
+
+-- the next of a connection was answered, by one call, or wasn't asked for
+abbrev pub IsAsked : Conn → Option Answer → List Event → List Outcome → Type 0
+IsAsked conn answer [] [] = answer ≡ None
+IsAsked conn answer (event.Answer other moment ∷ []) (outcome.Answered (Ok given) ∷ []) =
+    (other ≡ conn) × (answer ≡ given)
+IsAsked conn answer (event.Answer other moment ∷ []) (outcome.Answered (Err _) ∷ []) = (other ≡ conn) × (answer ≡ None)
+IsAsked conn answer _ _ = ⊥
+
+-- a step: what was read and written at the place of a connection; what was read, of which what came to its stream;
+-- and what it was answered after that
+pub record Step : Type 0 where
+  pub conn : Conn
+  pub traffic : List Traffic
+  pub read : List ℕ
+  pub dropped : List ℕ
+  pub answer : Option Answer
+  pub fed : Calls
+  pub asked : Calls
+
+-- what a step does to its connection
+pub record IsStepOn (step : Step) (old new : Lane) : Type 0 where
+  -- bytes that were read came to its stream, and then its next message was answered, if it was
+  pub fed : IsFed step.conn step.read step.dropped step.fed.events step.fed.outcomes
+  pub asked : IsAsked step.conn step.answer step.asked.events step.asked.outcomes
+  pub received : received_at step.conn.number step.traffic ≡ step.read ++ step.dropped
+  -- replies are sent whole, once and in order, each before the next message is answered
+  pub sent : AreSent old.outgoing step.answer (sent_at step.conn.number step.traffic) new.outgoing
+  -- nothing is read unless all that was under way is sent: so a peer that takes no reply is read from no more
+  pub unread : (received_at step.conn.number step.traffic ≡ [])
+      ⊎ ((more : List ℕ) × (sent_at step.conn.number step.traffic ≡ old.outgoing ++ more))
+  -- what comes behind the last reply is dropped
+  pub parted : old.stage ≡ Parting → step.read ≡ []
+  -- it is parted with only behind a reply that was sent whole
+  pub parts : new.stage ≡ Parting
+      → (old.stage ≡ Parting) ⊎ ((new.outgoing ≡ []) × ((old.outgoing ≢ []) ⊎ (step.answer ≢ None)))
+  -- no other place was read from or written to
+  pub there : AreAt step.conn.number step.traffic
+
+-- what the keeper of a front has come to: if it is sound now, or clean, or open, it was so before; and if it was sound,
+-- it still is, unless the disk hasn't given back what was written, or it was shut
+pub record Keeps {R : Type 0} (custody : R → Custody) (front_old front_new : Front R) : Type 0 where
+  pub sound : front_is_sound custody front_new → front_is_sound custody front_old
+  pub clean : front_is_clean custody front_new → front_is_clean custody front_old
+  pub was_open : front_is_open custody front_new → front_is_open custody front_old
+  pub stays : front_is_clean custody front_new → front_is_sound custody front_old → front_is_open custody front_new
+      → front_is_sound custody front_new
+
+-- a front made these calls, and a network did these things
+pub record Works {R N : Type 0} (custody : R → Custody) (done : N → Option (List Traffic)) (calls : Calls)
+    (traffic : List Traffic) (front_old front_new : Front R) (network_old network_new : N) : Type 0 where
+  pub played : IsPlayed (front_is_sound custody front_new) (front_state custody front_old)
+      (front_state custody front_new) calls.events calls.outcomes
+  pub served : PlaysServed custody front_old front_new calls.events calls.outcomes
+  pub keeps : Keeps custody front_old front_new
+  pub grows : Grows (done network_old) (done network_new) traffic
+
+-- calls, and others after them
+abbrev pub joined : Calls → Calls → Calls
+joined first second =
+    record { events = first.events ++ second.events; outcomes = first.outcomes ++ second.outcomes }
+
+-- why a connection is to be closed behind what was read and written at its place, as it is then: its stream has ended
+-- and nothing is under way to its peer, or it was parted with; or a read or a write failed. Want of memory can't be
+-- told from outside
+abbrev pub IsEnd : ℕ → List Traffic → Lane → Progress → Type 0
+IsEnd place traffic lane Waits = Unit {0}
+IsEnd place traffic lane Goes = Unit {0}
+IsEnd place traffic lane (Ends Ended) =
+    (Contains traffic (received place []) × (lane.outgoing ≡ [])) ⊎ (lane.stage ≡ Parting)
+IsEnd place traffic lane (Ends Failed) = HasFailedIn traffic
+IsEnd place traffic lane (Ends WantOfMemory) = Unit {0}
+IsEnd place traffic lane (Ends Late) = ⊥
+IsEnd place traffic lane (Ends DrivenOut) = ⊥
+
+-- bytes that were read are dropped only behind the last reply, or for want of memory, by which the connection ends
+abbrev pub DropsBy : List ℕ → Stage → Progress → Type 0
+DropsBy dropped stage (Ends WantOfMemory) = Unit {0}
+DropsBy dropped stage progress = (dropped ≡ []) ⊎ (stage ≡ Parting)
+
+-- that by what a step came to
+abbrev pub DropsAs : {E : Type 0} → List ℕ → Stage → Result Progress E → Type 0
+DropsAs dropped stage (Ok progress) = DropsBy dropped stage progress
+DropsAs dropped stage (Err error) = (dropped ≡ []) ⊎ (stage ≡ Parting)
+
+-- that of a step by what it came to
+abbrev pub EndsAs : {E : Type 0} → ℕ → List Traffic → Lane → Result Progress E → Type 0
+EndsAs place traffic lane (Ok progress) = IsEnd place traffic lane progress
+EndsAs place traffic lane (Err error) = Unit {0}
+
+-- a connection had its share: that is one step of it, in which a message is answered only if there was room for its
+-- reply, and nothing else
+pub record IsStep {R N E : Type 0} (custody : R → Custody) (done : N → Option (List Traffic)) (conn : Conn) (now : ℕ)
+    (has_room : Bool) (result : Result Progress E) (old new : Lane) (front_old front_new : Front R)
+    (network_old network_new : N) : Type 0 where
+  pub step : Step
+  pub its : step.conn ≡ conn
+  pub is_step : IsStepOn step old new
+  pub room : (step.answer ≡ None) ⊎ (has_room ≡ true)
+  pub ends : EndsAs step.conn.number step.traffic new result
+  pub drops : DropsAs step.dropped new.stage result
+  pub time : KeepsTime now step.answer old new
+  pub works : Works custody done (joined step.fed step.asked) step.traffic front_old front_new network_old network_new
+
+-- a connection that is open stays open, and no other changes
+abbrev pub Lasts : Conn → Lines → Lines → Type 0
+Lasts conn old new =
+    (stream : Stream) → IsOpen conn old stream → (after : Stream) × (new ≡ with_line conn (Some after) old)

@@ -1,0 +1,244 @@
+-- A turn: connections are opened, each that is open has one share, and some are closed.
+use Rattle.std.specs.Prelude.{◌≡◌, ◌⊎◌, ◌≤◌, ◌+◌, ◌-◌, ◌%◌, ℕ, zero, suc, Bool, true, false, List, [], ◌∷◌, ◌++◌}
+use Rattle.std.specs.Prelude.{length, min, replicate, slice_index_or, slice_set, Option, Some, None, Ok, option_map}
+use Rattle.std.specs.Prelude.{if◌then◌else◌}
+use Rattle.std.specs.Duration.{as_nanos}
+use Rattle.std.specs.List.{Contains, flat_map}
+use Rattle.xa_records.specs.Keeper.{Custody}
+use Rattle.xa_server.specs.declared.event.Event.TheVariants as event
+use Rattle.xa_server.specs.declared.event.Outcome.TheVariants as outcome
+use Rattle.xa_server.specs.declared.front.Front.{Front}
+use Rattle.xa_server.specs.declared.lines.Conn.{Conn}
+use Rattle.xa_server.specs.Lines.{Lines}
+use Rattle.xa_reactor.specs.declared.board.Board.{Board}
+use Rattle.xa_reactor.specs.declared.board.Ready.{Ready}
+use Rattle.xa_reactor.specs.declared.lane.Lane.{Lane}
+use Rattle.xa_reactor.specs.declared.limits.Limits.{Limits}
+use Rattle.xa_reactor.specs.declared.limits.Stage.TheVariants.{Parting}
+use Rattle.xa_reactor.specs.declared.progress.Reason.{Reason}
+use Rattle.xa_reactor.specs.declared.progress.Reason.TheVariants.{Ended, Failed, Late, DrivenOut, WantOfMemory}
+use Rattle.xa_reactor.specs.Step.{Calls, IsStepOn, Step, Works, no_calls, joined}
+use Rattle.xa_reactor.specs.Timing.{IsFresh, IsLate, KeepsTime}
+use Rattle.xa_reactor.specs.Traffic.{HasFailedIn, Traffic, received, seated, vacated}
+
+-- ---- places
+
+-- the connections that are open, by their places
+abbrev pub Lanes : Type 0
+Lanes = List (Option Lane)
+
+-- none is open
+abbrev pub no_lanes : Lanes
+no_lanes = replicate 64 None
+
+-- the connection at a place, if one is open there
+abbrev pub lane_at : ℕ → Lanes → Option Lane
+lane_at place lanes = slice_index_or lanes place None
+
+-- how many bytes are under way to a connection, if it is open
+abbrev pub bytes_of : Option Lane → ℕ
+bytes_of None = 0
+bytes_of (Some lane) = length lane.outgoing
+
+-- how many bytes of replies are under way
+abbrev pub under_way : Lanes → ℕ
+under_way [] = 0
+under_way (lane ∷ lanes) = bytes_of lane + under_way lanes
+
+-- no place is taken
+abbrev pub AreFree : Lanes → Type 0
+AreFree [] = Unit {0}
+AreFree (None ∷ lanes) = AreFree lanes
+AreFree (Some _ ∷ lanes) = ⊥
+
+-- each place is taken
+abbrev pub AreOpen : Lanes → Type 0
+AreOpen [] = Unit {0}
+AreOpen (None ∷ lanes) = ⊥
+AreOpen (Some _ ∷ lanes) = AreOpen lanes
+
+-- a connection is open at a place exactly if that of the front is
+abbrev pub AreAlike : Lanes → Lines → Type 0
+AreAlike [] [] = Unit {0}
+AreAlike (None ∷ lanes) (None ∷ lines) = AreAlike lanes lines
+AreAlike (Some _ ∷ lanes) (Some _ ∷ lines) = AreAlike lanes lines
+AreAlike _ _ = ⊥
+
+-- ---- deeds
+
+-- what is done: a connection is opened, has its share, or is closed
+pub data Deed : Type 0 where
+  opens : Conn → Deed
+  steps : Step → Deed
+  closes : Conn → Reason → Deed
+
+-- the calls of a deed
+abbrev pub calls_in : Deed → Calls
+calls_in (opens conn) = record { events = event.Begin ∷ []; outcomes = outcome.Begun (Ok conn) ∷ [] }
+calls_in (steps step) = joined step.fed step.asked
+calls_in (closes conn reason) = record { events = event.Finish conn ∷ []; outcomes = outcome.Finished (Ok tt) ∷ [] }
+
+-- the calls of deeds, one after another
+abbrev pub calls_of : List Deed → Calls
+calls_of [] = no_calls
+calls_of (deed ∷ deeds) = joined (calls_in deed) (calls_of deeds)
+
+-- what went over the network by a deed: who is opened is seated at its place, and who is closed leaves it
+abbrev pub traffic_in : Deed → List Traffic
+traffic_in (opens conn) = seated conn.number ∷ []
+traffic_in (steps step) = step.traffic
+traffic_in (closes conn reason) = vacated conn.number reason ∷ []
+
+-- what did by deeds
+abbrev pub traffic_of : List Deed → List Traffic
+traffic_of deeds = flat_map traffic_in deeds
+
+-- What a deed does to the connections: one is opened where none is; one has its share, in which a message is answered
+-- only if at most 32 MiB of replies are under way; or one is closed. No other is touched.
+abbrev pub IsDone : Deed → Lanes → Lanes → Type 0
+IsDone (opens conn) old new =
+    (lane : Lane) × (lane_at conn.number old ≡ None) × (lane.outgoing ≡ [])
+    × (new ≡ slice_set old conn.number (Some lane))
+IsDone (steps step) old new =
+    (was is : Lane) × (lane_at step.conn.number old ≡ Some was) × IsStepOn step was is
+    × ((step.answer ≡ None) ⊎ (under_way old ≤ 33_554_432)) × (new ≡ slice_set old step.conn.number (Some is))
+IsDone (closes conn reason) old new =
+    (lane : Lane) × (lane_at conn.number old ≡ Some lane) × (new ≡ slice_set old conn.number None)
+
+-- what deeds do, one after another
+abbrev pub AreDone : List Deed → Lanes → Lanes → Type 0
+AreDone [] old new = new ≡ old
+AreDone (deed ∷ deeds) old new = (mid : Lanes) × IsDone deed old mid × AreDone deeds mid new
+
+-- ---- who is taken
+
+-- a connection is idle since then: nothing is owed to it, and the first byte of a message is waited for
+abbrev pub IsIdleSince : Option Lane → ℕ → Type 0
+IsIdleSince None since = ⊥
+IsIdleSince (Some lane) since = IsFresh since lane
+
+-- for what the socket at a place was found ready; for nothing, if there is no such place
+abbrev pub ready_at : Board → ℕ → Ready
+ready_at board place =
+    slice_index_or board.ready place (record { readable = false; writable = false; ends = false })
+
+-- something is known to have come at a place: a read may give something, or tell of the end
+abbrev pub HasCome : Board → ℕ → Type 0
+HasCome board place = (ready_at board place).readable ≡ true
+
+-- a connection is idle since then, and nothing is known to have come on it; and none is idle for longer, but one on
+-- which something is known to have come
+pub record IsIdlest (board : Board) (lanes : Lanes) (place since : ℕ) : Type 0 where
+  pub idle : IsIdleSince (lane_at place lanes) since
+  pub silent : HasCome board place → ⊥
+  pub longest : (other earlier : ℕ) → IsIdleSince (lane_at other lanes) earlier
+      → (since ≤ earlier) ⊎ HasCome board other
+
+-- a connection may be driven out: all places are taken, it is the one that has been idle for the longest time, by what
+-- was known to be ready, and that is a tenth of a second
+pub record MayGo (board : Board) (now place : ℕ) (lanes : Lanes) : Type 0 where
+  pub full : AreOpen lanes
+  pub since : ℕ
+  pub idlest : IsIdlest board lanes place since
+  pub long : 100_000_000 ≤ now - since
+
+-- connections were taken: each was opened at a free place, or at that of one that was driven out for it
+abbrev pub AreTaken : Board → ℕ → List Deed → Lanes → Lanes → Type 0
+AreTaken board now [] old new = new ≡ old
+AreTaken board now (opens conn ∷ deeds) old new =
+    (lane : Lane) × (lane_at conn.number old ≡ None) × IsFresh now lane
+    × AreTaken board now deeds (slice_set old conn.number (Some lane)) new
+AreTaken board now (closes conn DrivenOut ∷ opens other ∷ deeds) old new =
+    (lane : Lane) × MayGo board now conn.number old × (other ≡ conn) × IsFresh now lane
+    × AreTaken board now deeds (slice_set old conn.number (Some lane)) new
+AreTaken board now _ old new = ⊥
+
+-- ---- shares
+
+-- why a connection was closed behind a step: its stream has ended and nothing is under way to its peer, or it was
+-- parted with; a read or a write failed; or it is late. Want of memory can't be told from outside
+abbrev pub EndsBy : Limits → ℕ → Step → Lane → Reason → Type 0
+EndsBy limits now step lane Ended =
+    (Contains step.traffic (received step.conn.number []) × (lane.outgoing ≡ [])) ⊎ (lane.stage ≡ Parting)
+EndsBy limits now step lane Failed = HasFailedIn step.traffic
+EndsBy limits now step lane Late = IsLate limits now lane
+EndsBy limits now step lane DrivenOut = ⊥
+EndsBy limits now step lane WantOfMemory = Unit {0}
+
+-- What is done for a place in a turn: nothing, if nobody is there; else one step, behind which the connection may be
+-- closed. Bytes are dropped only behind the last reply, or for want of memory, by which it is closed.
+abbrev pub IsShareOf : Limits → ℕ → ℕ → Option Lane → List Deed → Option Lane → Type 0
+IsShareOf limits now place None [] None = Unit {0}
+IsShareOf limits now place (Some was) (steps step ∷ []) (Some is) =
+    (step.conn.number ≡ place) × KeepsTime now step.answer was is × ((step.dropped ≡ []) ⊎ (is.stage ≡ Parting))
+IsShareOf limits now place (Some was) (steps step ∷ closes conn reason ∷ []) None =
+    (step.conn.number ≡ place) × (conn ≡ step.conn)
+    × ((is : Lane) × IsStepOn step was is × KeepsTime now step.answer was is × EndsBy limits now step is reason
+    × ((step.dropped ≡ []) ⊎ ((is.stage ≡ Parting) ⊎ (reason ≡ WantOfMemory))))
+IsShareOf limits now place was deeds is = ⊥
+
+-- the places from one on, round, so many
+unfoldable pub rotated : ℕ → ℕ → List ℕ
+rotated first zero = []
+rotated first (suc count) = rotated first count ++ ((first + count) % 64 ∷ [])
+
+-- these places had their shares, one after another
+abbrev pub AreShared : Limits → ℕ → List ℕ → List Deed → Lanes → Lanes → Type 0
+AreShared limits now [] deeds old new = (deeds ≡ []) × (new ≡ old)
+AreShared limits now (place ∷ places) deeds old new =
+    (first rest : List Deed) × (mid : Lanes) × (deeds ≡ first ++ rest)
+    × IsShareOf limits now place (lane_at place old) first (lane_at place mid) × AreDone first old mid
+    × AreShared limits now places rest mid new
+
+-- ---- the turn
+
+-- a turn: by which limits, when and from which place on it was taken, what was known to be ready when it began, and
+-- what was done
+pub record Turn : Type 0 where
+  pub limits : Limits
+  pub board : Board
+  pub now : ℕ
+  pub first : ℕ
+  pub taken : List Deed
+  pub shared : List Deed
+
+-- all that was done in a turn
+abbrev pub deeds_in : Turn → List Deed
+deeds_in turn = turn.taken ++ turn.shared
+
+-- a turn was taken: connections were taken, and then each of the 64 places had its share, once, in the order of
+-- places from `first` on
+pub record IsTurn (turn : Turn) (old new : Lanes) : Type 0 where
+  pub mid : Lanes
+  pub takes : AreTaken turn.board turn.now turn.taken old mid
+  pub opened : AreDone turn.taken old mid
+  pub shares : AreShared turn.limits turn.now (rotated turn.first 64) turn.shared mid new
+
+-- the limits that hold once no more connections are taken: for a message a second is waited, if no less
+abbrev pub least_idle : Option ℕ → Option ℕ
+least_idle None = Some 1_000_000_000
+least_idle (Some idle) = Some (min idle 1_000_000_000)
+
+-- the limits of a turn are those that are set, or those of a program that ends
+pub record AreLimits (limits set : Limits) (leaves : Bool) : Type 0 where
+  pub message : option_map as_nanos limits.message ≡ option_map as_nanos set.message
+  pub idle : option_map as_nanos limits.idle
+      ≡ (if leaves then least_idle (option_map as_nanos set.idle) else option_map as_nanos set.idle)
+
+module _ {R N : Type 0} (custody : R → Custody) (done : N → Option (List Traffic)) where
+  -- a turn was taken at that time by a front and over a network, of which that was known to be ready
+  pub record TakesTurn (board : Board) (now : ℕ) (set : Limits) (leaves : Bool) (old new : Lanes)
+      (front_old front_new : Front R) (network_old network_new : N) : Type 0 where
+    pub turn : Turn
+    pub told : turn.board ≡ board
+    pub at : turn.now ≡ now
+    pub limits : AreLimits turn.limits set leaves
+    pub is_turn : IsTurn turn old new
+    pub works : Works custody done (calls_of (deeds_in turn)) (traffic_of (deeds_in turn)) front_old front_new
+        network_old network_new
+
+  -- a turn was broken off: this was done of it
+  pub record BreaksOff (old new : Lanes) (front_old front_new : Front R) (network_old network_new : N) : Type 0 where
+    pub deeds : List Deed
+    pub are_done : AreDone deeds old new
+    pub works : Works custody done (calls_of deeds) (traffic_of deeds) front_old front_new network_old network_new

@@ -1,0 +1,213 @@
+-- What is done for one connection, call by call: a write, a read, an answer, and another write.
+use Rattle.std.specs.Prelude.{◌≡◌, ◌≢◌, ◌<◌, ◌⊎◌, ℕ, Bool, true, false, List, [], ◌∷◌, ◌++◌, length}
+use Rattle.std.specs.Prelude.{Option, Some, None, Result, Ok, Err}
+use Rattle.std.specs.Duration.{as_nanos}
+use Rattle.xa_records.specs.Keeper.{Custody}
+use Rattle.xa_server.specs.declared.event.Answer.{Answer}
+use Rattle.xa_server.specs.declared.event.Outcome.{Outcome}
+use Rattle.xa_server.specs.declared.event.Outcome.TheVariants as outcome
+use Rattle.xa_server.specs.declared.front.Front.{Front}
+use Rattle.xa_server.specs.declared.front_error.FrontError.{FrontError}
+use Rattle.xa_server.specs.declared.lines.Conn.{Conn}
+use Rattle.xa_server.specs.Front.{IsPlayed, front_is_sound, front_state}
+use Rattle.xa_server.specs.Serving.{PlaysServed}
+use Rattle.xa_server.specs.Transfers.{Grows}
+use Rattle.xa_reactor.specs.declared.halt.Halt.{Halt}
+use Rattle.xa_reactor.specs.declared.lane.Lane.{Lane}
+use Rattle.xa_reactor.specs.declared.limits.Stage.{Stage}
+use Rattle.xa_reactor.specs.declared.limits.Stage.TheVariants as stage
+use Rattle.xa_reactor.specs.declared.progress.Progress.{Progress}
+use Rattle.xa_reactor.specs.declared.progress.Progress.TheVariants.{Ends, Goes, Waits}
+use Rattle.xa_reactor.specs.Sending.{answer_bytes}
+use Rattle.xa_reactor.specs.Step.{Calls, DropsBy, EndsAs, IsAsked, IsEnd, IsFed, Keeps, Lasts}
+use Rattle.xa_reactor.specs.Timing.{KeepsTime}
+use Rattle.xa_reactor.specs.Traffic.{AreAt, Traffic, finished, received_at, sent_at}
+
+-- ---- why it ends
+
+-- a connection is to be closed exactly if that was so before, and for the same reason
+abbrev pub EndsAlike : Progress → Progress → Type 0
+EndsAlike (Ends why) progress = progress ≡ Ends why
+EndsAlike last (Ends why) = ⊥
+EndsAlike last progress = Unit {0}
+
+-- a connection isn't to be closed
+abbrev pub IsGoing : Progress → Type 0
+IsGoing (Ends why) = ⊥
+IsGoing Goes = Unit {0}
+IsGoing Waits = Unit {0}
+
+-- what went over the network where a reply has ended, by what is waited for then: a peer that is parted with was told
+-- that no more is sent
+abbrev pub finish_by : ℕ → Stage → List Traffic
+finish_by place stage.Quiet = []
+finish_by place stage.Incoming = []
+finish_by place stage.Outgoing = []
+finish_by place stage.Parting = finished place ∷ []
+
+-- ---- since when it is waited for
+
+-- what is waited for stays, and since when
+abbrev pub StaysInStage : Lane → Lane → Type 0
+StaysInStage old new = (new.stage ≡ old.stage) × (new.since ≡ old.since)
+
+-- behind a reply something else is waited for from now on; or it ends
+abbrev pub EndsReply : ℕ → Lane → Lane → Type 0
+EndsReply now old new = StaysInStage old new ⊎ ((new.stage ≢ stage.Outgoing) × (as_nanos new.since ≡ now))
+
+-- a reply that is under way stays so; or it was sent whole, and something else is waited for from now on
+abbrev pub SendsInTime : ℕ → Lane → Lane → Type 0
+SendsInTime now old new =
+    StaysInStage old new
+    ⊎ ((0 < length old.outgoing) × (new.outgoing ≡ []) × (old.stage ≡ stage.Outgoing) × (new.stage ≢ stage.Outgoing)
+    × (as_nanos new.since ≡ now))
+
+-- the time of a message begins with its first byte, and not anew with others
+abbrev pub ReadsInTime : ℕ → Lane → Lane → Type 0
+ReadsInTime now old new =
+    StaysInStage old new
+    ⊎ ((old.stage ≡ stage.Quiet) × (new.stage ≡ stage.Incoming) × (as_nanos new.since ≡ now))
+
+-- behind an answer the time of its reply begins
+abbrev pub AnswersInTime : ℕ → Option Answer → Lane → Lane → Type 0
+AnswersInTime now None old new = StaysInStage old new
+AnswersInTime now (Some answer) old new = as_nanos new.since ≡ now
+
+-- behind an answer its reply is what is waited for
+abbrev pub BeginsReply : Option Answer → Lane → Type 0
+BeginsReply None new = Unit {0}
+BeginsReply (Some answer) new = new.stage ≡ stage.Outgoing
+
+-- ---- calls of the front
+
+-- a front made these calls
+pub record Makes {R : Type 0} (custody : R → Custody) (calls : Calls) (front_old front_new : Front R) : Type 0 where
+  pub played : IsPlayed (front_is_sound custody front_new) (front_state custody front_old)
+      (front_state custody front_new) calls.events calls.outcomes
+  pub served : PlaysServed custody front_old front_new calls.events calls.outcomes
+  pub keeps : Keeps custody front_old front_new
+
+-- a piece came to a connection's stream; or it was dropped, behind the last reply or for want of memory
+pub record Feeds {R : Type 0} (custody : R → Custody) (conn : Conn) (piece : List ℕ) (front_old front_new : Front R)
+    : Type 0 where
+  pub read : List ℕ
+  pub dropped : List ℕ
+  pub calls : Calls
+  pub all : piece ≡ read ++ dropped
+  pub fed : IsFed conn read dropped calls.events calls.outcomes
+  pub makes : Makes custody calls front_old front_new
+  pub lasts : Lasts conn front_old.lines front_new.lines
+
+-- a piece was held whole, by the outcome of a step
+abbrev pub held_in : Outcome → Bool
+held_in (outcome.Held (Ok done)) = true
+held_in _ = false
+
+-- that, and whether all of it came to the stream
+pub record FeedsBy {R : Type 0} (custody : R → Custody) (conn : Conn) (piece : List ℕ) (whole : Bool)
+    (front_old front_new : Front R) : Type 0 where
+  pub feeds : Feeds custody conn piece front_old front_new
+  pub kept : whole ≡ true → feeds.dropped ≡ []
+
+-- what a front gave for an answer, if it gave one
+abbrev pub answer_in : Result (Option Answer) FrontError → Option Answer
+answer_in (Ok given) = given
+answer_in (Err error) = None
+
+-- what a front gave for an answer, by the outcome of a step, if it gave one
+abbrev pub answer_of_outcome : Outcome → Option Answer
+answer_of_outcome (outcome.Answered result) = answer_in result
+answer_of_outcome _ = None
+
+-- the next of a connection was answered; or it wasn't, and maybe wasn't asked for
+pub record Asks {R : Type 0} (custody : R → Custody) (conn : Conn) (answer : Option Answer)
+    (front_old front_new : Front R) : Type 0 where
+  pub calls : Calls
+  pub asked : IsAsked conn answer calls.events calls.outcomes
+  pub makes : Makes custody calls front_old front_new
+  pub lasts : Lasts conn front_old.lines front_new.lines
+
+-- ---- one after another
+
+-- one write was made, or none: a part from the front of what was under way was taken
+pub record Sends {N : Type 0} (done : N → Option (List Traffic)) (conn : Conn) (now : ℕ) (progress : Progress)
+    (old new : Lane) (network_old network_new : N) : Type 0 where
+  pub traffic : List Traffic
+  pub there : AreAt conn.number traffic
+  pub nothing_read : received_at conn.number traffic ≡ []
+  pub balance : old.outgoing ≡ sent_at conn.number traffic ++ new.outgoing
+  pub time : SendsInTime now old new
+  pub ends : IsEnd conn.number traffic new progress
+  pub grows : Grows (done network_old) (done network_new) traffic
+
+-- what was read was handed on
+pub record Takes {R : Type 0} (custody : R → Custody) (conn : Conn) (now : ℕ) (progress : Progress) (piece : List ℕ)
+    (old new : Lane) (front_old front_new : Front R) : Type 0 where
+  pub feeds : Feeds custody conn piece front_old front_new
+  pub parted : old.stage ≡ stage.Parting → feeds.read ≡ []
+  pub kept : new.outgoing ≡ old.outgoing
+  pub time : ReadsInTime now old new
+  pub ends : IsEnd conn.number [] new progress
+  pub drops : DropsBy feeds.dropped new.stage progress
+
+-- one read was made, or none, and what it gave was taken
+pub record Reads {R N : Type 0} (custody : R → Custody) (done : N → Option (List Traffic)) (conn : Conn) (now : ℕ)
+    (progress : Progress) (old new : Lane) (front_old front_new : Front R) (network_old network_new : N) : Type 0
+  where
+    pub piece : List ℕ
+    pub traffic : List Traffic
+    pub there : AreAt conn.number traffic
+    pub nothing_sent : sent_at conn.number traffic ≡ []
+    pub received : received_at conn.number traffic ≡ piece
+    pub feeds : Feeds custody conn piece front_old front_new
+    pub parted : old.stage ≡ stage.Parting → feeds.read ≡ []
+    pub kept : new.outgoing ≡ old.outgoing
+    pub time : ReadsInTime now old new
+    pub ends : new.outgoing ≡ [] → IsEnd conn.number traffic new progress
+    pub drops : DropsBy feeds.dropped new.stage progress
+    pub grows : Grows (done network_old) (done network_new) traffic
+
+-- a write was made, or none, and behind it a read, or none
+pub record SendsAndReads {R N : Type 0} (custody : R → Custody) (done : N → Option (List Traffic)) (conn : Conn)
+    (now : ℕ) (progress : Progress) (old new : Lane) (front_old front_new : Front R) (network_old network_new : N)
+    : Type 0 where
+  pub piece : List ℕ
+  pub traffic : List Traffic
+  pub there : AreAt conn.number traffic
+  pub received : received_at conn.number traffic ≡ piece
+  pub feeds : Feeds custody conn piece front_old front_new
+  pub unread : (received_at conn.number traffic ≡ []) ⊎ (new.outgoing ≡ [])
+  pub parted : old.stage ≡ stage.Parting → feeds.read ≡ []
+  pub balance : old.outgoing ≡ sent_at conn.number traffic ++ new.outgoing
+  pub parts : new.stage ≡ stage.Parting
+      → (old.stage ≡ stage.Parting) ⊎ ((new.outgoing ≡ []) × (old.outgoing ≢ []))
+  pub time : KeepsTime now None old new
+  pub ends : IsEnd conn.number traffic new progress
+  pub drops : DropsBy feeds.dropped new.stage progress
+  pub grows : Grows (done network_old) (done network_new) traffic
+
+-- the next message was answered, and its reply is under way, alone; or it wasn't, and nothing is under way
+pub record Answers {R : Type 0} (custody : R → Custody) (conn : Conn) (now : ℕ) (result : Result Progress Halt)
+    (old new : Lane) (front_old front_new : Front R) : Type 0 where
+  pub answer : Option Answer
+  pub asks : Asks custody conn answer front_old front_new
+  pub under_way : new.outgoing ≡ answer_bytes answer
+  pub begins : BeginsReply answer new
+  pub time : AnswersInTime now answer old new
+  pub ends : EndsAs conn.number [] new result
+
+-- the next message was answered, if it was, and a part from the front of its reply was sent
+pub record AnswersAndSends {R N : Type 0} (custody : R → Custody) (done : N → Option (List Traffic)) (conn : Conn)
+    (now : ℕ) (result : Result Progress Halt) (old new : Lane) (front_old front_new : Front R)
+    (network_old network_new : N) : Type 0 where
+  pub answer : Option Answer
+  pub asks : Asks custody conn answer front_old front_new
+  pub traffic : List Traffic
+  pub there : AreAt conn.number traffic
+  pub nothing_read : received_at conn.number traffic ≡ []
+  pub balance : answer_bytes answer ≡ sent_at conn.number traffic ++ new.outgoing
+  pub parts : new.stage ≡ stage.Parting
+      → (old.stage ≡ stage.Parting) ⊎ ((new.outgoing ≡ []) × (answer ≢ None))
+  pub time : AnswersInTime now answer old new
+  pub ends : EndsAs conn.number traffic new result
+  pub grows : Grows (done network_old) (done network_new) traffic

@@ -1,0 +1,156 @@
+//! How the reply that is under way to a peer is sent, and what is waited for behind it.
+ghost use Rattle.std.specs.Prelude.{◌≡◌, ◌≢◌, ◌<◌, [], length};
+ghost use Rattle.std.specs.Duration.{as_nanos};
+ghost use Rattle.xa_server.specs.Transfers.{Grows};
+ghost use Rattle.xa_reactor.specs.declared.limits.Stage.TheVariants as stages;
+ghost use Rattle.xa_reactor.specs.Step.{IsEnd};
+ghost use Rattle.xa_reactor.specs.handling.Going.{EndsReply, Sends, StaysInStage, finish_by};
+
+use crate::board::Ready;
+use crate::lane::{Lane, Share};
+use crate::limits::Stage;
+use crate::network::Network;
+use crate::outgoing::{Outgoing, Sending};
+use crate::progress::{Progress, Reason};
+use std::time::Duration;
+use xa_records::Records;
+use xa_server::{Front, Holding};
+
+/// How many bytes of a reply have to be taken in ten seconds.
+const LEAST_BYTES: usize = 65_536;
+
+impl Lane {
+    /// Counts bytes of a reply that were taken.
+    fn count_sent(&mut self, count: usize, now: Duration)
+        ensures outgoing { self.new.outgoing ≡ self.old.outgoing }
+        ensures stage { self.new.stage ≡ self.old.stage }
+        ensures since { self.new.since ≡ self.old.since }
+    {
+        self.moved = self.moved.saturating_add(count);
+        if self.moved >= LEAST_BYTES {
+            self.mark = now;
+            self.moved = 0;
+        }
+    }
+
+    /// Parts with it: its peer is told that no more is sent.
+    fn part_with<N: Network>(&mut self, network: &mut N, share: Share)
+        ensures outgoing { self.new.outgoing ≡ self.old.outgoing }
+        ensures stage { self.new.stage ≡ stages.Parting }
+        ensures since { self.new.since ≡ share.now }
+        ensures done { Grows (N.done network.old) (N.done network.new)
+            (finish_by share.conn.number self.new.stage) }
+    {
+        network.part(share.conn.number);
+        self.holding = Holding::Ended;
+        self.enter(Stage::Parting, share.now);
+    }
+
+    /// What is waited for by what it holds. It is parted with if its stream has ended.
+    fn wait_by<N: Network>(&mut self, network: &mut N, holding: Holding, share: Share)
+        ensures outgoing { self.new.outgoing ≡ self.old.outgoing }
+        ensures stage { self.new.stage ≢ stages.Outgoing }
+        ensures since { self.new.since ≡ share.now }
+        ensures done { Grows (N.done network.old) (N.done network.new)
+            (finish_by share.conn.number self.new.stage) }
+    {
+        match holding {
+            Holding::Nothing => self.enter(Stage::Quiet, share.now),
+            Holding::Part | Holding::Whole => self.enter(Stage::Incoming, share.now),
+            Holding::Ended => self.part_with(network, share),
+        }
+    }
+
+    /// What it holds now, and what is waited for by it.
+    fn look<R: Records, N: Network>(
+        &mut self,
+        front: &mut Front<R>,
+        network: &mut N,
+        share: Share,
+    ) -> Progress
+        requires { self.old.stage ≡ stages.Outgoing }
+        ensures same { front.new ≡ front.old }
+        ensures outgoing { self.new.outgoing ≡ self.old.outgoing }
+        ensures done { Grows (N.done network.old) (N.done network.new)
+            (finish_by share.conn.number self.new.stage) }
+        ensures time { EndsReply (as_nanos share.now) self.old self.new }
+        ensures ends { IsEnd share.conn.number [] self.new result }
+    {
+        let Ok(holding) = front.holding(share.conn) else {
+            return Progress::Ends(Reason::WantOfMemory);
+        };
+        self.holding = holding;
+        self.wait_by(network, holding, share);
+        Progress::Goes
+    }
+
+    /// What comes behind a reply that was sent whole: the next message, or the end.
+    fn end_reply<R: Records, N: Network>(
+        &mut self,
+        front: &mut Front<R>,
+        network: &mut N,
+        share: Share,
+    ) -> Progress
+        requires whole { self.old.outgoing ≡ [] }
+        requires stage { self.old.stage ≡ stages.Outgoing }
+        ensures outgoing { self.new.outgoing ≡ [] }
+        ensures same { front.new ≡ front.old }
+        ensures done { Grows (N.done network.old) (N.done network.new)
+            (finish_by share.conn.number self.new.stage) }
+        ensures time { EndsReply (as_nanos share.now) self.old self.new }
+        ensures ends { IsEnd share.conn.number [] self.new result }
+    {
+        let parts = self.outgoing.is_last() || share.parts;
+        self.outgoing = Outgoing::nothing();
+        if parts {
+            self.part_with(network, share);
+            return Progress::Goes;
+        }
+        self.look(front, network, share)
+    }
+
+    /// Sends some of what is under way, by one write.
+    fn write<N: Network>(&mut self, network: &mut N, ready: &mut Ready, share: Share) -> Progress
+        requires { 0 < length self.old.outgoing }
+        ensures sends { Sends N.done share.conn (as_nanos share.now) result self.old self.new
+            network.old network.new }
+        ensures stays { StaysInStage self.old self.new }
+    {
+        match self.outgoing.send(network, share.conn.number) {
+            Sending::Went(count) => {
+                self.count_sent(count, share.now);
+                Progress::Goes
+            }
+            Sending::Blocked => {
+                ready.writable = false;
+                Progress::Waits
+            }
+            Sending::Broke => Progress::Ends(Reason::Failed),
+        }
+    }
+
+    /// Sends some of what is under way, if anything is, by one write.
+    pub(super) fn send_some<R: Records, N: Network>(
+        &mut self,
+        front: &mut Front<R>,
+        network: &mut N,
+        ready: &mut Ready,
+        share: Share,
+    ) -> Progress
+        ensures sends { Sends N.done share.conn (as_nanos share.now) result self.old self.new
+            network.old network.new }
+        ensures same { front.new ≡ front.old }
+    {
+        if self.stage != Stage::Outgoing || self.outgoing.is_empty() {
+            return Progress::Goes;
+        }
+        if !ready.writable {
+            return Progress::Waits;
+        }
+        let sent = self.write(network, ready, share);
+        if sent != Progress::Goes || !self.outgoing.is_empty() {
+            return sent;
+        }
+        self.end_reply(front, network, share)
+    }
+}

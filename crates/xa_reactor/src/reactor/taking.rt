@@ -1,0 +1,217 @@
+//! Who is taken, and who has to go for it.
+ghost use Rattle.std.specs.Prelude.{◌≡◌, ◌≢◌, None, IfSome, Some};
+ghost use Rattle.std.specs.Duration.{as_nanos};
+ghost use Rattle.xa_server.specs.Connection.{empty_stream};
+ghost use Rattle.xa_server.specs.Lines.{first_free, line_at, with_line};
+ghost use Rattle.xa_reactor.specs.declared.board.Board.{Board};
+ghost use Rattle.xa_reactor.specs.handling.Going.{Makes};
+ghost use Rattle.xa_reactor.specs.handling.Taking.{Follows, IsRoom, Opens, TakesOn};
+ghost use Rattle.xa_reactor.specs.handling.Turning.{Closes, TakesSome};
+ghost use Rattle.xa_reactor.specs.Turn.{AreAlike, AreOpen, MayGo, calls_in, closes, lane_at, opens};
+
+use crate::board::Ready;
+use crate::halt::Halt;
+use crate::lane::Lane;
+use crate::lanes::{PLACES, grace_left};
+use crate::network::{Arrival, Network};
+use crate::progress::Reason;
+use crate::reactor::Reactor;
+use std::time::Duration;
+use xa_records::Records;
+use xa_server::{Conn, Event, Front, Outcome};
+
+/// Opens a connection of the front, the least that is free.
+fn begin<R: Records>(front: &mut Front<R>) -> Conn
+    requires { first_free front.old.lines ≢ None }
+    ensures first { first_free front.old.lines ≡ Some result.number }
+    ensures lines { front.new.lines ≡ with_line result (Some empty_stream) front.old.lines }
+    ensures makes { Makes R.custody (calls_in (opens result)) front.old front.new }
+{
+    let Outcome::Begun(Ok(conn)) = front.step(&Event::Begin) else {
+        unreachable!()
+    };
+    conn
+}
+
+/// Closes a connection of the front.
+fn finish<R: Records>(front: &mut Front<R>, conn: Conn)
+    requires { line_at conn front.old.lines ≢ None }
+    ensures lines { front.new.lines ≡ with_line conn None front.old.lines }
+    ensures makes { (reason : Reason) → Makes R.custody (calls_in (closes conn reason)) front.old front.new }
+{
+    let _closed = front.step(&Event::Finish(conn));
+}
+
+impl Reactor {
+    /// The connection that may be driven out for another, if there is one.
+    #[tactic(auto, using(crate::proofs::TakingLemmas::may_go))]
+    fn to_drive_out(&self, now: Duration) -> Option<usize>
+        requires { AreOpen self.now.lanes }
+        ensures { IfSome result (λ place. MayGo self.now.board (as_nanos now) place self.now.lanes) }
+    {
+        match self.lanes.idlest(&self.board) {
+            Some((place, since)) if grace_left(since, now).is_zero() => Some(place),
+            _ => None,
+        }
+    }
+
+    /// Whether there is a place for another connection: a free one, or that of the one that is driven out
+    /// for it.
+    fn room_for_one(&self, now: Duration) -> Option<Option<usize>>
+        ensures { IfSome result
+            (λ driven_out. IsRoom self.now.board (as_nanos now) driven_out self.now.lanes) }
+    {
+        if !self.lanes.is_full() {
+            return Some(None);
+        }
+        match self.to_drive_out(now) {
+            Some(place) => Some(Some(place)),
+            None => None,
+        }
+    }
+
+    /// Closes the connection at a place.
+    pub(super) fn close<R: Records, N: Network>(
+        &mut self,
+        front: &mut Front<R>,
+        network: &mut N,
+        place: usize,
+        reason: Reason,
+    )
+        requires alike { AreAlike self.old.lanes front.old.lines }
+        requires there { lane_at place self.old.lanes ≢ None }
+        ensures closes { Closes R.custody N.done place reason self.old.lanes self.new.lanes
+            front.old front.new network.old network.new }
+        ensures alike { AreAlike self.new.lanes front.new.lines }
+        ensures same { self.new ≡ record self.old { lanes = self.new.lanes } }
+    {
+        self.lanes.put(place, None);
+        network.leave(place, reason);
+        finish(front, Conn { number: place });
+    }
+
+    /// Opens the connection that has come, at the least place that is free.
+    fn open<R: Records, N: Network>(&mut self, front: &mut Front<R>, network: &mut N, now: Duration)
+        requires alike { AreAlike self.old.lanes front.old.lines }
+        requires free { first_free front.old.lines ≢ None }
+        ensures opens { Opens R.custody N.done (as_nanos now) self.old.lanes self.new.lanes
+            front.old front.new network.old network.new }
+        ensures alike { AreAlike self.new.lanes front.new.lines }
+        ensures follows { (first : Board) → Follows first self.old.board (as_nanos now) self.old.lanes
+            → Follows first self.new.board (as_nanos now) self.new.lanes }
+        ensures same { self.new ≡ record self.old { lanes = self.new.lanes; board = self.new.board } }
+    {
+        let conn = begin(front);
+        network.seat(conn.number);
+        self.board.put(conn.number, Ready::new());
+        self.lanes.put(conn.number, Some(Lane::new(now)));
+    }
+
+    /// Drives one out, and opens the connection that has come at its place.
+    fn replace<R: Records, N: Network>(
+        &mut self,
+        front: &mut Front<R>,
+        network: &mut N,
+        place: usize,
+        now: Duration,
+    )
+        requires alike { AreAlike self.old.lanes front.old.lines }
+        requires goes { MayGo self.old.board (as_nanos now) place self.old.lanes }
+        ensures taken { TakesOn R.custody N.done (as_nanos now) self.old.board self.new.board
+            self.old.lanes self.new.lanes front.old front.new network.old network.new }
+        ensures alike { AreAlike self.new.lanes front.new.lines }
+        ensures same { self.new ≡ record self.old { lanes = self.new.lanes; board = self.new.board } }
+    {
+        self.close(front, network, place, Reason::DrivenOut);
+        self.open(front, network, now);
+    }
+
+    /// Seats the connection that has come, at a free place or at that of one that is driven out for it.
+    fn welcome<R: Records, N: Network>(
+        &mut self,
+        front: &mut Front<R>,
+        network: &mut N,
+        driven_out: Option<usize>,
+        now: Duration,
+    )
+        requires alike { AreAlike self.old.lanes front.old.lines }
+        requires room { IsRoom self.old.board (as_nanos now) driven_out self.old.lanes }
+        ensures taken { TakesOn R.custody N.done (as_nanos now) self.old.board self.new.board
+            self.old.lanes self.new.lanes front.old front.new network.old network.new }
+        ensures alike { AreAlike self.new.lanes front.new.lines }
+        ensures same { self.new
+            ≡ record self.old { lanes = self.new.lanes; board = self.new.board; door = self.new.door } }
+    {
+        self.door.succeed();
+        match driven_out {
+            Some(place) => self.replace(front, network, place, now),
+            None => self.open(front, network, now),
+        }
+    }
+
+    /// Takes one connection, if one waits and there is a place for it. Whether another may be tried.
+    fn take_one<R: Records, N: Network>(
+        &mut self,
+        front: &mut Front<R>,
+        network: &mut N,
+        now: Duration,
+    ) -> Result<bool, Halt>
+        requires { AreAlike self.old.lanes front.old.lines }
+        ensures taken { TakesOn R.custody N.done (as_nanos now) self.old.board self.new.board
+            self.old.lanes self.new.lanes front.old front.new network.old network.new }
+        ensures alike { AreAlike self.new.lanes front.new.lines }
+        ensures same { self.new
+            ≡ record self.old { lanes = self.new.lanes; board = self.new.board; door = self.new.door } }
+    {
+        let Some(driven_out) = self.room_for_one(now) else {
+            return Ok(false);
+        };
+        match network.accept() {
+            Arrival::Came => {
+                self.welcome(front, network, driven_out, now);
+                Ok(true)
+            }
+            Arrival::Nobody => {
+                self.board.door = false;
+                Ok(false)
+            }
+            Arrival::Passed => {
+                self.door.pass_over()?;
+                Ok(true)
+            }
+            Arrival::NoRoom => {
+                self.door.wait(self.lanes.is_empty(), now)?;
+                Ok(false)
+            }
+            Arrival::Failed => Err(Halt::Door),
+        }
+    }
+
+    /// Takes connections, as far as some wait and there are places for them.
+    pub(super) fn take_some<R: Records, N: Network>(
+        &mut self,
+        front: &mut Front<R>,
+        network: &mut N,
+        now: Duration,
+    ) -> Result<(), Halt>
+        requires { AreAlike self.old.lanes front.old.lines }
+        ensures taken { TakesSome R.custody N.done self.old.board (as_nanos now)
+            self.old.lanes self.new.lanes front.old front.new network.old network.new }
+        ensures alike { AreAlike self.new.lanes front.new.lines }
+        ensures same { self.new
+            ≡ record self.old { lanes = self.new.lanes; board = self.new.board; door = self.new.door } }
+    {
+        if self.leaving.is_some() || !self.door.pause_left(now).is_zero() {
+            return Ok(());
+        }
+        for _ in 0..PLACES {
+            if !self.board.door {
+                return Ok(());
+            }
+            if !self.take_one(front, network, now)? {
+                return Ok(());
+            }
+        }
+        Ok(())
+    }
+}

@@ -1,0 +1,389 @@
+"""What a reactor does: connections come to 64 places, and are served in turns, in each of which every one has a share.
+
+Peers say what they send and how many bytes they take at a write; every so many reads, writes and arrivals fail. Times
+are milliseconds of a clock that may stand.
+"""
+from fronts import MOST_OPEN, Front
+from messages import Fault, Message
+
+PIECE = 65_536
+# for how long a reply may be under way, in all and with fewer than LEAST_BYTES of it taken; what comes behind the last
+# one is dropped; one that owes nothing stays where all places are taken; and a reactor that ends waits for a message
+REPLY, SLOW, PARTING, GRACE, LEAVING = 120_000, 10_000, 2_000, 100, 1_000
+LEAST_BYTES, MOST_DROPPED, MOST_UNDER_WAY, MOST_FAILURES = 65_536, 67_108_864, 33_554_432, 1_000
+
+
+class Blocked(Exception):
+    """A call that would wait."""
+
+
+class Failed(Exception):
+    """A call that fails."""
+
+
+class Halt(Exception):
+    """Why a reactor halts."""
+
+
+class Peer:
+    """The other end of a connection: what it sends, whether that is all, how much it takes at a write, and what it has
+    got."""
+
+    def __init__(self):
+        self.sends, self.has_ended, self.takes, self.got, self.is_parted = b"", False, None, b"", False
+
+
+class Network:
+    """Peers that wait at the door or sit at places, and calls of which every so many fail."""
+
+    def __init__(self):
+        self.peers, self.waiting, self.guest, self.seats = [], [], None, [None] * MOST_OPEN
+        self.every, self.counts, self.is_shut = {}, {"read": 0, "write": 0, "accept": 0}, False
+
+    def counted(self, kind):
+        """Counts a call, which may be one that fails."""
+        self.counts[kind] += 1
+        if self.every.get(kind) and self.counts[kind] % self.every[kind] == 0:
+            raise Failed
+
+    def arrive(self):
+        self.peers.append(Peer())
+        if not self.is_shut:
+            self.waiting.append(self.peers[-1])
+
+    def accept(self):
+        """Whether one has come."""
+        if self.is_shut or not self.waiting:
+            return False
+        self.counted("accept")
+        self.guest = self.waiting.pop(0)
+        return True
+
+    def receive(self, place):
+        """At most so many bytes as a piece has; none at the end."""
+        peer = self.seats[place]
+        self.counted("read")
+        if not peer.sends and not peer.has_ended:
+            raise Blocked
+        held, peer.sends = peer.sends[:PIECE], peer.sends[PIECE:]
+        return held
+
+    def send(self, place, held):
+        """How many of the bytes were taken."""
+        peer = self.seats[place]
+        self.counted("write")
+        if peer.takes == 0:
+            raise Blocked
+        count = min(len(held), len(held) if peer.takes is None else peer.takes)
+        peer.got += held[:count]
+        return count
+
+
+class Lane:
+    """A connection that is open."""
+
+    def __init__(self, now):
+        self.rest, self.is_last, self.holding, self.ready = b"", False, "Nothing", [True, True, False]
+        self.enter("Quiet", now)
+
+    def enter(self, stage, now):
+        self.stage, self.since, self.mark, self.moved = stage, now, now, 0
+
+    def wants_room(self):
+        """Whether it holds a whole message, the last reply was sent, and it wasn't parted with."""
+        return self.holding == "Whole" and not self.rest and self.stage != "Parting"
+
+    def time_left(self, limits, now):
+        """How long it is still waited for; None for ever."""
+        limit = {"Outgoing": REPLY, "Parting": PARTING, **limits}[self.stage]
+        if limit is None:
+            return None
+        found = max(0, limit - max(0, now - self.since))
+        return min(found, max(0, SLOW - max(0, now - self.mark))) if self.stage == "Outgoing" else found
+
+
+class Reactor:
+    """Turns over a front and a network."""
+
+    def __init__(self, server, network, idle=30_000, message=10_000):
+        self.front, self.network, self.lanes = Front(server), network, [None] * MOST_OPEN
+        self.limits, self.first, self.leaving = {"Quiet": idle, "Incoming": message}, 0, None
+        self.door, self.end, self.failures, self.again, self.deeds, self.moment = True, False, 0, None, [], 0
+
+    # ---- what is known
+
+    def limits_now(self):
+        idle = self.limits["Quiet"]
+        return self.limits if self.leaving is None else {
+            **self.limits, "Quiet": LEAVING if idle is None else min(idle, LEAVING)}
+
+    def has_room(self):
+        return sum(len(lane.rest) for lane in self.lanes if lane) <= MOST_UNDER_WAY
+
+    def idlest(self):
+        """The place and the time of the one that has owed nothing for the longest time."""
+        found = [(lane.since, place) for place, lane in enumerate(self.lanes)
+                 if lane and lane.stage == "Quiet" and not lane.ready[0]]
+        return min(found) if found else None
+
+    def held(self, place):
+        """What a connection holds."""
+        stream = self.front.stream(place)
+        held, has_ended = stream.held, stream.has_ended
+        found = stream.next()
+        stream.held, stream.has_ended = held, has_ended
+        if has_ended:
+            return "Ended"
+        return "Whole" if isinstance(found, (Message, Fault)) else "Part" if held else "Nothing"
+
+    # ---- who is taken
+
+    def close(self, place, reason):
+        self.lanes[place], self.network.seats[place] = None, None
+        self.front.close(place)
+        self.deeds.append(f"{place}!{reason}")
+
+    def take_one(self, now):
+        """Whether another may be tried."""
+        driven_out = None
+        if None not in self.lanes:
+            idlest = self.idlest()
+            if idlest is None or now - idlest[0] < GRACE:
+                return False
+            driven_out = idlest[1]
+        try:
+            if not self.network.accept():
+                self.door = False
+                return False
+        except Failed:
+            self.failures += 1
+            if self.failures >= MOST_FAILURES:
+                raise Halt("Door") from None
+            return True
+        self.failures = 0
+        if driven_out is not None:
+            self.close(driven_out, "DrivenOut")
+        place = self.front.open()
+        self.lanes[place], self.network.seats[place] = Lane(now), self.network.guest
+        self.deeds.append(f"{place}+")
+        return True
+
+    def take_some(self, now):
+        for _ in range(MOST_OPEN):
+            if self.leaving is not None or not self.door or not self.take_one(now):
+                return
+
+    # ---- a share
+
+    def end_reply(self, place, now):
+        """What comes behind a reply that was sent whole: it is parted with behind the last one, or if its stream has
+        ended."""
+        lane = self.lanes[place]
+        parts = lane.is_last or self.leaving is not None and now - self.leaving >= LEAVING
+        lane.holding = "Ended" if parts else self.held(place)
+        if lane.holding == "Ended":
+            self.network.seats[place].is_parted = True
+            self.deeds.append(f"{place}|")
+        lane.enter({"Nothing": "Quiet", "Ended": "Parting"}.get(lane.holding, "Incoming"), now)
+
+    def send_some(self, place, now):
+        """Whether the connection goes on now; a reason if it ends."""
+        lane = self.lanes[place]
+        if not lane.rest:
+            return "Goes"
+        if not lane.ready[1]:
+            return "Waits"
+        try:
+            count = self.network.send(place, lane.rest)
+        except Blocked:
+            lane.ready[1] = False
+            return "Waits"
+        except Failed:
+            return "Failed"
+        self.deeds.append(f"{place}>{count}")
+        lane.rest, lane.moved = lane.rest[count:], lane.moved + count
+        if lane.moved >= LEAST_BYTES:
+            lane.mark, lane.moved = now, 0
+        if not lane.rest:
+            self.end_reply(place, now)
+        return "Goes"
+
+    def read_some(self, place, now):
+        lane = self.lanes[place]
+        if not lane.ready[0]:
+            return "Waits"
+        try:
+            held = self.network.receive(place)
+        except Blocked:
+            lane.ready[0] = False
+            return "Waits"
+        except Failed:
+            return "Failed"
+        self.deeds.append(f"{place}<{len(held)}")
+        if not held:
+            return "Ended"
+        lane.ready[0] = lane.ready[2] or len(held) == PIECE
+        if lane.stage == "Parting":
+            lane.moved += len(held)
+            return "Ended" if lane.moved > MOST_DROPPED else "Goes"
+        self.front.piece(place, held)
+        lane.holding = self.held(place)
+        if lane.stage == "Quiet":
+            lane.enter("Incoming", now)
+        return "Goes"
+
+    def answer(self, place, now):
+        if self.moment is None:
+            raise Halt("NoClock")
+        lane, answer = self.lanes[place], self.front.answer(place, self.moment)
+        lane.rest, lane.is_last, lane.holding = answer.reply, answer.is_last, "Part"
+        lane.enter("Outgoing", now)
+
+    def go(self, place, now, has_room):
+        """How far the connection is behind its share."""
+        lane = self.lanes[place]
+        went = self.send_some(place, now)
+        if went == "Goes" and not lane.rest and lane.holding != "Whole":
+            went = self.read_some(place, now)
+        if went in ("Goes", "Waits") and lane.wants_room() and has_room:
+            self.answer(place, now)
+            went = self.send_some(place, now)
+        if went not in ("Goes", "Waits"):
+            return went
+        can_go = lane.ready[1] if lane.rest else has_room if lane.holding == "Whole" else lane.ready[0]
+        return "Goes" if can_go else "Waits"
+
+    def share(self, place, now):
+        """Whether the connection at a place can go on at once."""
+        lane = self.lanes[place]
+        if lane is None:
+            return False
+        has_room = (lane.holding == "Whole" or lane.ready[0]) and self.has_room()
+        went = self.go(place, now, has_room)
+        if went == "Waits" and not lane.wants_room() and lane.time_left(self.limits_now(), now) == 0:
+            self.close(place, "Ended" if lane.stage == "Parting" else "Late")
+        elif went not in ("Goes", "Waits"):
+            self.close(place, went)
+        return went == "Goes"
+
+    # ---- turns
+
+    def note(self, place, readable, writable, ends):
+        """The network tells that a place is ready for more."""
+        if self.lanes[place]:
+            was = self.lanes[place].ready
+            self.lanes[place].ready = [old or new for old, new in zip(was, (readable, writable, ends))]
+
+    def rest(self, now):
+        """For how long nothing is to be done if nothing comes; None for ever."""
+        waits = [lane for lane in self.lanes if lane and not lane.wants_room()]
+        if self.has_room() and any(lane and lane.wants_room() for lane in self.lanes):
+            return 0
+        found = [left for lane in waits if (left := lane.time_left(self.limits_now(), now)) is not None]
+        if self.door and self.leaving is None:
+            idlest = self.idlest()
+            found += [0] if None in self.lanes else [max(0, GRACE - (now - idlest[0]))] if idlest else []
+        return min(found, default=None)
+
+    def turn(self, now):
+        """What is done in a turn; gives for how long nothing is to be done then, None for ever."""
+        if self.end and self.leaving is None:
+            self.network.is_shut, self.leaving = True, now
+        self.take_some(now)
+        goes = False
+        for offset in range(MOST_OPEN):
+            goes |= self.share((self.first + offset) % MOST_OPEN, now)
+        self.first = (self.first + 1) % MOST_OPEN
+        return 0 if goes else self.rest(now)
+
+    def is_over(self):
+        return self.leaving is not None and not any(self.lanes)
+
+
+# ---- rows
+
+class Schedule:
+    """What the fields of a row do, and what they answer."""
+
+    def __init__(self, server):
+        self.network, self.now, self.told = Network(), 0, None
+        self.server, self.found = server, []
+        self.reactor = Reactor(server, self.network)
+
+    def limits(self, text):
+        idle, message = (int(word) or None for word in text.split(":"))
+        self.reactor = Reactor(self.server, self.network, idle, message)
+
+    def arrive(self, text):
+        for _ in range(int(text)):
+            self.network.arrive()
+
+    def peer(self, text):
+        number, _, what = text.partition(":")
+        return self.network.peers[int(number)], what
+
+    def comes(self, text):
+        peer, held = self.peer(text)
+        peer.sends += bytes.fromhex(held)
+
+    def ends(self, text):
+        self.peer(text)[0].has_ended = True
+
+    def takes(self, text):
+        peer, count = self.peer(text)
+        peer.takes = int(count)
+
+    def fails(self, text):
+        kind, every = text.split(":")
+        self.network.every[kind] = int(every)
+
+    def ready(self, text):
+        place, letters = text.split(":")
+        self.told = self.told or {}
+        self.told[int(place)] = [letter in letters for letter in "rwe"]
+
+    def time(self, text):
+        self.now = int(text)
+
+    def clock(self, text):
+        self.reactor.moment = int(text)
+
+    def no_clock(self, _):
+        self.reactor.moment = None
+
+    def end(self, _):
+        self.is_ending = True
+
+    def got(self, text):
+        self.found.append(f"got {self.network.peers[int(text)].got.hex()}")
+
+    def waits(self):
+        """What the network tells before a turn: what a row says, or what is so."""
+        for place, peer in enumerate(self.network.seats):
+            so = [bool(peer.sends) or peer.has_ended, peer.takes != 0, peer.has_ended] if peer else [False] * 3
+            self.reactor.note(place, *(so if self.told is None else self.told.get(place, [False] * 3)))
+        self.reactor.door = self.reactor.door or bool(self.network.waiting)
+        self.reactor.end = self.reactor.end or getattr(self, "is_ending", False)
+        self.told = None
+
+    def turn(self, _):
+        """A turn, with what was done in it."""
+        self.waits()
+        self.reactor.deeds, halted = [], None
+        try:
+            rest = self.reactor.turn(self.now)
+            how = "rests" if rest is None else f"rests {rest}"
+        except Halt as halt:
+            how = halted = f"halts {halt}"
+        self.found.append(" ".join(["turn", *self.reactor.deeds, how]))
+        return halted is None
+
+
+def schedule(line, server):
+    """The answer to a row."""
+    row = Schedule(server)
+    for field in line.split("\t"):
+        word, _, text = field.partition(":")
+        if getattr(row, word.replace("-", "_"))(text) is False:
+            break
+    return "".join(f"{field}\t" for field in row.found)

@@ -1,0 +1,206 @@
+#!/usr/bin/env python3
+"""Compares a reactor with the model in Python: schedules of peers and turns, of which some are worked and the others
+drawn, as the program xa_schedules answers them and as tests/model/reactors.py does.
+
+usage: tests/schedules.py PROGRAM [COUNT [SEED]]    so many drawn schedules, 10,000 if none is said
+       tests/schedules.py --write                   writes the worked ones and their answers, by the model, to where the
+                                                    CI gate runs the program on them
+"""
+import pathlib
+import random
+import subprocess
+import sys
+
+TESTS = pathlib.Path(__file__).resolve().parent
+sys.dont_write_bytecode = True
+sys.path[:0] = [str(TESTS / "model"), str(TESTS)]
+from counting import CountingServer  # noqa: E402
+from reactors import schedule  # noqa: E402
+from sent import OPERATOR, message  # noqa: E402
+
+ROWS = TESTS.parent / "crates" / "xa_schedules"
+COUNT, AT_ONCE = 10_000, 500
+LIST, LAST = message("GET", "/operator/domains", OPERATOR), message("GET", "/", OPERATOR).replace(b"1.1", b"1.0")
+FAULTS = (b":\r\n\r\n", b"POST / HTTP/1.1\r\nContent-Length: 9999999\r\n\r\n",
+          b"POST / HTTP/1.1\r\nTransfer-Encoding: x\r\n\r\n")
+
+
+def creates(name):
+    return message("PUT", f"/operator/domains/{name}", OPERATOR)
+
+
+# ---- worked schedules
+
+def mixed_rows():
+    """Two connections whose bytes come mixed, cut behind each byte."""
+    first, second = creates("acme"), LIST
+    for place in range(0, len(first) + 1):
+        yield ["arrive:2", "turn", f"comes:0:{first[:place].hex()}", f"comes:1:{second[:place].hex()}", "turn",
+               f"comes:1:{second[place:].hex()}", f"comes:0:{first[place:].hex()}", "turn", "turn", "got:0", "got:1"]
+
+
+def failing_rows():
+    """Every k-th read, write and arrival fails."""
+    for kind in ("read", "write", "accept"):
+        for every in range(1, 6):
+            yield [f"fails:{kind}:{every}", "arrive:4", *(f"comes:{peer}:{(LIST * 2).hex()}" for peer in range(4)),
+                   *["turn"] * 6, *(f"got:{peer}" for peer in range(4))]
+
+
+def late_rows():
+    """Each limit one millisecond before it has passed, and when it has; and a clock that stands."""
+    for held, limit in ((b"", 1_000), (LIST[:-1], 2_000)):
+        for now in (limit - 1, limit):
+            yield ["limits:1000:2000", "arrive:1", f"comes:0:{held.hex()}", "turn", f"time:{now}", "turn", "got:0"]
+    for takes, now in ((0, 9_999), (0, 10_000), (1, 119_999), (1, 120_000)):
+        yield ["arrive:1", f"comes:0:{LIST.hex()}", f"takes:0:{takes}", "turn", f"time:{now}", "turn", "turn", "got:0"]
+    yield ["arrive:1", f"comes:0:{LAST.hex()}", "turn", "time:1999", "turn", "time:2000", "turn"]
+    yield ["limits:1000:1000", "arrive:1", f"comes:0:{LIST[:9].hex()}", *["turn"] * 20]
+
+
+def crowded_rows():
+    """64 places: one more waits; the idlest goes for it once it has been idle for long enough, and none that owes
+    something."""
+    for now in (99, 100):
+        yield ["arrive:65", "turn", f"comes:0:{LIST[:5].hex()}", "turn", f"time:{now}", "turn", "turn"]
+    yield ["arrive:65", "turn", *(f"comes:{peer}:{LIST[:5].hex()}" for peer in range(64)), "turn", "time:5000", "turn"]
+    yield ["arrive:64", "turn", "time:500", "turn", "arrive:3", f"comes:64:{LIST.hex()}", "turn", "turn", "got:64"]
+
+
+def ending_rows():
+    """The program is told to end: with nobody there, with one that is quiet, and with a message under way."""
+    for held in (b"", LIST, LIST[:-1]):
+        yield ["arrive:1", f"comes:0:{held.hex()}", "turn", "turn", "end", "turn", "time:999", "turn",
+               f"comes:0:{LIST[-1:].hex()}", "turn", "time:1000", "turn", "turn", "got:0"]
+    yield ["no-clock", "arrive:1", f"comes:0:{LIST.hex()}", "turn"]
+
+
+def worked():
+    """All of them."""
+    for rows in (mixed_rows, failing_rows, late_rows, crowded_rows, ending_rows):
+        for row in rows():
+            yield "\t".join(row)
+
+
+# ---- drawn schedules
+
+def stream(chance):
+    """What a peer sends."""
+    kinds = (LIST, LIST, creates(chance.choice("abc")), message("GET", "/x", OPERATOR), LAST, chance.choice(FAULTS),
+             b"GE")
+    return b"".join(chance.choice(kinds) for _ in range(chance.randrange(0, 5)))
+
+
+def pieces(chance, held):
+    """The bytes in pieces, of which some are of one byte."""
+    found = []
+    while held:
+        size = chance.choice((1, 7, 50, len(held), len(held)))
+        found.append(held[:size])
+        held = held[size:]
+    return found
+
+
+class Drawn:
+    """A schedule that is drawn."""
+
+    def __init__(self, chance):
+        self.chance, self.count, self.now, self.left = chance, 0, 0, []
+        self.fields = [f"fails:{kind}:{chance.randrange(2, 30)}" for kind in ("read", "write", "accept")
+                       if chance.random() < 0.15]
+        if chance.random() < 0.3:
+            self.fields.insert(0, f"limits:{chance.choice((0, 500, 3000))}:{chance.choice((0, 400, 2000))}")
+
+    def arrive(self):
+        count = self.chance.choice((1, 2, 3, 60, 70)) if self.count < 130 else 1
+        self.fields.append(f"arrive:{count}")
+        self.left += [pieces(self.chance, stream(self.chance)) for _ in range(count)]
+        self.count += count
+
+    def peer(self):
+        """Something that a peer does."""
+        number = self.chance.randrange(self.count)
+        if self.left[number]:
+            self.fields.append(f"comes:{number}:{self.left[number].pop(0).hex()}")
+        else:
+            takes = self.chance.choice((0, 1, 40, 9_999))
+            self.fields.append(self.chance.choice((f"ends:{number}:", f"takes:{number}:{takes}")))
+
+    def ready(self):
+        """What the network tells at the next turn, whether it is so or not."""
+        for _ in range(self.chance.randrange(1, 6)):
+            letters = "".join(letter for letter in "rwe" if self.chance.random() < 0.5)
+            self.fields.append(f"ready:{self.chance.randrange(64)}:{letters}")
+
+    def step(self):
+        kind = self.chance.random()
+        if self.count == 0 or kind < 0.06:
+            self.arrive()
+        elif kind < 0.5:
+            self.peer()
+        elif kind < 0.55:
+            self.ready()
+        elif kind < 0.65:
+            self.now += self.chance.choice((1, 50, 100, 399, 1_000, 10_000))
+            self.fields.append(f"time:{self.now}")
+        elif kind < 0.655:
+            self.fields.append("end")
+        else:
+            self.fields.append("turn")
+
+    def row(self):
+        for _ in range(self.chance.randrange(5, 120)):
+            self.step()
+        shown = self.chance.sample(range(self.count), min(self.count, 4)) if self.count else []
+        return "\t".join([*self.fields, "turn", *(f"got:{number}" for number in shown)])
+
+
+def drawn(count, seed):
+    chance = random.Random(seed)
+    return [Drawn(chance).row() for _ in range(count)]
+
+
+def modelled(rows):
+    """What the model answers."""
+    return [schedule(row, CountingServer(OPERATOR.encode())) for row in rows]
+
+
+def answered(program, rows):
+    """What the program answers."""
+    lines = "".join(f"{row}\n" for row in rows)
+    ran = subprocess.run([program], input=lines, capture_output=True, text=True, check=True)
+    return ran.stdout.split("\n")[:-1]
+
+
+def write():
+    """The rows that the CI gate runs."""
+    rows = list(worked())
+    (ROWS / "stdin").write_text("".join(f"{row}\n" for row in rows), encoding="ascii")
+    (ROWS / "stdout").write_text("".join(f"{answer}\n" for answer in modelled(rows)), encoding="ascii")
+    return f"{len(rows)} schedules written"
+
+
+def compare(program, count, seed):
+    """The first schedules that are answered otherwise; the number of those that are."""
+    rows, differ = [*worked(), *drawn(count, seed)], 0
+    for at in range(0, len(rows), AT_ONCE):
+        part = rows[at:at + AT_ONCE]
+        for row, found, wanted in zip(part, answered(program, part), modelled(part), strict=True):
+            differ += found != wanted
+            if found != wanted and differ < 4:
+                print(f"DIFFERS\n  row    {row[:1500]}\n  found  {found[:1500]}\n  wanted {wanted[:1500]}")
+    print(f"tests/schedules.py: {len(rows) - differ} passed, {differ} failed")
+    return 1 if differ else 0
+
+
+def main():
+    if sys.argv[1:] == ["--write"]:
+        print(write())
+        return 0
+    program, *more = sys.argv[1:]
+    count, seed = [*map(int, more), *(COUNT, 1)[len(more):]]
+    return compare(program, count, seed)
+
+
+if __name__ == "__main__":
+    sys.exit(main())
