@@ -1,14 +1,18 @@
 #!/usr/bin/env python3
-"""How long a past decision takes to work out, over a generated year of changes: a table of ROWS rows is put again each
-minute. Each of MOMENTS random moments is asked from the last checkpoint before it, and all of them in one replay of the
-whole log; the two have to be the same, and none may take more than 20 s.
+"""How long a past decision takes to work out, over two generated archives: of a year in which a table of 20 rows is put
+again each minute, and of a day of tables of 3,500 rows, nearly as many as a body has room for.
 
-Usage: bench/audit.py [--entries N] [--rows ROWS] [--moments MOMENTS] [--folder FOLDER] [--at-once N] [--no-whole]
-                      [PDPD]
+Usage: bench/audit.py [--write] [--entries N] [--rows ROWS] [--moments MOMENTS] [--folder FOLDER] [--at-once N]
+                      [--no-whole] [PDPD]
 
-PDPD: the built program (build/pdpd, which `make pdpd` makes). FOLDER is where the archive is written, and left; else it
-is written into a temporary one. So many moments are asked at once (1). The whole log of a
-year takes long: --no-whole leaves it out, and a year of fewer --entries is compared.
+PDPD: the built program (build/pdpd, which `make pdpd` makes). Each of the random moments is asked from the last
+checkpoint before it, some of them by the command `pdpd-log decide`, and all of them in one replay of the whole log; the
+two have to be the same, and none may take more than 20 s. With --write the table is written into docs/PERFORMANCE.md
+too.
+
+With --entries, --rows or --moments one archive of that kind is asked, a table each minute. FOLDER is where the archives
+are written, and left, or where an earlier run has left them; else they are temporary. So many moments are asked at once
+(1). All is timed before the whole logs are replayed, which takes long: --no-whole leaves that out.
 """
 import argparse
 import concurrent.futures
@@ -16,9 +20,11 @@ import os
 import pathlib
 import random
 import resource
+import subprocess
 import sys
 import tempfile
 import time
+from typing import NamedTuple
 
 sys.dont_write_bytecode = True
 TOP = pathlib.Path(__file__).resolve().parent.parent
@@ -31,20 +37,31 @@ from log.history import ask, by_archive  # noqa: E402
 from log.messages import bytes_of_entry  # noqa: E402
 from log.past import Past  # noqa: E402
 from log.replaying import OPERATOR, replay  # noqa: E402
+from page import Machine, shown  # noqa: E402
 
-LONGEST = 20.0
-SEED = 11
-REQUEST = (generated.WARD / "request-alice.json").read_bytes()
+LONGEST, SEED, BY_COMMAND, MINUTES_OF_A_DAY = 20.0, 11, 20, 24 * 60
+REQUEST = generated.WARD / "request-alice.json"
+
+
+class Kind(NamedTuple):
+    """How many changes there are, a minute between two, how many rows the table has, and at how many moments the
+    archive is asked."""
+    entries: int = 365 * MINUTES_OF_A_DAY
+    rows: int = 20
+    moments: int = 1_000
+
+
+KINDS = Kind(), Kind(MINUTES_OF_A_DAY, 3_500, 200)
 
 
 def options():
     words = argparse.ArgumentParser(description=__doc__, formatter_class=argparse.RawDescriptionHelpFormatter)
-    words.add_argument("--entries", type=int, default=365 * 24 * 60)
-    words.add_argument("--rows", type=int, default=20)
-    words.add_argument("--moments", type=int, default=1_000)
+    for name in Kind._fields:
+        words.add_argument(f"--{name}", type=int)
     words.add_argument("--folder", type=pathlib.Path)
     words.add_argument("--at-once", type=int, default=1)
     words.add_argument("--no-whole", action="store_true")
+    words.add_argument("--write", action="store_true")
     words.add_argument("program", nargs="?", default=str(TOP / "build" / "pdpd"), metavar="PDPD")
     return words.parse_args()
 
@@ -55,7 +72,7 @@ def transcript(past, moments, wanted):
     for change in past.scanned(0):
         while left and left[0] < change.ended():
             wanted.append(place)
-            yield int(left[0]), ask(past.domain, generated.OWNER + past.domain, REQUEST)
+            yield int(left[0]), ask(past.domain, generated.OWNER + past.domain, REQUEST.read_bytes())
             left.pop(0)
             place += 1
         yield int(change.began()), bytes_of_entry(change.entry.head, change.body(), OPERATOR)
@@ -77,53 +94,99 @@ def processor():
     return sum(sum(resource.getrusage(whose)[:2]) for whose in (resource.RUSAGE_SELF, resource.RUSAGE_CHILDREN))
 
 
-def from_checkpoints(past, moments, at_once):
-    """The answers at each moment, and how long each took, in order."""
-    def asked(moment):
+class Asked:
+    """An archive, and what was found when it was asked at random moments."""
+
+    def __init__(self, kind, folder, at_once):
+        self.kind, self.folder, self.at_once = kind, folder, at_once
+        (segments,) = by_archive([folder])
+        self.past = Past(segments, "acme")
+        self.size = sum(segment.path.stat().st_size for segment in segments_in([folder]))
+        places, chance = self.past.places, random.Random(SEED)
+        first, last = places[5].ended / 1e6, places[len(places) - 1].ended / 1e6 - 1
+        self.moments = [chance.uniform(first, last) for _ in range(kind.moments)]
+        self.same = None
+
+    def ask(self):
+        """Asks at each moment from a checkpoint, and some by the command."""
+        request = REQUEST.read_bytes()
+
+        def asked(moment):
+            began = time.perf_counter()
+            found = audit.decide(self.past, moment, request)
+            return time.perf_counter() - began, found[0][1].body()
+        before = processor()
+        with concurrent.futures.ThreadPoolExecutor(self.at_once) as pool:
+            found = list(pool.map(asked, self.moments))
+        self.processor = (processor() - before) / len(found)
+        self.times = sorted(took for took, _ in found)
+        self.answers = {moment: answer for moment, (_, answer) in zip(self.moments, found)}
+        self.by_command = max(map(self.take_by_command, self.moments[:BY_COMMAND]))
+
+    def take_by_command(self, moment):
+        """How long the command takes for a moment; it has to answer as it was answered here."""
         began = time.perf_counter()
-        found = audit.decide(past, moment, REQUEST)
-        return time.perf_counter() - began, [reply.body() for _, reply in found]
-    before = processor()
-    with concurrent.futures.ThreadPoolExecutor(at_once) as pool:
-        found = list(pool.map(asked, moments))
-    times = sorted(took for took, _ in found)
-    print(f"from a checkpoint, {len(times)} moments: median {times[len(times) // 2]:.2f} s, longest {times[-1]:.2f} s, "
-          f"{sum(took > LONGEST for took in times)} longer than {LONGEST:.0f} s; processor time "
-          f"{(processor() - before) / len(times):.2f} s each", flush=True)
-    return times, {moment: answers for moment, (_, answers) in zip(moments, found)}
+        ran = subprocess.run([TOP / "deploy" / "pdpd-log", "decide", "--archive", self.folder, "--domain", "acme",
+                              "--at", str(moment), REQUEST], capture_output=True, check=True)
+        # (there are two answers where a change was under way)
+        if not ran.stdout.startswith(self.answers[moment] + b"\n"):
+            sys.exit(f"bench/audit.py: `pdpd-log decide --at {moment}` answers {ran.stdout}")
+        return time.perf_counter() - began
+
+    def compare(self):
+        """Counts the answers that are those of the whole log."""
+        began = time.perf_counter()
+        whole = by_the_whole_log(self.past, self.moments)
+        self.same = sum(self.answers[moment] == whole[moment] for moment in self.moments)
+        print(f"by the whole log of {len(self.past.places):,} changes: {time.perf_counter() - began:.0f} s, "
+              f"{len(set(whole.values()))} different answers, {self.same} of {len(whole)} the same", flush=True)
+
+    def fails(self):
+        return max(*self.times, self.by_command) > LONGEST or self.same not in (None, len(self.moments))
+
+    def line(self):
+        middle, longest = self.times[len(self.times) // 2], self.times[-1]
+        same = "" if self.same is None else f"{self.same:,} of {len(self.moments):,}"
+        return (f"{self.kind.rows:>6,}{len(self.past.places):>10,}{self.size / 1e6:>8,.0f}{middle:>9.2f}"
+                f"{longest:>9.2f}{self.processor:>11.2f}{self.by_command:>12.2f}   {same}".rstrip())
 
 
-def compared(past, moments, answers):
-    """Whether each answer is that of the whole log."""
-    began = time.perf_counter()
-    whole = by_the_whole_log(past, moments)
-    print(f"by the whole log: {time.perf_counter() - began:.0f} s for one replay", flush=True)
-    same = sum(answers[moment] == [whole[moment]] for moment in moments)
-    print(f"{same} of {len(moments)} the same, {len(set(whole.values()))} different answers")
-    return same == len(moments)
+def written(kind, folder):
+    """The folder in which there is an archive of that kind."""
+    found = folder / f"{kind.entries}-of-{kind.rows}"
+    if not found.exists():
+        began = time.perf_counter()
+        generated.write_year(found, kind.entries, kind.rows, seconds=60 * kind.entries)
+        print(f"written in {time.perf_counter() - began:.0f} s", flush=True)
+    return found
+
+
+def table(asked, told):
+    """Prints what was found."""
+    print("  rows   changes      MB   half, s   all, s  processor  by command   as by the whole log")
+    for one in asked:
+        print(one.line())
+    print(told)
+    return int(any(one.fails() for one in asked))
 
 
 def main():
     given = options()
     os.environ["PDPD"] = os.path.abspath(given.program)
+    own = {name: getattr(given, name) for name in Kind._fields if getattr(given, name) is not None}
+    # nothing is measured of the disk here
+    os.fdatasync = lambda file: None
     with tempfile.TemporaryDirectory() as made:
-        folder = given.folder or pathlib.Path(made) / "log"
-        began = time.perf_counter()
-        if not folder.exists():
-            # nothing is measured of the disk here
-            os.fdatasync = lambda file: None
-            generated.write_year(folder, given.entries, given.rows)
-        (segments,) = by_archive([folder])
-        past = Past(segments, "acme")
-        size = sum(segment.path.stat().st_size for segment in segments_in([folder]))
-        print(f"{len(past.places):,} changes, {size / 1e6:,.0f} MB, written in {time.perf_counter() - began:.0f} s",
-              flush=True)
-        first, last = past.places[5].ended / 1e6, past.places[len(past.places) - 1].ended / 1e6 - 1
-        chance = random.Random(SEED)
-        moments = [chance.uniform(first, last) for _ in range(given.moments)]
-        times, answers = from_checkpoints(past, moments, given.at_once)
-        is_same = given.no_whole or compared(past, moments, answers)
-        return int(not is_same or times[-1] > LONGEST)
+        folder = given.folder or pathlib.Path(made)
+        asked = [Asked(kind, written(kind, folder), given.at_once) for kind in ((Kind(**own),) if own else KINDS)]
+        machine = Machine()
+        for one in asked:
+            one.ask()
+            print(f"from checkpoints: {one.line()}", flush=True)
+        told = machine.told()
+        for one in () if given.no_whole else asked:
+            one.compare()
+        return shown("audit.py", lambda: table(asked, told))
 
 
 if __name__ == "__main__":

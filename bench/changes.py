@@ -2,8 +2,9 @@
 """What a change takes through HAProxy with AUDIT=0 and AUDIT=1, and a decision with DECISIONS=0 and 1: as one client
 sees it, one after another; how many a second eight clients get; and the processor time of each program for one.
 
-Usage: bench/changes.py [--count N] [PDPD]     PDPD: the built program (build/pdpd, which `make pdpd` makes)
-                                               N: how many of each
+Usage: bench/changes.py [--count N] [--write] [PDPD]     PDPD: the built program (build/pdpd, which `make pdpd` makes)
+                                                         N: how many of each
+                                                         --write: the table is written into docs/PERFORMANCE.md too
 """
 import argparse
 import os
@@ -16,12 +17,15 @@ import time
 
 sys.dont_write_bytecode = True
 TOP = pathlib.Path(__file__).resolve().parent.parent
+sys.path[:0] = [str(TOP / "tests"), str(TOP / "deploy")]
+from page import Machine, shown  # noqa: E402
+
 words = argparse.ArgumentParser(description=__doc__, formatter_class=argparse.RawDescriptionHelpFormatter)
-words.add_argument("--count", type=int, default=200)
+words.add_argument("--count", type=int, default=400)
+words.add_argument("--write", action="store_true")
 words.add_argument("program", nargs="?", default=str(TOP / "build" / "pdpd"), metavar="PDPD")
 given = words.parse_args()
 sys.argv[1:] = [os.path.abspath(given.program)]
-sys.path[:0] = [str(TOP / "tests"), str(TOP / "deploy")]
 
 from audit_parts.proxied import ADMIN, ASKS, Proxied, make  # noqa: E402
 from audit_parts.shared import folder, memory, status_of  # noqa: E402
@@ -76,9 +80,10 @@ def measured(name, kind, **settings):
     print(f"{name:38}{middle:9.1f}{most:9.1f}{rate:10.0f}" + "".join(f"{one:9.2f}" for one in spent), flush=True)
 
 
-def main():
-    print(f"load of the machine before: {os.getloadavg()[0]:.1f}, on {os.cpu_count()} cores")
-    print(f"{'':38}{'p50, ms':>9}{'p90, ms':>9}{'8 clients':>10}  processor time, ms: HAProxy, daemon, pdpd, log")
+def table():
+    machine = Machine()
+    print(f"{'':57}{'a second,':>9}   processor time, ms")
+    print(f"{'':38}{'p50, ms':>9}{'p90, ms':>9}{'8 clients':>10}{'HAProxy':>9}{'daemon':>9}{'pdpd':>9}{'lines':>9}")
     try:
         measured("a change, AUDIT=0", "change", AUDIT=0, DECISIONS=0)
         measured("a change, AUDIT=1", "change", DECISIONS=0)
@@ -88,8 +93,8 @@ def main():
     finally:
         for one in (folder, memory):
             rmtree(one, ignore_errors=True)
-    print(f"load of the machine behind: {os.getloadavg()[0]:.1f}")
+    print(machine.told())
 
 
 if __name__ == "__main__":
-    main()
+    sys.exit(shown("changes.py", table))

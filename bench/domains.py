@@ -30,6 +30,9 @@ TOKEN = "domain-token-1"
 RUNS = 9
 # how many messages of a kind are sent each time
 COUNT = 2_000
+# how many of a kind that changes something, since the disk is waited for at each
+CHANGES = dict.fromkeys(("an upload, and its deletion", "an activation, and a withdrawal", "a root, and another",
+                         "a token, and its end"), 400)
 # how often the operator lists all domains each time
 LISTINGS = 30
 # a message with 10,000 domains may take MOST times what it takes with one, and MORE microseconds more
@@ -92,7 +95,7 @@ def measure(folder, numbers):
     token.write_text(f"{OPERATOR}\n")
     write(path, rows(numbers))
     with Served(PROGRAM, path, str(token)) as served:
-        took = {kind: each(served, messages, COUNT) for kind, messages in kinds("d5000").items()}
+        took = {kind: each(served, messages, CHANGES.get(kind, COUNT)) for kind, messages in kinds("d5000").items()}
         return took, each(served, [message("GET", "/operator/domains", OPERATOR)], LISTINGS)
 
 

@@ -7,9 +7,9 @@ usage: bench/guards.py [--write] [PROGRAM]   the program, or that which is prove
 
 It takes nginx, libnginx-mod-http-js, haproxy and wrk. The protected server is nginx, which replies `return 200`. Five
 rounds ask each kind in turn for two seconds, and the median of the rounds is told. Each check is one decision by a
-policy of one rule, over kept connections to a HAProxy that leads to one pdpd, as deploy/ has it; every request is
-permitted, which is looked at. Clients, proxies and servers share the processors with whatever else runs: the load of
-the machine is told.
+policy of one rule, over kept connections to a HAProxy that leads to one `pdpd listen`, by kept connections too; every
+request is permitted, which is looked at. Clients, proxies and servers share the processors with whatever else runs: the
+load of the machine is told.
 """
 import contextlib
 import os
@@ -25,15 +25,15 @@ sys.dont_write_bytecode = True
 TOP = pathlib.Path(__file__).resolve().parent.parent
 sys.path[:0] = [str(TOP / "bench"), str(TOP / "tests")]
 import checks  # noqa: E402
-from page import shown, words  # noqa: E402
+from page import Machine, shown, words  # noqa: E402
 
 PROGRAM = os.path.abspath(words()[0]) if words() else checks.program_named([])
-sys.argv[1:] = [PROGRAM, *(word for word in sys.argv[1:] if word == "--write")]
+sys.argv[1:] = [PROGRAM, "--listen", *(word for word in sys.argv[1:] if word == "--write")]
 
 from client_parts import guarded, servers, shared  # noqa: E402
 from serving import free_port  # noqa: E402
 
-ROUNDS, SECONDS, CLIENTS, KEPT = 5, 2, (1, 64), 32
+ROUNDS, SECONDS, CLIENTS, KEPT = 5, 2, (1, 64), 64
 ORIGIN = """daemon off; worker_processes 1; pid {made}/origin.pid; error_log {made}/origin.log; {user}
 events {{ worker_connections 1024; }}
 http {{ access_log off; client_body_temp_path {made}/6; proxy_temp_path {made}/7; fastcgi_temp_path {made}/8;
@@ -41,8 +41,10 @@ http {{ access_log off; client_body_temp_path {made}/6; proxy_temp_path {made}/7
     server {{ listen 127.0.0.1:{origin}; location / {{ return 200 'there'; }} }}
     server {{ listen 127.0.0.1:{plain}; location / {{ proxy_pass http://127.0.0.1:{origin}; }} }} }}
 """
-# before the program as deploy/ has it, and before the protected server without a check
+# before the program, of whose 64 places some are left, and before the protected server without a check
 HAPROXY = """
+global
+    nbthread 2
 defaults
     mode http
     timeout client 30s
@@ -54,7 +56,7 @@ frontend front
     default_backend shard
 backend shard
     http-reuse always
-    server pdpd 127.0.0.1:{pdpd} maxconn 1
+    server pdpd 127.0.0.1:{pdpd} maxconn 60
 frontend plain
     bind 127.0.0.1:{plain}
     default_backend origin
@@ -125,7 +127,7 @@ def answers(port):
 
 def table():
     """Asks all kinds in turn, and prints the medians."""
-    print(f"load of the machine before: {os.getloadavg()[0]:.1f}, on {os.cpu_count()} cores")
+    machine = Machine()
     with tempfile.TemporaryDirectory() as made, shared.Acme(idle=30) as acme:
         acme.decides_by(guarded.reads("ann"))
         with kinds(pathlib.Path(made), acme) as ports:
@@ -143,7 +145,7 @@ def table():
                 print(f"{SHOWN[name] + ', ' + what:28}{clients:>8}{rate:>12,.0f}{p50:>10.2f}{p99:>10.2f}")
             print(f"{'  what the check adds':28}{clients:>8}{'':>12}{rows[1][1] - rows[0][1]:>10.2f}"
                   f"{rows[1][2] - rows[0][2]:>10.2f}")
-    print(f"load of the machine behind: {os.getloadavg()[0]:.1f}")
+    print(machine.told())
     return 0
 
 

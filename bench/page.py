@@ -9,6 +9,7 @@ A benchmark in Python prints its table within `shown`.
 """
 import contextlib
 import io
+import os
 import pathlib
 import re
 import sys
@@ -55,6 +56,26 @@ def write(tables):
     for name, lines in tables.items():
         text = with_table(text, name, told, lines)
     PAGE.write_text(text, encoding="utf-8")
+
+
+class Machine:
+    """What else took the machine's processors while something was measured."""
+
+    def __init__(self):
+        self.before, self.ticks = os.getloadavg()[0], self.taken()
+
+    @staticmethod
+    def taken():
+        """The ticks of its processors that the host of a virtual machine has taken, and all of them (proc(5))."""
+        with open("/proc/stat", encoding="ascii") as lines:
+            ticks = [int(word) for word in lines.readline().split()[1:9]]
+        return ticks[7], sum(ticks)
+
+    def told(self):
+        """The load of the machine before and now, and what the host took meanwhile."""
+        stolen, every = (now - then for now, then in zip(self.taken(), self.ticks))
+        return (f"{os.cpu_count()} processors, a load of {self.before:.1f} before and {os.getloadavg()[0]:.1f} behind; "
+                f"the host took {100 * stolen / max(1, every):.0f} % of them")
 
 
 class Copy(io.StringIO):

@@ -108,8 +108,8 @@ class Round:
             sys.exit(f"no request was answered in {SECONDS} s: the machine is too busy, or the program too slow")
 
 
-def calls_of(pid, load):
-    """The system calls of one request."""
+def counted_calls(pid, load):
+    """How many of each system call there are for one request."""
     with tempfile.NamedTemporaryFile("r") as said:
         tracer = subprocess.Popen(["strace", "-c", "-U", "calls,name", "-o", said.name, "-p", str(pid)],
                                   stderr=subprocess.DEVNULL)
@@ -117,17 +117,21 @@ def calls_of(pid, load):
         count = load()
         tracer.send_signal(signal.SIGINT)
         tracer.wait()
-        counts = {name: int(calls)
-                  for calls, name in re.findall(r"(?m)^ *(\d+) (\w+)$", said.read()) if name != "total"}
-    return ", ".join(f"{calls / count:.1f} {name}"
-                     for name, calls in sorted(counts.items(), key=lambda it: -it[1]) if calls * 20 >= count)
+        return {name: int(calls) / count
+                for calls, name in re.findall(r"(?m)^ *(\d+) (\w+)$", said.read()) if name != "total"}
+
+
+def in_words(calls):
+    """The system calls that a request has in one of twenty times at least."""
+    return ", ".join(f"{each:.1f} {name}" for name, each in sorted(calls.items(), key=lambda it: -it[1])
+                     if each >= 0.05)
 
 
 def print_best(name, rounds, calls=""):
     """Prints the best of the rounds, and the system calls of a request."""
     best = max(rounds, key=lambda it: it.count / it.spent)
     processor = min(it.processor / it.count for it in rounds)
-    print(f"{name:44}{best.count / best.spent:12,.0f}{processor * 1e6:14.1f}   {calls}", flush=True)
+    print(f"{name:44}{best.count / best.spent:12,.0f}{processor * 1e6:14.1f}   {calls}".rstrip(), flush=True)
 
 
 # ---- the loads
@@ -204,12 +208,11 @@ def on_one_core():
     os.sched_setaffinity(0, {CORES[-1]})
 
 
-def nginx(port, folder):
-    """nginx with one process in the foreground; its reply is as long as that of the ask of ten rules."""
-    text = PERMIT.partition(b"\r\n\r\n")[2].decode()
+def nginx(port, folder, text=PERMIT.partition(b"\r\n\r\n")[2].decode()):
+    """nginx with one process in the foreground; the body of its reply is that of the ask of ten rules, or this text."""
     (pathlib.Path(folder) / "reply").write_text(text)
     (pathlib.Path(folder) / "nginx.conf").write_text(f"""daemon off; master_process off; pid {folder}/pid; error_log {folder}/error.log;
-events {{ worker_connections 64; }}
+events {{ worker_connections 1024; }}
 http {{ access_log off; sendfile on; keepalive_requests 1000000000; default_type application/xacml+json;
   client_body_temp_path {folder}/b; proxy_temp_path {folder}/p; fastcgi_temp_path {folder}/f; uwsgi_temp_path {folder}/u; scgi_temp_path {folder}/s;
   server {{ listen 127.0.0.1:{port}; root {folder}; location = /reply {{ }} location / {{ return 200 '{text}'; }} }} }}
@@ -252,7 +255,7 @@ def measure(kinds):
         for name, pid, load in kinds:
             rounds[name].append(Round(pid, load))
     for name, pid, load in kinds:
-        print_best(name, rounds[name], calls_of(pid, load) if shutil.which("strace") else "")
+        print_best(name, rounds[name], in_words(counted_calls(pid, load)) if shutil.which("strace") else "")
 
 
 def start_server(start, folder):

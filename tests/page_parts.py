@@ -64,7 +64,7 @@ def first_sentence(path):
     if path.suffix == ".py":
         comment = ast.get_docstring(ast.parse(text)) or ""
     else:
-        mark = "--" if path.suffix == ".antt" else "#"
+        mark = {".antt": "--", ".c": "//"}.get(path.suffix, "#")
         comment = re.match(rf"(?:#!.*\n)?((?:{mark}.*\n)*)", text)[1]
         comment = "\n".join(line.removeprefix(mark) for line in comment.splitlines())
     paragraph = " ".join(comment.split("\n\n")[0].split())
