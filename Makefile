@@ -7,7 +7,7 @@ SHELL := bash
 NAME ?= $(word 2,$(MAKECMDGOALS))
 crate = $(or $(NAME),$(error make $@ NAME: the name of a crate is missing, one of $(notdir $(wildcard crates/*))))
 
-.PHONY: help run serve test prove pdpd try check api memory edits fmt rows pages agreement author-test policy-file bench dist deb install deploy-test
+.PHONY: help run serve test prove pdpd try check api memory edits fmt rows pages agreement author-test policy-file bench dist deb install deploy-test replicas
 
 help:
 	@awk -F ':.*## ' '/^[a-z-]+:.*## / { printf "  make %-12s %s\n", $$1 ($$1 ~ /^(try|check|edits)$$/ ? " NAME" : ""), $$2 }' Makefile
@@ -83,3 +83,6 @@ install: ## as `make dist`, and installs it under PREFIX (/usr/local)
 
 deploy-test: ## tries that kit with HAProxy, runit, systemd, podman and the proved program, or PROGRAM=PATH (docs/guide/OPERATING.md); takes the rights of root
 	@tests/deploy.py $(PROGRAM)
+
+replicas: pdpd ## tries several machines' log, its models by spin and its daemons over etcd (docs/guide/REPLICAS.md)
+	tests/replicas.py

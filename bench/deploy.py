@@ -59,7 +59,7 @@ def nginx(folder):
 events {{ worker_connections 512; }}
 http {{ access_log off; default_type application/xacml+json; client_body_temp_path {folder}/b; proxy_temp_path {folder}/p;
   fastcgi_temp_path {folder}/f; uwsgi_temp_path {folder}/u; scgi_temp_path {folder}/s;
-  server {{ listen 127.0.0.1:{machine.port(0)}; location / {{ return 200 '{REPLY}'; }} }} }}
+  server {{ listen unix:{machine.place(0)}; location / {{ return 200 '{REPLY}'; }} }} }}
 """)
     return subprocess.Popen(["nginx", "-c", f"{folder}/nginx.conf", "-p", str(folder)], stdout=subprocess.DEVNULL,
                             stderr=subprocess.DEVNULL)
@@ -82,11 +82,9 @@ def measure(made):
             print_line(what, many, clients.wrk(script, many, SECONDS))
     print_line("4 shards, over TLS", 100, clients.wrk(script, 100, SECONDS, "https://localhost"))
     script = domains_over(made, 1)
-    for name, value, usual in (("KEEP", 1, 0), ("MAXCONN", 4, 1), ("RETRY", 1, 0)):
-        made.set(**{name: value})
-        print_line(f"1 shard, {name}={value}", 100, clients.wrk(script, 100, SECONDS))
-        made.set(**{name: usual})
-    print_line("pdpd alone, no proxy", 1, clients.wrk(script, 1, SECONDS, f"http://127.0.0.1:{machine.port(0)}"))
+    for value in (1, 4, 8):
+        made.set(MAXCONN=value)
+        print_line(f"1 shard, MAXCONN={value}", 100, clients.wrk(script, 100, SECONDS))
     machine.sh("sv down /etc/service/pdpd-0 && sleep 1")
     server = nginx(made.folder)
     time.sleep(1)

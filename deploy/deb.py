@@ -47,6 +47,12 @@ MANUALS = {
 .br
 /var/log/pdpd\\-decisions: the lines of decisions.
 """),
+    "pdpd-replicas": ("several machines that hold the same, over etcd", """\
+.SH FILES
+/etc/pdpd/etcd: the certificates by which etcd is spoken to.
+.br
+/etc/default/etcd: the settings of this machine's member.
+"""),
 }
 COMMANDS = tuple(MANUALS)
 

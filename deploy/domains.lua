@@ -2,7 +2,8 @@
 local shards = tonumber(os.getenv("PDPD_SHARDS"))
 local connections = os.getenv("PDPD_MAXCONN")
 local inner = "unix@" .. os.getenv("PDPD_RUN") .. "/inner.sock"
-local map = Map.new(os.getenv("PDPD_MAP"), Map._str)
+local file_of_map = os.getenv("PDPD_MAP")
+local map = Map.new(file_of_map, Map._str)
 
 local function seconds()
     local now = core.now()
@@ -53,6 +54,61 @@ core.register_action("pdpd_wait", { "http-req" }, function(txn)
     if not is_let_go(txn:get_var("txn.domain"), txn.c) then txn:set_var("txn.held", true) end
 end)
 
+-- ---- away
+--
+-- A connection to a Unix socket that isn't there fails at once, and HAProxy tries it again without a pause. So while a
+-- socket is away AWAY is in the map, and a message waits here for its shard's, before it is looked up where it goes,
+-- for three seconds, as HAProxy tries a port. One that came before, or was in the queue, is led once more (`again`).
+
+local sockets = os.getenv("PDPD_SOCKETS")
+local was_away = false
+
+-- To rename a file to itself does nothing; of none the system says 2 (ENOENT). (The shards' user may put a pipe there,
+-- which must not be opened.)
+local function is_there(shard)
+    local place = sockets .. "/" .. shard .. "/socket"
+    local _, _, number = os.rename(place, place)
+    return number ~= 2
+end
+
+local function is_any_away()
+    for shard = 0, shards - 1 do
+        if not is_there(shard) then return true end
+    end
+    return false
+end
+
+local function look_for_sockets()
+    local is_away = sockets ~= nil and is_any_away()
+    if is_away == was_away then return end
+    was_away = is_away
+    if is_away then
+        core.set_map(file_of_map, "AWAY", "1")
+    else
+        core.del_map(file_of_map, "AWAY")
+    end
+end
+
+local function wait_for_socket(txn)
+    local ends = seconds() + 3
+    while seconds() < ends do
+        local domain = txn:get_var("txn.domain")
+        local shard = txn:get_var("txn.shard") or (domain and place_of(domain, txn.c)) or "0"
+        -- (what a tool holds waits for that next)
+        if shard == "moving" or is_there(shard) or is_held(domain, txn.c) then return end
+        core.msleep(10)
+    end
+    txn:set_var("txn.held", true)
+end
+
+core.register_action("pdpd_there", { "http-req" }, wait_for_socket)
+
+core.register_action("pdpd_again", { "http-req" }, function(txn)
+    -- (a program that was killed leaves its socket there for a moment)
+    core.msleep(100)
+    wait_for_socket(txn)
+end)
+
 -- ---- queues
 --
 -- Where a client goes while its message is tried again at a shard that is away, HAProxy 2.6 leaves the
@@ -63,6 +119,7 @@ core.register_task(function()
     while true do
         core.msleep(100)
         is_anything_held()
+        look_for_sockets()
         for shard = 0, shards - 1 do
             core.backends["shard" .. shard].servers["pdpd"]:set_maxconn(connections)
         end

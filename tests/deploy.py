@@ -11,11 +11,11 @@ status 2. The part `clients` fails where one of nginx, libnginx-mod-http-js, myp
 python3-pip and default-jdk-headless is missing. It gives the commands of docs/guide/OPERATING.md, of the sections that
 its end names. What is expected is worked out from the pages and RFC 9110 and 9112, and never by the program.
 
-Some parts have a machine of their own: `systemd` and `deb` a Debian that systemd has booted, and `containers` what
-podman runs, all at the same time. They take Debian's packages systemd-container, debootstrap, podman, crun, catatonit,
-netavark, iptables and python3-yaml, and a Debian that is made of packages from the network, once, and kept in
-~/.cache/pdpd-deploy-test (or below XDG_CACHE_HOME). Where a machine can't run one, the part is skipped, and it is told
-why.
+Some parts have machines of their own: `systemd` and `deb` a Debian that systemd has booted, `containers` what podman
+runs, and `replicas` three machines that hold the same (etcd-server), all at the same time. The first ones take
+Debian's packages systemd-container, debootstrap, podman, crun, catatonit, netavark, iptables and python3-yaml, and a
+Debian that is made of packages from the network, once, and kept in ~/.cache/pdpd-deploy-test (or below
+XDG_CACHE_HOME). Where a machine can't run one, the part is skipped, and it is told why.
 """
 import os
 import pathlib
@@ -33,31 +33,34 @@ sys.path.insert(0, str(TOP / "tests"))
 from checks import Checks  # noqa: E402
 from deployed import (  # noqa: E402
     attacks_front, attacks_local, attacks_logs, attacks_most, attacks_pdpd, attacks_proxy, audit, backups, booting,
-    changes, clients, containers, deb, enforcement, failures, machine, metrics, mistakes, observed, removal, replies,
-    slowness, states, systemd, units)
+    changes, clients, containers, crossing, dear, deb, enforcement, failures, machine, metrics, misplaced, mistakes,
+    observed, removal, replicas, replies, slowness, states, surroundings, systemd, units)
 
 PARTS = (
     units.walk, units.decision, units.configurations, units.installed, units.calls,
     replies.examples, replies.desk, replies.odd, replies.paths, replies.listing,
     slowness.slow, slowness.slow_readers, slowness.rates,
-    failures.restarts, failures.kills, failures.stuck, failures.watched, failures.unkilled,
-    failures.behind_several, failures.unstarted, failures.holding, failures.unbalanced,
+    failures.restarts, failures.kills, failures.queued, failures.stuck, failures.watched, failures.unkilled,
+    dear.in_order, dear.behind_several, failures.unstarted, failures.holding, failures.unbalanced,
     backups.backups, backups.checkpoints, backups.emptied, backups.anew,
-    changes.moves, changes.crossed, changes.killed, changes.keeping, enforcement.clients,
-    *states.STATES, *mistakes.MISTAKES, *observed.OBSERVED,
-    *attacks_front.ATTACKS, *attacks_local.ATTACKS, *attacks_pdpd.ATTACKS, *attacks_proxy.ATTACKS,
+    changes.moves, changes.crossed, changes.killed, changes.live, changes.keeping, changes.older, enforcement.clients,
+    *states.STATES, *mistakes.MISTAKES, *surroundings.SURROUNDINGS, *misplaced.MISPLACED,
+    *observed.OBSERVED,
+    *attacks_front.ATTACKS, *crossing.ATTACKS, *attacks_local.ATTACKS, *attacks_pdpd.ATTACKS, *attacks_proxy.ATTACKS,
     *attacks_logs.ATTACKS, *attacks_most.ATTACKS,
     units.certificate, units.want_of_memory, units.upgrade, changes.growth, changes.miscounted, units.status,
-    audit.audit, *attacks_logs.AUDITED, audit.killed_logged, metrics.metrics, units.secrets, removal.removal)
+    audit.audit, audit.restarted_logged, *attacks_logs.AUDITED, audit.killed_logged, metrics.metrics, units.secrets,
+    removal.removal)
 # those that have a machine of their own each, with the commands that they want and Debian's packages of these
-ALONE = {systemd.systemd: booting.WANTED, deb.deb: booting.WANTED, containers.containers: containers.WANTED}
+ALONE = {systemd.systemd: booting.WANTED, deb.deb: booting.WANTED, containers.containers: containers.WANTED,
+         replicas.replicas: replicas.WANTED}
 # words that name several of them
 GROUPS = {"states": states.STATES, "attacks_front": attacks_front.ATTACKS,
           "attacks_local": attacks_local.ATTACKS, "attacks_logs": (*attacks_logs.ATTACKS, *attacks_logs.AUDITED),
           "attacks_most": attacks_most.ATTACKS,
           "attacks_pdpd": attacks_pdpd.ATTACKS, "attacks_proxy": attacks_proxy.ATTACKS,
-          "attacks": (*attacks_front.ATTACKS, *attacks_local.ATTACKS, *attacks_pdpd.ATTACKS, *attacks_proxy.ATTACKS,
-                      *attacks_logs.ATTACKS, *attacks_most.ATTACKS, *attacks_logs.AUDITED)}
+          "attacks": (*attacks_front.ATTACKS, *crossing.ATTACKS, *attacks_local.ATTACKS, *attacks_pdpd.ATTACKS,
+                      *attacks_proxy.ATTACKS, *attacks_logs.ATTACKS, *attacks_most.ATTACKS, *attacks_logs.AUDITED)}
 
 
 # of so many names is told what became of them, and so many lines of each log are kept
@@ -165,15 +168,18 @@ def run_all(program, names):
     alone = [part.__name__ for part in ALONE if not names or part.__name__ in names]
     others = [name for name in names if name not in alone]
     has_others = bool(others) or not names
+    # (this one wants no other Debian)
+    three = [part for part in alone if part == replicas.replicas.__name__]
+    alone = [part for part in alone if part not in three]
     if os.geteuid() == 0:  # (without its rights nothing can be found out)
         alone = runnable(alone, booting.refuse_without_cgroups)
-    wanted = [commands for part, commands in ALONE.items() if part.__name__ in alone]
+    wanted = [commands for part, commands in ALONE.items() if part.__name__ in (*alone, *three)]
     if lacks := list(machine.missing(program, [*([machine.WANTED] if has_others else []), *wanted])):
         print("\n".join(f"tests/deploy.py: missing: {what}" for what in lacks))
         return 2
     words = [os.path.abspath(__file__), *([program] if program else [])]
     statuses = [machine.enter([*words, *others])] if has_others else []
-    alone = runnable(alone, booting.make_roots)
+    alone = [*runnable(alone, booting.make_roots), *three]
     return max([*statuses, *(run_at_once(words, alone) if alone[1:] else run_one(words, alone))], default=0)
 
 

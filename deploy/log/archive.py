@@ -109,8 +109,8 @@ def sync_all(file: int) -> None:
 
 
 class Archive:
-    """An archive that is written. `position` is the last entry that has its reply; `pending` is the one behind it that
-    has none yet."""
+    """An archive that is written. `position` is the last entry that has its reply, `last` its record, and `was_again`
+    whether it may have been sent twice; `pending` is the one behind it that has none yet."""
 
     def __init__(self, folder: pathlib.Path, clock: Callable[[], float] = time.time, most_bytes: int = MOST_BYTES):
         self.folder, self.clock, self.most_bytes = folder, clock, most_bytes
@@ -122,6 +122,7 @@ class Archive:
             os.close(self.lock)
             raise Damaged(f"{folder}: another pdpd-replica writes into it: end that one") from None
         self.position, self.pending, self.at, self.file, self.first = 0, None, 0.0, -1, 1
+        self.last, self.was_again = None, False
         self.month, self.name, self.size = "", os.urandom(16).hex(), 0
         self.prev = first_prev(self.name)
         try:
@@ -154,7 +155,8 @@ class Archive:
         if record.head["kind"] == "entry":
             self.pending = record
         else:
-            self.position, self.pending = record.head["n"], None
+            self.position, self.was_again = record.head["n"], record.head["again"]
+            self.last, self.pending = self.pending, None
 
     def now(self) -> float:
         """The moment of a record: the clock's, or the last record's if the clock was set back."""

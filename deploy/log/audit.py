@@ -102,6 +102,8 @@ def who_of(change: Change) -> str:
 def reply_shown(change: Change) -> str:
     if not change.reply:
         return "no reply yet"
+    if change.is_skipped():
+        return "skipped"
     found = re.search(rb'\{"Error":"(\w+)"\}$', change.reply.body)
     return f"{change.status()}{f' {found[1].decode()}' if found else ''}{' (sent again)' if change.is_again() else ''}"
 
@@ -139,7 +141,7 @@ def decide_by_all(past: Past, at: float, request: bytes) -> list[tuple[int, Repl
     """The same by all messages of the domain up to then, as they were sent."""
     state_before(past, at)  # (that the archive has it)
     state, parts, places = State(), [], []
-    changes = [change for change in past.scanned(0) if change.began() <= at]
+    changes = [change for change in past.scanned(0) if change.began() <= at and not change.is_skipped()]
     for change in [*changes, None]:
         if change is None or change.ended() > at:
             asked, which = state.asks(past.domain, [request])

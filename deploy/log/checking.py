@@ -43,6 +43,8 @@ class Messages:
 
     def is_left_out(self, change: Change) -> bool:
         domain = change.domain()
+        if change.is_skipped():
+            return True
         if self.is_forgotten(change):
             self.found.forgotten.add(domain)
             return True

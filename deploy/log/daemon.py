@@ -10,14 +10,13 @@ import threading
 import time
 from collections.abc import Callable
 
-from operating.listener import at_port
-
+from .abandoned import connections_at
 from .archive import Archive, Broken, NoRoom, segments_in
 from .domains import Forgotten
 from .history import Change
 from .keeping import Keeping
 from .messages import Message, bytes_of, bytes_of_entry, entry_of, is_one_of, route_of, token_in
-from .pdpd import Lost, NotSent, Reply, replies
+from .pdpd import Another, Lost, NotSent, Reply, replies
 from .record import Record
 from .sealing import sealed
 from .server import answer
@@ -101,17 +100,33 @@ class Daemon:
         return [line.strip() for line in lines if line.strip()]
 
     def replies(self, data: bytes, count: int) -> list[Reply]:
-        """pdpd's replies. Another user's program at its port is sent nothing: it would be shown tokens, and answer in
-        pdpd's place."""
-        found = at_port(int(self.pdpd.rpartition(":")[2])) if self.user is not None else None
-        other = found.uid if found and found.uid != self.user else None
-        if other != self.other:
-            self.other = other
-            self.say("pdpd's port is its own again" if other is None else
-                     f"a program of user {other} has pdpd's port {self.pdpd}: nothing is sent there")
-        if other is not None:
-            raise NotSent("another program has its port")
-        return replies(self.pdpd, data, count, LONGEST)
+        """pdpd's replies. Another user's program in its place is sent nothing: it would be shown tokens, and answer for
+        it."""
+        other = None
+        try:
+            return replies(self.pdpd, data, count, LONGEST, self.user, self.refuse_program)
+        except Another as fault:
+            other = fault.uid
+            raise
+        finally:
+            if other != self.other:
+                self.other = other
+                self.say(f"{self.pdpd} is pdpd's own again" if other is None else
+                         f"a program of user {other} has {self.pdpd}: nothing is sent there")
+
+    def refuse_program(self) -> None:
+        """A NotSent where the program isn't the one that it has to be. (One machine alone may have any.)"""
+
+    def settle(self) -> bool:
+        """Waits until no message is under way at pdpd whose sender has gone: one of this daemon's, or of one before it,
+        would be made behind those that are sent later. pdpd takes connections in order, so once a question that is sent
+        now is answered it has taken all that came before. False where it answers none for a while."""
+        if not self.asked(bytes_of("GET", "/", [], b"", is_last=True), 1):
+            return False
+        before = connections_at(self.pdpd)
+        while before & connections_at(self.pdpd):
+            time.sleep(0.01)
+        return True
 
     # ---- who may make a change
 
@@ -194,18 +209,22 @@ class Daemon:
             return found.data
 
     def sent(self, head: dict, body: bytes, is_again: bool) -> tuple[Reply, bool]:
-        """pdpd's reply to an entry, and whether it may have been applied before that. 503 is none: nothing changed, or,
-        once pdpd is started again, all. Nor is 401 for the operator, whose token was compared: pdpd was started with
-        another one than is tried here."""
-        tries = 0
+        """pdpd's reply to an entry, and whether it may have been applied before that; 503 for one that is skipped.
+        pdpd's own 503 is none: nothing changed, or, once pdpd is started again, all. Nor is 401 for the operator, whose
+        token was compared: pdpd was started with another one than is tried here."""
+        tries, is_lost = 0, is_again
         while True:
-            for token in self.operators() if head["who"] == "operator" else [""]:
+            if (tries or is_again) and self.is_skipped(head["n"]):
+                return Reply(503, UNAVAILABLE), False
+            is_lost = is_lost and not self.settle()
+            tokens = self.operators() if head["who"] == "operator" else [""]
+            for token in [] if is_lost else tokens:
                 try:
                     (found,) = self.replies(bytes_of_entry(head, body, token, is_last=True), 1)
                 except NotSent:
                     break
                 except Lost:
-                    is_again = True
+                    is_again = is_lost = True
                     break
                 if found.status != 503 and (found.status != 401 or head["who"] != "operator"):
                     return found, is_again
@@ -214,6 +233,10 @@ class Daemon:
             if tries % 100 == 50:
                 self.say(f"pdpd hasn't taken entry {head['n']} for {tries} times: its log says why")
             time.sleep(min(1.0, 0.02 * tries))
+
+    def is_skipped(self, number: int) -> bool:
+        """Whether an entry isn't sent any more, and never will be by anybody. (One machine alone skips none.)"""
+        return False
 
     def make(self, change: Waiting) -> None:
         """Makes one change, which has its turn."""

@@ -63,6 +63,10 @@ class Change:
     def status(self) -> int:
         return self.reply.head["status"] if self.reply else 0
 
+    def is_skipped(self) -> bool:
+        """Whether it was skipped: no pdpd has it. (pdpd's own 503 is no reply to an entry.)"""
+        return self.status() == 503
+
     def is_again(self) -> bool:
         return bool(self.reply and self.reply.head["again"])
 

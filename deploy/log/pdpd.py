@@ -3,11 +3,22 @@ from __future__ import annotations
 
 import re
 import socket
+from collections.abc import Callable
 from dataclasses import dataclass
+
+from operating.listener import at_port, peer_of
 
 
 class NotSent(Exception):
     """pdpd took no connection: it got nothing."""
+
+
+class Another(NotSent):
+    """Another user's program takes connections there."""
+
+    def __init__(self, uid: int):
+        super().__init__("another program takes connections there")
+        self.uid = uid
 
 
 class Lost(Exception):
@@ -54,14 +65,27 @@ def connection_to(address: str, seconds: float) -> socket.socket:
     return made
 
 
-def replies(address: str, data: bytes, count: int, seconds: float) -> list[Reply]:
-    """The first `count` replies to messages that are sent together; fewer where the stream ends behind a whole one."""
+def user_at(connection: socket.socket, address: str) -> int | None:
+    """Whose program takes connections at the other end of one."""
+    if connection.family == socket.AF_UNIX:
+        return peer_of(connection).uid
+    found = at_port(int(address.rpartition(":")[2]))
+    return found.uid if found else None
+
+
+def replies(address: str, data: bytes, count: int, seconds: float, user: int | None = None,
+            refuse: Callable[[], None] = lambda: None) -> list[Reply]:
+    """The first `count` replies to messages that are sent together; fewer where the stream ends behind a whole one.
+    Another user's program is sent nothing, if a user is given, nor is any where `refuse` raises a NotSent."""
     try:
         connection = connection_to(address, seconds)
     except OSError as fault:
         raise NotSent(str(fault)) from None
     held, found = b"", []
     with connection:
+        if user is not None and (other := user_at(connection, address)) not in (None, user):
+            raise Another(other)
+        refuse()
         try:
             connection.sendall(data)
             while len(found) < count:

@@ -8,12 +8,16 @@ from __future__ import annotations
 import contextlib
 import copy
 import pathlib
+from collections.abc import Iterator
 
+from . import trial
 from .settings import FILE, Settings, Wrong, read, text_of, words_of, write_whole
 
 FOLDER = FILE.parent / "applied"
 # the settings of a shard's program
-OF_SHARD = ("PROGRAM", "FIRST_PORT", "DATA", "TOKEN", "CONNECTIONS", "WORK", "READING", "IDLE")
+OF_SHARD = ("PROGRAM", "SOCKETS", "FIRST_PORT", "DATA", "TOKEN", "WORK", "READING")
+# those of them that say where it listens
+PLACES = ("SOCKETS", "FIRST_PORT")
 # in whose settings a watchdog finds those of HAProxy
 PROXY = "haproxy"
 # the last settings that could be read, by the name of their file
@@ -41,13 +45,49 @@ def apply_where_none(settings: Settings, shards: list[int]) -> None:
 
 def of(settings: Settings, name: int | str) -> Settings:
     """What was applied to a shard or to HAProxy; these settings where nothing was."""
-    return Settings(text_of(place(name)), place(name)) if place(name).exists() else settings
+    if not place(name).exists():
+        return settings
+    try:
+        return Settings(text_of(place(name)), place(name))
+    except Wrong as fault:
+        heals = "reload" if name == PROXY else f"restart {name}"
+        raise Wrong(f"{fault}; pdpd-shards {heals} writes it anew") from None
+
+
+def where_it_is(settings: Settings, shard: int) -> Settings:
+    """These settings, but for where a shard's program listens and has its files, which is as it was applied."""
+    found, own = copy.copy(settings), of(settings, shard)
+    for name in (*PLACES, "DATA"):
+        setattr(found, name.lower(), getattr(own, name.lower()))
+    return found
 
 
 def changed(settings: Settings, shard: int) -> list[str]:
     """The names of the settings that a shard's program was started with otherwise."""
     before = of(settings, shard)
     return [name for name in OF_SHARD if getattr(before, name.lower()) != getattr(settings, name.lower())]
+
+
+def kept_places(settings: Settings) -> Iterator[tuple[str, int | str, str]]:
+    """The settings of folders in which something is kept, each with to whom they are applied, and a file in it."""
+    yield "HAPROXY_ETC", PROXY, "haproxy.cfg"
+    for shard in range(settings.shards):
+        yield "DATA", shard, f"{shard}/{trial.STORE}"
+        if settings.audit:
+            yield "ARCHIVES", PROXY, str(shard)
+
+
+def refuse_left_behind(settings: Settings) -> None:
+    """An error where the settings name another folder than was applied for what is kept, and that isn't there: an empty
+    one would be begun, and all domains be away."""
+    for name, whose, file in kept_places(settings):
+        new = pathlib.Path(getattr(settings, name.lower()))
+        old = new
+        with contextlib.suppress(Wrong):  # (what can't be read is told elsewhere, and is written anew)
+            old = pathlib.Path(getattr(of(settings, whose), name.lower()))
+        if old != new and (old / file).exists() and not (new / file).exists():
+            raise Wrong(f"{name} of {FILE} is {new}, and what is kept is in {old}: write that again. A start would "
+                        "begin an empty one")
 
 
 def read_or_before() -> tuple[Settings | None, str]:

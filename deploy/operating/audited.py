@@ -1,8 +1,9 @@
 """The rules of HAProxy with AUDIT=1: changes go to pdpd-replica, and a token's digest stands for it; and the decision
 log, with DECISIONS."""
 
-# a change waits at the daemon for its turn and then for its reply, ten seconds each, and is asked about before
-CHANGE_TIMEOUT = "25s"
+# A change waits at the daemon for its turn and then for its reply, ten seconds each, and is asked about before. On
+# several machines it may wait for a lease, too.
+CHANGE_TIMEOUT = 25
 ASKS = "    acl asks path_reg ^/domains/[^/]+/pdp$\n"
 
 
@@ -90,9 +91,13 @@ def backends(settings, rules):
     """The daemons, with rules of the proxy's."""
     if not settings.audit:
         return ""
+    seconds = CHANGE_TIMEOUT + (2 * settings.lease if settings.machines else 0)
     return "".join(f"""
 backend changes{shard}
-    timeout server {CHANGE_TIMEOUT}
+    # the daemon takes one message of each connection
+    http-reuse never
+    option http-server-close
+    timeout server {seconds}s
 {rules}\
     server replica unix@{settings.audit_run}/{shard}/socket
 """ for shard in range(settings.shards))

@@ -18,6 +18,7 @@ import time
 
 from . import applied, listener, supervisor
 from .owned import Folder, run
+from .standing import user_of_shards
 from .settings import Wrong, alone, harmless, put_off_signals, words_of
 from .trial import FILES, copy_files, domains_in_backup
 
@@ -112,6 +113,15 @@ def refuse_damaged(folder):
                     "backup")
 
 
+def make_lost_folder(settings, shard):
+    """Makes the folder of a shard anew that was removed under its program, which has its files open still."""
+    folder = settings.folder(shard)
+    if not folder.exists():
+        user = user_of_shards()
+        folder.mkdir(0o700)
+        os.chown(folder, *user)
+
+
 def backup(settings, shard):
     """Makes a backup of a shard, and gives its folder, its domains, and how long the shard stood still."""
     settings.refuse_unfinished_put_back(shard)
@@ -119,6 +129,7 @@ def backup(settings, shard):
     pid = supervisor.of(settings).pid(shard)
     if not pid:
         raise Wrong(f"shard {shard} doesn't run: start it, or copy its files, which nobody changes, yourself")
+    make_lost_folder(settings, shard)
     name = name_of_moment()
     path = pathlib.Path(settings.backups) / str(shard)
     path.parent.mkdir(mode=0o711, exist_ok=True)

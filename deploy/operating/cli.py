@@ -30,9 +30,9 @@ import subprocess
 import sys
 
 from . import (
-    applied, backups, figures, listener, metrics, moving, proxy, restoring, room, status, supervisor, talk, watchdog,
-    written)
-from .settings import DOMAIN, ENDS, Wrong, alone, errors_of, harmless, number_in_word, read, words_of
+    applied, backups, figures, listener, metrics, moving, proxy, replicated, restoring, room, status, supervisor, talk,
+    watchdog, written)
+from .settings import DOMAIN, ENDS, FILE, Wrong, alone, errors_of, harmless, number_in_word, read, words_of
 
 
 def say(what):
@@ -40,9 +40,10 @@ def say(what):
 
 
 def warn(settings):
-    """Tells where other users of the machine can take the shards' ports, or HAProxy's."""
-    if found := listener.warning(settings):
-        print(f"pdpd-shards: WARNING: {found}", file=sys.stderr, flush=True)
+    """Tells of settings of earlier versions, and where other users of the machine can take ports."""
+    found = listener.warning(settings)
+    for what in (*settings.advice(), *([found] if found else [])):
+        print(f"pdpd-shards: WARNING: {what}", file=sys.stderr, flush=True)
 
 
 def shards_in(settings, words):
@@ -62,9 +63,12 @@ def keep_room(settings):
 
 def config(settings, words):
     if words == ["--write"]:
+        applied.refuse_left_behind(settings)
         written.write_configuration(settings)
         warn(settings)
-        say(f"{settings.haproxy_etc}/haproxy.cfg is written and valid; pdpd-shards reload has HAProxy read it")
+        then = "restart, and then reload, have the shards and HAProxy go there" if written.leads_elsewhere(settings) \
+            else "reload has HAProxy read it"
+        say(f"{settings.haproxy_etc}/haproxy.cfg is written and valid; pdpd-shards {then}")
     else:
         print(proxy.configuration(settings), end="")
 
@@ -77,11 +81,17 @@ def services(settings, words):
     for shard in range(settings.shards):
         if not by.pid(shard):
             applied.apply(settings, shard)
+        elif names := {*applied.PLACES} & {*applied.changed(settings, shard)}:
+            raise Wrong(f"{', '.join(sorted(names))} of {FILE} isn't what shard {shard} was started with: write that "
+                        "again, or give pdpd-shards config --write, restart, and then reload")
     applied.apply_where_none(settings, range(settings.shards))
     by.set_up(range(settings.shards))
     # (with runit it starts by what was applied)
     applied.apply(settings, applied.PROXY)
     by.start_proxy()
+    if not talk.is_there(settings):
+        # (by a reload it would go on with sockets that another one took, which was started beside it)
+        by.restart_proxy()
     for shard in range(settings.shards):
         talk.wait_until_up(settings, shard)
     keep_room(settings)
@@ -92,6 +102,9 @@ def reload(settings, words):
     talk.check(f"{settings.haproxy_etc}/haproxy.cfg")
     # (HAProxy takes any text for a map)
     talk.map_in_file(settings)
+    if written.leads_elsewhere(settings):
+        raise Wrong(f"{settings.haproxy_etc}/haproxy.cfg leads where the shards aren't yet: give pdpd-shards restart, "
+                    "and then reload")
     # a process that begins while another tool holds messages back would know nothing of it
     with alone():
         talk.reload(settings, supervisor.of(settings))
@@ -101,6 +114,10 @@ def reload(settings, words):
 def restart(settings, words):
     if not words:
         talk.refuse_other_count(settings)
+    if talk.asks_elsewhere(settings):
+        with alone():
+            moving.restart_elsewhere(settings)
+        return say("all shards are restarted, where the settings say, and HAProxy asks them there")
     for shard in shards_in(settings, words):
         with alone(), moving.restart_between_messages(settings, shard):
             pass
@@ -130,9 +147,11 @@ def upgrade(settings, words):
     warn(settings)
     with alone():
         by.renew()
+    # (a program of an earlier version takes one connection at a time, and HAProxy keeps them once it has its new file)
+    restart(settings, [])
+    with alone():
         talk.reload(settings, by)
     say("HAProxy, the watchdog and the backups run what is installed")
-    restart(settings, [])
     keep_room(settings)
 
 
@@ -293,6 +312,9 @@ def end_in_order():
 SWITCHES = {"config": (1, ("--write",)), "status": (1, ("--json", "--prometheus")), "put-back": (3, ("--yes",))}
 # services, which go on with what was set before where the settings can't be read
 SERVICES = ("watchdog", "figures", "keep-backups")
+# what starts or copies what is kept
+CHANGES = ("services", "reload", "restart", "upgrade", "backup", "put-back", "move", "remap", "grow", "make-room",
+           "reserve")
 # what reads the settings itself
 READERS = (*SERVICES, "status")
 
@@ -314,8 +336,14 @@ def main(words):
         return 2
     try:
         settings = None if words[0] in READERS else read()
+        if settings:
+            replicated.refuse(settings, words[0])
+        if words[0] in CHANGES:
+            applied.refuse_left_behind(settings)
         return WORDS[words[0]][0](settings, words[1:]) or 0
     except (Wrong, OSError, sqlite3.Error, subprocess.SubprocessError, EOFError) as fault:
         for error in errors_of(fault):
-            print(harmless(f"pdpd-shards: {words_of(error)}"), file=sys.stderr)
+            is_late = isinstance(error, TimeoutError) and not error.strerror
+            said = "no reply came in time: pdpd-shards status tells of whom" if is_late else words_of(error)
+            print(harmless(f"pdpd-shards: {said}"), file=sys.stderr)
         return 1

@@ -22,6 +22,8 @@ DAYS = 7
 AGAIN = 0.5
 # how long a question may take: the time in a queue, for a reply, and a second
 PATIENCE = talk.LONGEST + 1.0
+# and one of a tool's own, which goes before all others in its queue
+SOON = 5.0
 # of so many names is told
 MOST = 5
 # a certificate in a file of several (RFC 7468)
@@ -94,6 +96,25 @@ def look_whether_it_starts(path: pathlib.Path, findings: Findings) -> None:
         _, *reasons = str(fault).splitlines()
         first = re.sub(r"^\[ALERT\] +\(\d+\) : (config : )?", "", reasons[0]) if reasons else str(fault)
         findings.add(f"HAProxy wouldn't start with its files: {first[:300]}")
+
+
+# ---- what it reaches
+
+def look_whether_reached(settings, shard: int, findings: Findings) -> None:
+    """Whether HAProxy asks a shard that answers the tools: it has its own way there, and may be told to leave it."""
+    with findings.looking(f"whether HAProxy reaches shard {shard}"):
+        for _ in range(2):
+            try:
+                status, _ = talk.shard_reply(settings, shard, "GET", "/operator/domains", "-", timeout=SOON)
+            except PermissionError:
+                raise
+            except talk.NO_REPLY:
+                return  # (all else tells that it isn't there)
+            if status == ANSWER:
+                return
+            time.sleep(AGAIN)
+        findings.add(f"HAProxy answers {status} in the place of shard {shard}, whose program runs: it can't reach "
+                     f"that, or was told to leave it. pdpd-shards restart {shard} has it asked again")
 
 
 # ---- a client's question

@@ -1,8 +1,9 @@
-"""Who takes connections at a shard's port: its own program, or another one.
+"""Who takes a shard's connections: its own program, or another one.
 
-A port above 1023 is free for every user of the machine whenever a shard's program ends. Who binds it then answers
-in the shard's place, and is sent the tokens that are sent to the shard. So a tool looks here before it sends a
-token, and before it says that a shard is up.
+A shard's socket is in a folder in which its user alone can make one, and which HAProxy's user alone can enter beside
+it. A port above 1023 is free for every user of the machine whenever a shard's program ends. Who has the shard's place
+answers for it, and is sent the tokens that are sent to the shard. So a tool looks here before it sends a token, and
+before it says that a shard is up.
 """
 from __future__ import annotations
 
@@ -11,17 +12,25 @@ import os
 import pathlib
 import pwd
 import re
+import socket
+import struct
 import time
 from collections.abc import Iterator
 from typing import NamedTuple
 
 from . import supervisor
+from .processes import openers
 from .settings import Wrong
 
 # The lists of sockets with the addresses at which one takes connections to 127.0.0.1, the most specific first: if
 # there are several, that one has them.
 PLACES = (("tcp", "0100007F"), ("tcp6", "0000000000000000FFFF00000100007F"), ("tcp", "0" * 8), ("tcp6", "0" * 32))
 LISTENS = "0A"
+# the states of a connection that is open, or whose other end has gone; those of Unix sockets (connecting, connected);
+# and what one that takes connections has among its flags
+OPEN, UNIX_OPEN, UNIX_LISTENS = ("01", "08"), ("02", "03"), 0x10000
+# how long a Unix socket may take to take a connection, in seconds: the kernel does it
+SOON = 5.0
 # after how long a shard is looked at again that seems to be another program, in seconds
 AGAIN = 0.2
 # says from which port on every user may take one; one below wants the right CAP_NET_BIND_SERVICE
@@ -31,9 +40,11 @@ PORT = re.compile(r":(\d{1,5})(?=[,\s-]|$)")
 
 
 class Listener(NamedTuple):
-    """A socket that takes connections: the user that made it, and its number, which no other socket has."""
+    """A socket that takes connections: the user that made it, and its number, which no other socket has. Of a Unix
+    socket the process that made it, and no number."""
     uid: int
     inode: str
+    process: int = 0
 
 
 class Impostor(Wrong):
@@ -65,6 +76,62 @@ def at_port(port: int) -> Listener | None:
     return None
 
 
+def peer_of(connection: socket.socket) -> Listener:
+    """Who takes connections at the other end of one to a Unix socket (SO_PEERCRED, unix(7))."""
+    process, uid, _ = struct.unpack("3i", connection.getsockopt(socket.SOL_SOCKET, socket.SO_PEERCRED, 12))
+    return Listener(uid, "", process)
+
+
+def connection_to(path: str, seconds: float) -> socket.socket:
+    """A connection to a Unix socket."""
+    made = socket.socket(socket.AF_UNIX)
+    made.settimeout(seconds)
+    try:
+        made.connect(path)
+    except OSError as fault:
+        made.close()
+        fault.filename = path
+        raise
+    return made
+
+
+def at_socket(path: str) -> Listener | None:
+    """Who takes connections at a Unix socket, if somebody does: nothing is said to him."""
+    try:
+        with connection_to(path, SOON) as connection:
+            return peer_of(connection)
+    except (FileNotFoundError, ConnectionRefusedError):
+        return None
+
+
+def at(settings, shard: int) -> Listener | None:
+    """Who takes a shard's connections, if somebody does."""
+    port = settings.port(shard)
+    return at_socket(settings.socket(shard)) if port is None else at_port(port)
+
+
+def unix_sockets() -> Iterator[list[str]]:
+    """The words of each line of the kernel's list of Unix sockets, of which the last is the path, if it has one."""
+    with open("/proc/self/net/unix", encoding="utf-8", errors="replace") as lines:
+        next(lines)
+        for line in lines:
+            yield line.rstrip("\n").split(None, 7)
+
+
+def connections(settings, shard: int) -> int:
+    """How many connections a shard has open, or at its door, by the kernel's lists."""
+    port, path = settings.port(shard), settings.socket(shard)
+    if port is None:
+        return sum(row[7:] == [path] and row[5] in UNIX_OPEN and not int(row[3], 16) & UNIX_LISTENS
+                   for row in unix_sockets())
+    found = 0
+    for name in ("tcp", "tcp6"):
+        with contextlib.suppress(FileNotFoundError), open(f"/proc/self/net/{name}", encoding="ascii") as lines:
+            rows = (line.split() for line in lines)
+            found += sum(row[1].endswith(f":{port:04X}") and row[3] in OPEN for row in rows)
+    return found
+
+
 def user_of(process: int) -> int | None:
     """The effective user of a process; nothing where it is gone."""
     try:
@@ -92,6 +159,8 @@ def is_seen_open(process: int, listener: Listener) -> bool | None:
 
 def has_open(process: int, listener: Listener) -> bool:
     """Whether a process has the socket open; where this one may not look into it, whether it is of the same user."""
+    if listener.process:
+        return listener.process == process and listener.uid == user_of(process)
     found = is_seen_open(process, listener)
     return user_of(process) == listener.uid if found is None else found
 
@@ -102,19 +171,19 @@ def described(listener: Listener) -> str:
         name = pwd.getpwuid(listener.uid).pw_name
     except KeyError:
         name = "no name"
-    processes = sorted(int(path.name) for path in pathlib.Path("/proc").glob("[0-9]*"))
-    found = [str(process) for process in processes if is_seen_open(process, listener)]
+    found = [str(listener.process)] if listener.process else [
+        str(process) for process in sorted(int(path.name) for path in pathlib.Path("/proc").glob("[0-9]*"))
+        if is_seen_open(process, listener)]
     return f"user {listener.uid} ({name}), process {', '.join(found) or 'unknown'}"
 
 
 def foreign(settings, shard: int) -> Listener | None:
     """The socket by which another program takes a shard's connections; nothing where its own does, or nobody."""
-    port = settings.port(shard)
-    found = at_port(port)
+    found = at(settings, shard)
     while found and not is_of(settings, shard, found):
         # (its own program may have ended, or begun, between the two looks)
         time.sleep(AGAIN)
-        before, found = found, at_port(port)
+        before, found = found, at(settings, shard)
         if found == before and not is_of(settings, shard, found):
             return found
     return None
@@ -122,8 +191,9 @@ def foreign(settings, shard: int) -> Listener | None:
 
 def words_on(settings, shard: int, found: Listener) -> str:
     """What is told of such a socket."""
-    return (f"another program has the port of shard {shard}, 127.0.0.1:{settings.port(shard)}: {described(found)}. End "
-            "it, and look who could start it")
+    what = "socket" if settings.port(shard) is None else "port"
+    return (f"another program has the {what} of shard {shard}, {settings.place(shard)}: {described(found)}. End it, "
+            "and look who could start it")
 
 
 def another(settings, shard: int) -> str | None:
@@ -140,8 +210,30 @@ def is_of(settings, shard: int, found: Listener) -> bool:
 
 def is_own(settings, shard: int) -> bool:
     """Whether a shard's own program takes its connections."""
-    found = at_port(settings.port(shard))
+    found = at(settings, shard)
     return found is not None and is_of(settings, shard, found)
+
+
+def dial(settings, shard: int, seconds: float) -> socket.socket:
+    """A connection to whoever has a shard's place."""
+    port = settings.port(shard)
+    if port is None:
+        return connection_to(settings.socket(shard), seconds)
+    return socket.create_connection(("127.0.0.1", port), timeout=seconds)
+
+
+def connect(settings, shard: int, seconds: float) -> socket.socket:
+    """A connection to a shard's own program; an error where another one has its place, which is sent nothing."""
+    if settings.port(shard) is not None:
+        refuse_another(settings, shard)
+        return dial(settings, shard, seconds)
+    made = dial(settings, shard, seconds)
+    if not is_of(settings, shard, peer_of(made)):
+        made.close()
+        refuse_another(settings, shard)
+        # (its own program has begun, or another one has ended, between the looks)
+        raise ConnectionResetError(f"shard {shard} has just begun")
+    return made
 
 
 def open_bind(settings, free: int) -> str | None:
@@ -157,17 +249,36 @@ def open_bind(settings, free: int) -> str | None:
 def warning(settings) -> str | None:
     """What is told where other users of the machine can take the shards' ports, or HAProxy's."""
     free = int(FREE.read_text(encoding="ascii"))
-    if settings.port(settings.shards - 1) < free:
+    if settings.first_port is None or settings.port(settings.shards - 1) < free:
         return open_bind(settings, free)
     return (f"every user of this machine can take a shard's port while its program restarts, and answer in its place: "
             f"FIRST_PORT is {settings.first_port}, and ports from {free} on are everybody's. OPERATING.md says under "
-            "Ports how they become others")
+            "Sockets and ports how they get sockets")
 
 
 def refuse_another(settings, shard: int) -> None:
     """An error where another program takes a shard's connections."""
     if found := foreign(settings, shard):
         raise Impostor(words_on(settings, shard, found), found)
+
+
+def is_unlinked(path: str) -> bool:
+    """Whether a program takes connections at a Unix socket that was removed from its folder."""
+    return not os.path.exists(path) and any(row[7:] == [path] and int(row[3], 16) & UNIX_LISTENS
+                                            for row in unix_sockets())
+
+
+def why_away(settings, shard: int) -> str:
+    """Why nobody takes a shard's connections, and what heals it."""
+    by = supervisor.of(settings)
+    # (as where what supervised it was killed, and another one has begun)
+    if others := {*openers(os.path.realpath(settings.folder(shard) / "pdpd.db"))} - {by.pid(shard)}:
+        return (f"process {min(others)}, which isn't its supervisor's, has its file open, and it can't start beside "
+                f"that: kill {min(others)}")
+    if settings.port(shard) is None and is_unlinked(settings.socket(shard)):
+        return f"its socket {settings.socket(shard)} was removed: pdpd-shards restart {shard} makes it anew"
+    return (f"its program doesn't run, and pdpd-shards restart {shard} starts it, or its log says why "
+            f"({by.log_of(by.SHARD.format(shard))})")
 
 
 def wait_for_own(settings, shard: int, seconds: float = 3.0) -> None:
@@ -177,6 +288,5 @@ def wait_for_own(settings, shard: int, seconds: float = 3.0) -> None:
     while not is_own(settings, shard):
         refuse_another(settings, shard)
         if time.monotonic() > end:
-            raise Wrong(f"shard {shard} takes no connections: its program doesn't run, and pdpd-shards restart {shard} "
-                        "starts it, or its log says why")
+            raise Wrong(f"shard {shard} takes no connections: {why_away(settings, shard)}")
         time.sleep(0.05)

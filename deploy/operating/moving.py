@@ -9,9 +9,9 @@ import copy
 import sys
 import time
 
-from . import applied, carrying, listener, supervisor, talk, written
+from . import applied, carrying, holding, listener, replicas, standing, supervisor, talk, written
 from .owned import as_user, owner_of, run, surroundings
-from .settings import DOMAIN, NUMBERS, Wrong, errors_of, put_off_signals, set_in_file, set_in_text, write_whole
+from .settings import DOMAIN, FILE, NUMBERS, Wrong, errors_of, put_off_signals, set_in_file, set_in_text, write_whole
 
 # How long is waited for shards after an error, in seconds: as long as HAProxy tries one that is down. A
 # question that is under way then may take five, and messages wait for a tool for ten.
@@ -53,6 +53,7 @@ def wait_until_up(settings, shards, seconds=30.0):
         talk.lead(settings, shard)
     for shard in shards:
         talk.wait_until_up(settings, shard, end - time.time())
+    replicas.wait_until_there(settings, shards)
 
 
 @contextlib.contextmanager
@@ -63,7 +64,9 @@ def restart_shards(settings, *shards):
     doesn't wait for long: one of them may stay away, and the messages of the others are held back meanwhile.
     """
     settings.operator()
-    settings.refuse_no_program()
+    standing.refuse_unrunnable(settings)
+    if talk.asks_elsewhere(settings):
+        raise NotBegun(f"{FILE} has the shards at other places than HAProxy asks them: give pdpd-shards restart before")
     try:
         with stop_shards(settings, shards):
             yield
@@ -77,8 +80,22 @@ def restart_shards(settings, *shards):
 @contextlib.contextmanager
 def restart_between_messages(settings, shard):
     """Restarts a shard's program, which is stopped meanwhile, while its messages are held back."""
-    with talk.hold_messages(settings, shard), restart_shards(settings, shard):
+    with holding.hold_messages(settings, shard), restart_shards(settings, shard):
         yield
+
+
+def restart_elsewhere(settings):
+    """Restarts all shards at once, at sockets where they were at ports, or the other way. HAProxy begins to ask them
+    there once it has read its file: what has waited meanwhile is answered with 503."""
+    settings.operator()
+    standing.refuse_unrunnable(settings)
+    written.write_configuration(settings)
+    shards = range(settings.shards)
+    with holding.hold_messages(settings, *shards):
+        with stop_shards(settings, shards):
+            pass
+        talk.reload(settings, supervisor.of(settings))
+    wait_until_up(settings, shards)
 
 
 def carry_domain(settings, domain, one, other):
@@ -136,7 +153,7 @@ def move(settings, domain, one, other):
     refuse_absent(settings, domain, one, other)
     talk.settle(settings)
     began = time.time()
-    with talk.hold_messages(settings, one, other):
+    with holding.hold_messages(settings, one, other):
         # what is left where this is cut: nobody asks either shard for it
         talk.set_in_map(settings, {domain: "moving"})
         try:
@@ -170,9 +187,11 @@ def stop_making_domains(settings):
         listener.refuse_another(settings, shard)
     talk.settle(settings)
     talk.set_in_map(settings, {"NEW": "moving"})
-    time.sleep(talk.TURN)
+    time.sleep(holding.TURN)
     for shard in range(settings.shards):
-        talk.wait_for_turn(settings, shard)
+        # a second question is answered behind whatever came to the shard before the first
+        holding.wait_for_turn(settings, shard)
+        holding.wait_for_turn(settings, shard)
 
 
 def shards_of_domains(settings):
@@ -195,6 +214,9 @@ def grow(settings, shards):
     if settings.shards > count or shards > count:
         talk.refuse_other_count(settings)
     settings.operator()
+    larger = copy.copy(settings)
+    larger.shards, larger.text = shards, set_in_text(settings.text, "SHARDS", shards)
+    written.refuse_untaken(larger)  # (before there is anything of it)
     by, known = supervisor.of(settings), talk.map_in_file(settings)
     with as_before_where_it_fails(settings, known.get("NEW")):
         stop_making_domains(settings)
@@ -205,8 +227,6 @@ def grow(settings, shards):
     talk.set_in_map(settings, {name: shard for name, shard in shard_of.items() if name not in known})
     applied.apply_where_none(settings, range(shards))
     by.set_up(range(shards))
-    larger = copy.copy(settings)
-    larger.shards, larger.text = shards, set_in_text(settings.text, "SHARDS", shards)
     written.write_configuration(larger, is_growth=True)
     talk.reload(larger, by)
     set_in_file("SHARDS", shards)

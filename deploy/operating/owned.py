@@ -144,12 +144,12 @@ class Folder:
             raise Wrong(f"{self.path / name} is there again: {PLANTED}") from None
         return self.closed_folder(name)
 
-    def closed_folder(self, name: str) -> Folder:
-        """A folder within this one that a tool has made so."""
+    def closed_folder(self, name: str, told: str = f"isn't the folder that a tool made: {PLANTED}") -> Folder:
+        """A folder within this one that a tool has made so. Else the error tells that."""
         made = Folder(name, self)
         if not made.is_closed:
             os.close(made.fd)
-            raise Wrong(f"{made.path} isn't the folder that a tool made: {PLANTED}")
+            raise Wrong(f"{made.path} {told}")
         return made
 
     def move(self, name: str, other: Folder) -> None:
@@ -177,12 +177,11 @@ class Folder:
         os.fsync(self.fd)
 
 
-def as_user(user: User, words: Sequence[object], right: str | None = None) -> list[str]:
-    """A command as that user runs it, with no right of root's but one that is named. It ends with the tool."""
+def as_user(user: User, words: Sequence[object]) -> list[str]:
+    """A command as that user runs it, with no right of root's. It ends with the tool."""
     changes = ["--pdeathsig=KILL"]
     if os.geteuid() == 0 and user.uid != 0:
         changes += [f"--reuid={user.uid}", f"--regid={user.gid}", "--clear-groups", "--no-new-privs"]
-        changes += [f"--inh-caps=+{right}", f"--ambient-caps=+{right}"] if right else []
     return ["setpriv", *changes, *map(str, words)]
 
 

@@ -1,13 +1,13 @@
 """The configuration of HAProxy before the shards.
 
-pdpd serves one connection after another. So HAProxy lets one message at a time to each shard (maxconn),
-and the others queue in it. What pdpd would answer by closing a connection, and what could hold it up,
+HAProxy keeps connections to each shard, lets so many messages to it at a time (maxconn), and the others queue in
+HAProxy. What pdpd would answer by closing a connection, and what both could take for messages of different lengths,
 ends here. So does what one client could take away from all others: connections, messages under way, memory.
 """
 import hashlib
 import pathlib
 
-from . import audited, logged, monitored
+from . import again, audited, logged, monitored, replicated
 from . import settings as setting
 
 JSON = "content-type application/json string"
@@ -35,17 +35,11 @@ def answers(status, code, fields="", how="return"):
     return f"""{how} status {status} {JSON} '{{"Error":"{code}"}}'{fields}"""
 
 
-def has_two_steps(settings):
-    """Whether messages go through HAProxy twice: to be sent once more; or since a connection that is kept to a shard
-    is free for others only once the reply has gone, which the second step takes whole."""
-    return settings.retry or settings.keep
-
-
 def global_part(settings):
     user = settings.haproxy_user
     rights = f"    user {user}\n    group {user}\n" if user else ""
-    most = settings.clients + (settings.under_way if has_two_steps(settings) else 0) + SPARE
-    buffers = settings.clients + SPARE + (3 if has_two_steps(settings) else 2) * settings.under_way
+    most = settings.clients + SPARE + again.most(settings)
+    buffers = most + 2 * (settings.under_way + again.most(settings))
     return f"""\
 global
     nbthread {settings.threads}
@@ -55,8 +49,7 @@ global
     # clients have fewer, so the tools always get a connection
     maxconn {most}
     tune.bufsize {BUFFER}
-    # the most memory: a buffer for each connection of clients and of the tools, and for each message two, or three if
-    # it goes through HAProxy twice
+    # the most memory: a buffer for each connection, and two for each message
     tune.buffers.limit {buffers}
     tune.maxrewrite 1024
     # as much of one connection is worked through before the others' turn: a buffer full of frames takes seconds
@@ -65,36 +58,19 @@ global
     tune.h2.max-concurrent-streams 10
     hard-stop-after 15s
     stats socket {settings.haproxy_run}/admin.sock mode 660 level admin expose-fd listeners
+{replicated.socket_line(settings)}\
     log {settings.log}{logged.level(settings)}
     ssl-default-bind-options ssl-min-ver TLSv1.2 no-tls-tickets
     # before the file that reads them
     setenv PDPD_SHARDS {settings.shards}
     setenv PDPD_MAXCONN {settings.maxconn}
     setenv PDPD_RUN {settings.haproxy_run}
+    {f"setenv PDPD_SOCKETS {settings.sockets}" if settings.first_port is None else "unsetenv PDPD_SOCKETS"}
     setenv PDPD_MAP {settings.map}
     setenv PDPD_AUDIT {settings.audit}
     # which configuration this is, for pdpd-shards status
     setenv PDPD_DIGEST {DIGEST}
     lua-load {settings.haproxy_etc}/domains.lua
-"""
-
-
-def connections(settings):
-    """How messages come to a shard."""
-    if settings.keep:
-        return """\
-    # One connection is kept to each shard. A reload under load stalls until the old process has gone. Newer versions
-    # pass an empty body of HTTP/2 on as a chunked one, behind which pdpd would end that connection.
-    .if version_atleast(2.7)
-    .alert "KEEP=1 is for HAProxy 2.6 alone"
-    .endif
-    http-reuse always
-"""
-    return """\
-    # Each message has a connection of its own, which pdpd closes behind the reply: none is idle while others
-    # wait, and no message can be taken for a part of another one's.
-    http-reuse never
-    option http-server-close
 """
 
 
@@ -123,8 +99,15 @@ defaults
     # how long a message waits for its turn, and then for its reply
     timeout queue 10s
     timeout server 12s
-{connections(settings)}\
-    # never: another shard would answer for a domain that it hasn't
+    # Any message goes on any connection to its shard that is free. HAProxy alone ends one that is (pdpd-run).
+    .if version_before(2.7)
+    http-reuse always
+    .else
+    # (an empty body of HTTP/2 would be passed on as a chunked one, behind which pdpd ends the connection)
+    http-reuse never
+    option http-server-close
+    .endif
+    # never but to HAProxy itself (again): another shard would answer for a domain that it hasn't
     no option redispatch
 {errors}"""
 
@@ -226,11 +209,6 @@ ACCEPTS = """\
 """
 
 
-def accepts(settings):
-    """Those rules, for each backend that messages of clients are led to first."""
-    return "" if has_two_steps(settings) else ACCEPTS
-
-
 def body_rules():
     """The whole body first: a slow client holds no shard. One without a length (chunked, HTTP/2) gets one.
 
@@ -254,6 +232,11 @@ def body_rules():
 """
 
 
+def there(settings, condition):
+    """Has a message wait for its shard's socket."""
+    return f"    http-request lua.pdpd_there if {condition}\n" if settings.first_port is None else ""
+
+
 def route_rules(settings):
     """Whose message it is, looked up at the moment at which it comes into the shard's queue."""
     file = settings.map
@@ -272,6 +255,7 @@ def route_rules(settings):
     # a reply that fits into no buffer, or that is passed on before it is whole, would let a client hold the shard
     http-response {answers(503, "Unavailable")} if has_domain {{ res.hdr_val(content-length) gt {MOST_REPLY} }}
     http-response wait-for-body time 12s
+{replicated.rules(settings, answers(503, "Unavailable"))}\
     use_backend lists if METH_GET {{ path /operator/domains }}
 {audited.change_rules(settings)}\
     use_backend shard%[var(txn.shard)] if has_shard
@@ -287,34 +271,10 @@ def frontends(settings):
              + logged.kind_rules() + DOMAIN_RULES + token_rules(settings) + head_rules() + body_rules()
              + audited.token_rules(settings) + audited.decision_rules(settings) + logged.level_rules(settings)
              + logged.LED)
-    if not has_two_steps(settings):
-        return f"\nfrontend pdp\n{first}{route_rules(settings)}"
-    again = """\
-    # what changes nothing is sent once more if its connection to the shard was lost, and finds its way anew
-    acl asks path_reg ^/domains/[^/]+/pdp$
-    http-request disable-l7-retry unless METH_GET or { method POST } asks
-    retries 1
-    retry-on conn-failure 502
-"""
-    return f"""
-frontend pdp
-{first}\
-    http-response wait-for-body time 12s
-    default_backend again
-
-backend again
-    http-reuse never
-    option http-server-close
-{ACCEPTS}\
-{again if settings.retry else ""}\
-    # held back, in the queue, until the shard is back, and for the reply
-    timeout server 40s
-    server routes unix@{settings.haproxy_run}/routes.sock
-
-frontend routes
-    option dontlog-normal
-    bind unix@{settings.haproxy_run}/routes.sock {rights(settings)}
-{DOMAIN_RULES}{route_rules(settings)}"""
+    away = f"{{ str(AWAY),map({settings.map}) -m found }}"
+    routes, refusal = route_rules(settings), answers(503, "Unavailable")
+    second = again.frontend(settings, rights(settings), refusal, DOMAIN_RULES, routes)
+    return f"\nfrontend pdp\n{first}{there(settings, away)}{routes}{second}"
 
 
 def rights(settings):
@@ -332,15 +292,17 @@ frontend inner
     bind unix@{settings.haproxy_run}/inner.sock {rights(settings)}
     http-request set-priority-class int(-100) unless {{ req.hdr(x-turn) -m found }}
     http-request set-var(txn.shard) req.hdr(x-shard)
+{there(settings, "{ req.hdr(x-turn) -m found }")}\
     http-request del-header x-shard
     http-request del-header x-turn
-{monitored.inner_rules(settings)}\
+{again.NEVER}\
+{replicated.inner_rules(settings, answers(503, "Unavailable"))}{monitored.inner_rules(settings)}\
     use_backend shard%[var(txn.shard)]
 
 # A few lists are put together at a time, and the others wait.
 backend lists
     timeout server 40s
-{accepts(settings)}\
+{ACCEPTS}\
     server self unix@{settings.haproxy_run}/lists.sock maxconn {LISTS}
 
 frontend list
@@ -368,11 +330,19 @@ backend accepted
 """
 
 
+def server(settings, shard):
+    """Where HAProxy asks a shard."""
+    return f"unix@{settings.socket(shard)}" if settings.port(shard) is None else settings.place(shard)
+
+
 def backends(settings):
     return "".join(f"""
 backend shard{shard}
-{accepts(settings)}\
-    server pdpd 127.0.0.1:{settings.port(shard)} maxconn {settings.maxconn}
+{ACCEPTS}\
+    # (so messages wait in this server's queue)
+    use-server pdpd if TRUE
+    server pdpd {server(settings, shard)} maxconn {settings.maxconn}
+{again.server(settings)}\
 """ for shard in range(settings.shards))
 
 
@@ -388,6 +358,6 @@ def configuration(settings):
         f"# Written by `pdpd-shards config`, of {setting.FILE}: what is changed here is lost. Sections of your own stand "
         f"in {settings.haproxy_etc}/{OWN}.\n",
         global_part(settings), defaults_part(settings), frontends(settings), other_parts(settings),
-        backends(settings), audited.backends(settings, accepts(settings)), audited.decision_ring(settings),
+        backends(settings), audited.backends(settings, ACCEPTS), audited.decision_ring(settings),
         monitored.frontend(settings), own_part(settings)))
     return text.replace(DIGEST, hashlib.sha256(text.encode()).hexdigest()[:16])

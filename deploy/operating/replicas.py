@@ -6,6 +6,7 @@ import json
 import pathlib
 import socket
 import time
+from collections.abc import Iterable
 
 from log.history import look_at_end
 from log.record import Damaged
@@ -50,13 +51,22 @@ def figures(settings: Settings, shard: int) -> dict[str, float] | None:
     try:
         connection.request("GET", "/figures")
         held = json.loads(connection.getresponse().read(LONGEST))
-        return {name: float(held[name]) for name in FIGURES}
+        return {name: float(held[name]) for name in (*FIGURES, *(["lease"] if settings.machines else []))}
     except PermissionError:
         raise
     except UNTOLD:
         return None
     finally:
         connection.close()
+
+
+def wait_until_there(settings: Settings, shards: Iterable[int], seconds: float = PENDING) -> None:
+    """Waits until the daemons of these shards answer, for so long at the most: a change for one that isn't there is
+    answered with 503 at once."""
+    end = time.monotonic() + seconds
+    for shard in shards if settings.audit else ():
+        while figures(settings, shard) is None and time.monotonic() < end:
+            time.sleep(0.05)
 
 
 def why_away(settings: Settings, shard: int) -> str:
@@ -89,6 +99,8 @@ def look(settings: Settings, shard: int, findings: Findings) -> int | None:
         if found is None:
             findings.add(f"no change of shard {shard} is taken: {why_away(settings, shard)}")
             return None
+        if found.get("lease") == 0:
+            findings.add(f"shard {shard} decides nothing on this machine, whose lease is over: pdpd-replicas status")
         position = int(found["position"])
         if found["pending"] and time.monotonic() >= end:
             findings.add(f"entry {position + 1} of shard {shard} gets no reply, and no change passes it: the log of "

@@ -13,7 +13,7 @@ from collections.abc import Iterable, Iterator
 from typing import NamedTuple
 
 from . import listener, moving, talk
-from .backups import NAME, name_of_moment, refuse_damaged
+from .backups import NAME, SUMS, name_of_moment, refuse_damaged
 from .owned import PLANTED, Folder
 from .settings import MARK, Wrong
 from .trial import FILES, STORE, copy_files, domains_in_folder
@@ -21,6 +21,9 @@ from .trial import FILES, STORE, copy_files, domains_in_folder
 # where the files of a backup wait, and the name of a folder for those that they replace
 COMING = "coming"
 ASIDE = re.compile(r"before-[0-9TZ.]+")
+# what is to be done about a backup that others can write into, as one that was copied here by another user
+FOREIGN = ("isn't root's alone. If you have copied it there: chown root: {0} && chmod 700 {0}; else look who put it "
+           "there")
 # so many names are told of many
 MOST = 12
 
@@ -92,6 +95,8 @@ class Plan(NamedTuple):
     before: list[str] | None
     # the domains of the backup whose messages are led to other shards
     astray: dict[str, object]
+    # whether its sums have shown that it is as it was made
+    is_summed: bool
 
     def lines(self) -> list[str]:
         """What is told before it is done."""
@@ -103,6 +108,8 @@ class Plan(NamedTuple):
             lines += [f"away then: {listed(now - then)}", f"there again: {listed(then - now)}"]
             lines.append(f"as they were then: {listed(now & then)}. Policies and attributes are those of then, and "
                          "tokens that were revoked since are valid again")
+        if not self.is_summed:
+            lines.append("it has no sums: that all of it is there, and as it was made, isn't known")
         if self.astray:
             lines.append(f"in the shard, but led to another one: {listed(self.astray)}. status tells of each")
         return lines
@@ -125,7 +132,8 @@ def backup_of(settings, shard: int, name: str) -> Iterator[Folder]:
     with contextlib.ExitStack() as opened:
         try:
             place = opened.enter_context(Folder(above))
-            source = opened.enter_context(place.closed_folder(name))
+            told = [] if is_aside else [FOREIGN.format(above / name)]
+            source = opened.enter_context(place.closed_folder(name, *told))
         except FileNotFoundError:
             raise Wrong(f"{above / name} is no backup: pdpd-shards backups lists them") from None
         if not source.has(STORE):
@@ -147,6 +155,7 @@ def plan(settings, shard: int, name: str) -> Plan:
     with backup_of(settings, shard, name) as source:
         refuse_other_shard(shard, source)
         refuse_damaged(source)
+        is_summed = source.has(SUMS) or ASIDE.fullmatch(name) is not None
         domains = domains_in_folder(settings, shard, source)
     try:
         before = talk.domains_of(settings, shard)
@@ -156,7 +165,8 @@ def plan(settings, shard: int, name: str) -> Plan:
         before = None
     known, _ = moving.map_or_why_not(settings)
     places = {name: talk.place(settings, known, name) for name in domains}
-    return Plan(shard, name, domains, before, {name: led for name, led in places.items() if led != shard})
+    return Plan(shard, name, domains, before, {name: led for name, led in places.items() if led != shard},
+                is_summed)
 
 
 def put_back(settings, planned: Plan) -> pathlib.Path:

@@ -17,6 +17,8 @@ NAME = "reserve"
 MIB = 2 ** 20
 # of a disk with less than this part of it, or with less than so many bytes, is told: a change may have 512 KiB
 SCARCE, LEAST = 0.1, 3 * MIB // 4
+# of one that can have fewer files more is told: a backup has seven
+FEW = 100
 
 
 class Room(NamedTuple):
@@ -41,6 +43,16 @@ def on_disk_of(path: str | os.PathLike[str]) -> Room:
     """The room on the disk of a folder."""
     total, _, free = shutil.disk_usage(path)
     return Room(total, free)
+
+
+def fault_of(path: str | os.PathLike[str]) -> str | None:
+    """Why nothing can be made in a folder, however much room its disk has; nothing where that is no reason."""
+    found = os.statvfs(path)
+    if found.f_flag & os.ST_RDONLY:
+        return "is read-only: the kernel's log (dmesg) may say why; mount it for writing"
+    if found.f_files and found.f_favail < FEW:
+        return f"has room for {found.f_favail} files more alone (df -i): move files away"
+    return None
 
 
 def reserve_of(settings, shard: int) -> int | None:

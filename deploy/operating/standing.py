@@ -4,13 +4,14 @@ from __future__ import annotations
 
 import os
 import pathlib
+import pwd
 import stat
 import time
 
-from . import supervisor, talk, trial
+from . import applied, supervisor, talk, trial
 from .findings import Findings
-from .owned import advice, name_of
-from .settings import Settings
+from .owned import User, advice, as_user, name_of, run, surroundings
+from .settings import FILE, LIBRARY, Settings, Wrong
 
 # the user of the shards' programs, as their services have it
 USER = "pdpd"
@@ -24,6 +25,27 @@ def mode_of(path: str | os.PathLike[str]) -> os.stat_result | None:
         return os.stat(path)
     except FileNotFoundError:
         return None
+
+
+def user_of_shards() -> User:
+    """As whom the shards run."""
+    try:
+        found = pwd.getpwnam(USER)
+    except KeyError:
+        raise Wrong(f"there is no user {USER}, as whom the shards run, and none could start again: useradd --system "
+                    f"--home-dir /nonexistent --shell /usr/sbin/nologin {USER}") from None
+    return User(found.pw_uid, found.pw_gid)
+
+
+def refuse_unrunnable(settings: Settings) -> None:
+    """An error where a shard that is stopped wouldn't start again: its program can't be run, or not by its user."""
+    settings.refuse_no_program()
+    user = user_of_shards()
+    for path in (settings.program, LIBRARY / "pdpd-run", LIBRARY / "pdpd-hold"):
+        status, _ = run(f"a look for {path}", as_user(user, ["test", "-x", path]), env=surroundings())
+        if status != 0:
+            raise Wrong(f"the user {USER} can't run {path}, and no shard could start again: chmod 755 it and the "
+                        "folders above, or install the archive again. Restart no shard before")
 
 
 def look_at_secrets(settings: Settings, findings: Findings) -> None:
@@ -71,6 +93,20 @@ def look_at_store(settings: Settings, shard: int, findings: Findings) -> None:
                          f"{folder / name}")
 
 
+def look_at_sockets(settings: Settings, findings: Findings) -> None:
+    """Whether others may come into a folder of a shard's socket, or put one in its place."""
+    if settings.first_port is not None:
+        return
+    above = pathlib.Path(settings.sockets)
+    # each with its owner, and what others may not do there (pdpd-run)
+    places = (above, "root", 0o022), *((above / str(shard), USER, 0o027) for shard in range(settings.shards))
+    for folder, owner, others in places:
+        with findings.looking(str(folder)):
+            found = mode_of(folder)
+            if found and (found.st_mode & others or name_of(found.st_uid) != owner):
+                findings.add(f"others may come into {folder}, or change what is in it: pdpd-shards restart closes it")
+
+
 def look_beyond(settings: Settings, findings: Findings) -> None:
     """Whether there are stores of shards beyond SHARDS: nobody's messages are led to them."""
     with findings.looking("the folders of DATA"):
@@ -83,9 +119,38 @@ def look_beyond(settings: Settings, findings: Findings) -> None:
                          f"it. pdpd-shards grow {beyond[-1] + 1}, then pdpd-shards remap; or move the folder away")
 
 
+def look_at_settings(_settings: Settings, findings: Findings) -> None:
+    """Whether there is a file of settings: where it was lost, those that are installed would be applied."""
+    if not FILE.exists():
+        findings.add(f"{FILE} isn't there, and what was set in it counts no more: put it back before you run anything "
+                     f"else. What HAProxy was started with is in {applied.place(applied.PROXY)}")
+
+
+def look_at_starts(settings: Settings, findings: Findings) -> None:
+    """Whether the next start of the machine brings all services, and what is logged is kept."""
+    by = supervisor.of(settings)
+    names = [*map(by.SHARD.format, range(settings.shards)), *by.beside(range(settings.shards)), "haproxy"]
+    with findings.looking("what starts with the machine"):
+        for name in names:
+            if not by.starts_with_machine(name):
+                findings.add(f"{name} doesn't start with the machine: pdpd-shards services has it so")
+    with findings.looking("the logs"):
+        if unlogged := by.unlogged(names):
+            time.sleep(AGAIN)
+        for name in by.unlogged(unlogged):
+            findings.add(f"nobody takes the lines of {name}, or will after the machine's next start: pdpd-shards "
+                         "services")
+        for name in by.removed_logs(names):
+            findings.add(f"the log of {name} was removed, and its lines are lost: sv restart "
+                         f"{settings.services}/{name}/log")
+
+
 def look_at_services(settings: Settings, findings: Findings) -> None:
     """Whether what looks after the shards runs: the watchdog, the backups, and what some settings switch on."""
     by = supervisor.of(settings)
+    if not by.is_there():
+        findings.add(f"runsvdir doesn't run, which has all services run: setsid runsvdir -P {settings.services} > "
+                     "/dev/null 2>&1 &")
     with findings.looking("the services beside the shards"):
         names = [name for name in by.beside(range(settings.shards)) if not by.is_running(name)]
         if names:
@@ -97,5 +162,5 @@ def look_at_services(settings: Settings, findings: Findings) -> None:
 
 def look(settings: Settings, findings: Findings) -> None:
     """All of it, but for the files of shards."""
-    for one in (look_at_secrets, look_beyond, look_at_services):
+    for one in (look_at_settings, look_at_secrets, look_at_sockets, look_beyond, look_at_services, look_at_starts):
         one(settings, findings)

@@ -5,13 +5,15 @@ import hashlib
 import json
 import os
 import pathlib
+import re
 import time
 from typing import NamedTuple
 
 from . import applied, front, listener, replicas, room, standing, supervisor, talk, trial
 from .backups import COPIED, backups_of, emptied, is_beyond
 from .findings import Findings
-from .settings import FILE, MARK, BadToken, Settings, Wrong, read, words_of
+from .processes import is_stopped
+from .settings import FILE, LOCKS, MARK, BadToken, Settings, Wrong, at_work, read, words_of
 
 # when a backup is too old, in seconds
 OLD = 2 * 3600 + 600
@@ -45,6 +47,7 @@ class Report(NamedTuple):
     shards: list[Shard]
     certificate_days: float | None
     findings: Findings
+    at_work: str | None
 
     def exit_status(self) -> int:
         """1 where something is wrong, 2 where it can't be told."""
@@ -57,13 +60,16 @@ class Report(NamedTuple):
         lines = ["  ".join(cell.ljust(width) for cell, width in zip(row, widths)).rstrip() for row in rows]
         if self.certificate_days is not None:
             lines.append(f"the certificate is valid for {self.certificate_days:.0f} days more")
+        if self.at_work:
+            lines.append(f"at work: {self.at_work}")
         lines += [f"WRONG: {what}" for what in self.findings.wrong]
         return "\n".join([*lines, *(f"CAN'T TELL: {what}" for what in self.findings.unknown)])
 
     def json(self) -> str:
         """The same for a program."""
         found = {"status": self.exit_status(), "wrong": self.findings.wrong, "unknown": self.findings.unknown,
-                 "certificate_days": self.certificate_days, "shards": [shard._asdict() for shard in self.shards]}
+                 "at_work": self.at_work, "certificate_days": self.certificate_days,
+                 "shards": [shard._asdict() for shard in self.shards]}
         return json.dumps(found)
 
 
@@ -131,6 +137,16 @@ def led_elsewhere(settings: Settings, shard: int, known: dict[str, str], lists: 
                      "removed is taken out of the map by pdpd-shards remap; or an older backup was put back")
 
 
+def last_words(settings: Settings, shard: int) -> str:
+    """What the log of a shard that is away ends with, in words; nothing where that is how it begins."""
+    by = supervisor.of(settings)
+    try:
+        line = by.last_line(by.SHARD.format(shard))
+    except OSError:
+        return ""
+    return f". Its log ends with: {line}" if line and not line.endswith(": begins") else ""
+
+
 def state_of(settings: Settings, shard: int, lists: dict[int, list[str]],
              findings: Findings) -> tuple[str | None, int | None]:
     """The state of a shard, and how many domains it has, which go into `lists`."""
@@ -140,11 +156,12 @@ def state_of(settings: Settings, shard: int, lists: dict[int, list[str]],
         findings.cannot_tell(f"how shard {shard} is: {words_of(fault)}")
         return None, None
     except Wrong as fault:
-        findings.add(str(fault))
-        if isinstance(fault, (talk.NoProxy, BadToken)):
+        findings.add(f"{fault}{last_words(settings, shard) if type(fault) is Wrong else ''}")
+        if isinstance(fault, BadToken):
             return ("up" if listener.is_own(settings, shard) else "down"), None
         return {talk.OtherToken: "up", listener.Impostor: "taken"}.get(type(fault), "down"), None
     lists[shard] = names
+    front.look_whether_reached(settings, shard, findings)
     return "up", len(names)
 
 
@@ -157,7 +174,7 @@ def digest_of(path: str | os.PathLike[str]) -> str:
     return digest.hexdigest()
 
 
-def program_of(settings: Settings, shard: int, installed: str | None, findings: Findings) -> str | None:
+def program_of(settings: Settings, shard: int, installed: str | None, is_up: bool, findings: Findings) -> str | None:
     """The SHA-256 of the program that a shard runs; nothing where it runs none. Its open files are looked at, too."""
     with findings.looking(f"the program of shard {shard}"):
         process = supervisor.of(settings).pid(shard)
@@ -168,14 +185,14 @@ def program_of(settings: Settings, shard: int, installed: str | None, findings: 
             removed = trial.removed_files(settings.folder(shard), process)
         except (FileNotFoundError, ProcessLookupError):
             return None  # (it has ended meanwhile)
-        if installed and found != installed:
+        if installed and found != installed and is_up:  # (else it may be what starts it, again and again)
             findings.add(f"shard {shard} runs another program (SHA-256 {found[:SHOWN]}) than {settings.program} "
                          f"({installed[:SHOWN]}): pdpd-shards upgrade")
         for name in removed:
             findings.add(f"{settings.folder(shard) / name} was removed while the program of shard {shard} has it open, "
                          f"and all of it is lost once that ends. Don't restart it: run pdpd-shards backup {shard}, "
                          "which takes it from the program, and put that backup back")
-        return found
+        return found if is_up or found == installed else None
     return None
 
 
@@ -198,22 +215,33 @@ def look_at_disk(settings: Settings, shard: int, findings: Findings) -> int | No
 
 
 def look_at_disks(settings: Settings, findings: Findings) -> None:
-    """Whether there is room on the disks of all shards and of the backups."""
-    for name, path in (("DATA", settings.data), ("BACKUPS", settings.backups)):
+    """Whether there is room on the disks of all shards, of the backups and of the logs; and whether the tools can write
+    what they write."""
+    logs = {"the logs": supervisor.LOGS} if settings.supervisor == "runit" else {}
+    places = {"DATA": settings.data, "BACKUPS": settings.backups, **logs, "SOCKETS": settings.sockets,
+              str(LOCKS): LOCKS}
+    for name, path in places.items():
         with findings.looking(f"the disk of {name}"):
             if os.path.exists(path) and (found := room.on_disk_of(path)).is_scarce():
                 findings.add_once(os.stat(path).st_dev, f"the disk of {name} {found.text()}")
+    shards = [settings.folder(shard) for shard in range(settings.shards)]
+    for path in (*shards, settings.backups, settings.haproxy_etc, FILE.parent, *logs.values(), settings.sockets, LOCKS):
+        with findings.looking(f"the file system of {path}"):
+            if os.path.exists(path) and (fault := room.fault_of(path)):
+                findings.add_once((os.stat(path).st_dev, fault), f"the file system of {path} {fault}")
 
 
-def look_at_map(settings: Settings, findings: Findings) -> dict[str, str] | None:
+def look_at_map(settings: Settings, is_at_work: bool, findings: Findings) -> dict[str, str] | None:
     """What the map's file says; nothing where it can't be read, or where it isn't known by which number domains are led
     that it hasn't. It tells of what was cut."""
     known = None
     with findings.looking("the map"):
+        applied.refuse_left_behind(settings)
         talk.refuse_other_count(settings)
         known = talk.map_in_file(settings)
     for name, place in (known or {}).items():
-        if place == "moving":
+        # (a tool that is at work may have it so)
+        if place == "moving" and not is_at_work:
             findings.add("no domain can be made: a growth was cut; give pdpd-shards grow again, or remap"
                          if name == "NEW" else
                          f"{name} is moving: if nobody moves it now, give pdpd-shards move again")
@@ -222,29 +250,44 @@ def look_at_map(settings: Settings, findings: Findings) -> dict[str, str] | None
 
 def shard_report(settings: Settings, shard: int, lists: dict[int, list[str]], installed: str | None,
                  findings: Findings) -> Shard:
-    """How a shard is."""
-    with findings.looking(f"how shard {shard} is"):
-        if os.path.lexists(settings.folder(shard) / MARK):
-            findings.add(f"a backup was put back in part in shard {shard}: give pdpd-shards put-back again")
+    """How a shard is, where it was started."""
+    own = settings
     with findings.looking(f"the settings of shard {shard}"):
+        own = applied.where_it_is(settings, shard)
+        applied.refuse_left_behind(settings)
         if changed := applied.changed(settings, shard):
             findings.add(f"{', '.join(changed)} of {FILE} isn't what shard {shard} was started with: pdpd-shards "
-                         f"{'config --write, then ' if 'FIRST_PORT' in changed else ''}restart")
+                         f"{'config --write, then ' if {*applied.PLACES} & {*changed} else ''}restart")
+    with findings.looking(f"how shard {shard} is"):
+        if os.path.lexists(own.folder(shard) / MARK):
+            findings.add(f"a backup was put back in part in shard {shard}: give pdpd-shards put-back again")
     with findings.looking(f"the files of shard {shard}"):
-        standing.look_at_store(settings, shard, findings)
-    state, count = state_of(settings, shard, lists, findings)
-    return Shard(shard, state, count, *sizes(settings, shard, findings), look_at_disk(settings, shard, findings),
-                 age_of_backup(settings, shard, findings), program_of(settings, shard, installed, findings),
+        standing.look_at_store(own, shard, findings)
+    state, count = state_of(own, shard, lists, findings)
+    return Shard(shard, state, count, *sizes(own, shard, findings), look_at_disk(own, shard, findings),
+                 age_of_backup(settings, shard, findings), program_of(own, shard, installed, state == "up", findings),
                  replicas.look(settings, shard, findings))
+
+
+def goes_on(tool: str | None, findings: Findings) -> bool:
+    """Whether a tool is at work. It tells of one that stands still, as by ^Z at its terminal."""
+    process = re.search(r"\(process (\d+),", tool or "")
+    if process and is_stopped(process[1]):
+        findings.add(f"{tool} stands still, and all other tools wait for it: kill -CONT {process[1]} has it go on")
+        return False
+    return tool is not None
 
 
 def report(settings: Settings) -> Report:
     """How all is."""
-    findings, installed, lists = Findings(), None, {}
-    known = look_at_map(settings, findings)
+    findings, installed, lists, tool = Findings(), None, {}, at_work()
+    known = look_at_map(settings, goes_on(tool, findings), findings)
     with findings.looking("the program that is installed"):
         settings.refuse_no_program()
         installed = digest_of(settings.program)
+        standing.refuse_unrunnable(settings)
+    with findings.looking("what HAProxy was started with"):
+        applied.of(settings, applied.PROXY)
     shards = [shard_report(settings, shard, lists, installed, findings) for shard in range(settings.shards)]
     for shard in lists if known is not None else ():
         led_elsewhere(settings, shard, known, lists, findings)
@@ -255,7 +298,7 @@ def report(settings: Settings) -> Report:
     with findings.looking("the shards' ports"):
         if found := listener.warning(settings):
             findings.add(found)
-    return Report(shards, days, findings)
+    return Report(shards, days, findings, tool)
 
 
 def report_of_file() -> Report:
@@ -263,4 +306,4 @@ def report_of_file() -> Report:
     findings = Findings()
     with findings.looking(str(FILE)):
         return report(read())
-    return Report([], None, findings)
+    return Report([], None, findings, at_work())

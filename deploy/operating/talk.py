@@ -1,26 +1,21 @@
-"""What is asked of HAProxy while it runs, by its admin socket, and of a shard, through the frontend `inner`."""
+"""What is asked of HAProxy while it runs, by its admin socket; and of a shard, through the frontend `inner`, or, where
+a token is shown, on a connection to its own program."""
 import contextlib
 import http.client
 import os
 import re
-import secrets
 import socket
 import subprocess
-import threading
 import time
 import zlib
 
-from . import applied, listener
+from . import applied, listener, supervisor
 from .owned import owner_of
-from .settings import DOMAIN, FILE, Wrong, domains_in, put_off_signals, text_of, words_of, write_whole
+from .settings import DOMAIN, FILE, Wrong, domains_in, text_of, words_of, write_whole
 
 # how long a message may wait for its turn, and then for its reply (`timeout queue`, `timeout server`)
 QUEUE, SERVER = 10, 12
 LONGEST = QUEUE + SERVER
-# how long messages are held back for a tool that doesn't renew it, in seconds
-LEASE = 10
-# after how long a message that has been led to a shard is in its queue
-TURN = 0.02
 # after how long a process of HAProxy has gone once another has begun (`hard-stop-after`)
 HARD_STOP = 15
 # how many bytes of a reply are read: HAProxy's user may write without an end
@@ -40,7 +35,8 @@ class NoProxy(Wrong, ConnectionError):
 def no_proxy(settings, socket_name, fault):
     """What is told then."""
     return NoProxy(f"HAProxy doesn't answer at {settings.haproxy_run}/{socket_name} ({words_of(fault)}): it doesn't "
-                   "run, and pdpd-shards services starts it, or its log says why")
+                   "run, and pdpd-shards services starts it, as one that lost its sockets to another one; or its log "
+                   "says why")
 
 
 def admin_reply(settings, command):
@@ -89,8 +85,27 @@ def shard_reply(settings, shard, method, path, token, *, in_turn=False, timeout=
         connection.close()
 
 
+class Own(http.client.HTTPConnection):
+    """A connection to a shard's own program, and to nobody else."""
+
+    def __init__(self, settings, shard, timeout):
+        super().__init__("pdpd", timeout=timeout)
+        self.settings, self.shard = settings, shard
+
+    def connect(self):
+        self.sock = listener.connect(self.settings, self.shard, self.timeout)
+
+
+def own_reply(settings, shard, method, path, token, timeout=30.0):
+    """The status and the body of a shard's reply on such a connection."""
+    with contextlib.closing(Own(settings, shard, timeout)) as connection:
+        connection.request(method, path, None, {"Authorization": f"Bearer {token}"})
+        reply = connection.getresponse()
+        return reply.status, reply.read(MOST)
+
+
 def is_up(settings, shard, timeout=5.0):
-    """Whether the shard answers, by its own program."""
+    """Whether the shard answers through HAProxy, by its own program."""
     try:
         # without a token: 401
         status, _ = shard_reply(settings, shard, "GET", "/operator/domains", "-", timeout=timeout)
@@ -114,33 +129,15 @@ def refuse_another(settings, shard):
 
 
 def wait_until_up(settings, shard, seconds=30.0):
-    """Waits until the shard answers, by its own program."""
+    """Waits until the shard answers, by its own program, which reads its whole file before."""
     end = time.time() + seconds
     while not is_up(settings, shard):
         refuse_another(settings, shard)
         if time.time() > end:
-            raise Wrong(f"shard {shard} doesn't answer; its log says why")
+            by = supervisor.of(settings)
+            raise Wrong(f"shard {shard} doesn't answer after {seconds:.0f} s: its log says why, or it still starts, "
+                        f"as pdpd-shards status tells ({by.log_of(by.SHARD.format(shard))})")
         time.sleep(0.05)
-
-
-def wait_for_turn(settings, shard):
-    """Waits until all messages that are in the shard's queue now have been answered, or have left it."""
-    end = time.time() + 2 * LONGEST
-    while time.time() < end:
-        began = time.time()
-        try:
-            status, _ = shard_reply(settings, shard, "GET", "/operator/domains", "-", in_turn=True)
-        except NO_REPLY:
-            status = 0
-        if status == 401:
-            return
-        if status == 503:
-            # It is down, and nothing is under way; or the question has waited as long as any message may, and
-            # what is being answered has its own time.
-            time.sleep(SERVER if time.time() - began > QUEUE - 1 else 0)
-            return
-        time.sleep(0.1)
-    raise Wrong(f"shard {shard} doesn't answer: nothing was changed")
 
 
 def domains_of(settings, shard):
@@ -148,14 +145,11 @@ def domains_of(settings, shard):
     token = settings.operator()
     listener.wait_for_own(settings, shard)
     try:
-        if asked_port(settings, shard) != settings.port(shard):
-            raise Wrong(f"HAProxy asks shard {shard} at another port than FIRST_PORT says: pdpd-shards config --write, "
-                        f"and pdpd-shards restart {shard}")
-        status, body = shard_reply(settings, shard, "GET", "/operator/domains", token)
-    except (NoProxy, PermissionError):
+        status, body = own_reply(settings, shard, "GET", "/operator/domains", token)
+    except PermissionError:
         raise
     except NO_REPLY as fault:
-        raise no_proxy(settings, "inner.sock", fault) from None
+        raise Wrong(f"shard {shard} gives no reply ({words_of(fault)}): its log says why") from None
     if status == 401:
         raise OtherToken(f"shard {shard} was started with another operator's token: pdpd-shards restart {shard}")
     if status != 200:
@@ -244,70 +238,30 @@ def set_while_it_runs(settings, changes):
             raise Wrong(f"HAProxy: {fault}")
 
 
-def lease():
-    """How long something is held, and a name that no lease had before: HAProxy counts from when it first sees it."""
-    return f"{LEASE}/{secrets.token_hex(8)}"
-
-
 def asked_port(settings, shard):
-    """The port at which the HAProxy that runs asks a shard."""
+    """The port at which the HAProxy that runs asks a shard; 0 where it does so at a socket."""
     rows = [line.split() for line in admin_reply(settings, f"show servers state shard{shard}").splitlines()]
     heads = next((row[1:] for row in rows if row[:1] == ["#"]), [])
     return next((int(row[heads.index("srv_port")]) for row in rows if row[1:2] == [f"shard{shard}"]), None)
 
 
+def asks_elsewhere(settings):
+    """Whether the HAProxy that runs asks the shards at ports and the settings have sockets, or the other way, or has
+    their sockets in another folder: it can't be told so while it runs."""
+    asked = asked_port(settings, 0)
+    if asked == 0 and settings.first_port is None:
+        return f"PDPD_SOCKETS={settings.sockets}" not in admin_reply(settings, "show env PDPD_SOCKETS").splitlines()
+    return asked is not None and bool(asked) != (settings.first_port is not None)
+
+
 def lead(settings, shard):
     """Has the HAProxy that runs ask a shard, which was just started, and at the port of the settings."""
-    said = admin_reply(settings, f"set server shard{shard}/pdpd addr 127.0.0.1 port {settings.port(shard)}").strip()
-    # (HAProxy 3.0 says `nothing changed`)
-    if not re.search("port changed|no need to change the port|nothing changed", said):
-        raise Wrong(f"HAProxy: {said}")
+    if settings.first_port is not None and asked_port(settings, shard):
+        said = admin_reply(settings, f"set server shard{shard}/pdpd addr 127.0.0.1 port {settings.port(shard)}").strip()
+        # (HAProxy 3.0 says `nothing changed`)
+        if not re.search("port changed|no need to change the port|nothing changed", said):
+            raise Wrong(f"HAProxy: {said}")
     admin_reply(settings, f"set server shard{shard}/pdpd state ready")
-
-
-def renew_lease(settings, is_over):
-    """Renews what is held until that is over."""
-    while not is_over.wait(1):
-        # (a HAProxy that isn't there holds nothing)
-        with contextlib.suppress(OSError, Wrong):
-            set_while_it_runs(settings, {"HELD": lease()})
-
-
-@contextlib.contextmanager
-def keep_lease(settings):
-    """What is held stays so meanwhile, and not for long where this process is killed."""
-    is_over = threading.Event()
-    thread = threading.Thread(target=renew_lease, args=(settings, is_over), daemon=True)
-    try:
-        # a thread takes no signal that the tool has put off (one that has come meanwhile ends the tool from here)
-        with put_off_signals():
-            thread.start()
-        yield
-    finally:
-        is_over.set()
-        if thread.is_alive():
-            thread.join()
-
-
-@contextlib.contextmanager
-def hold_messages(settings, *shards):
-    """Nothing is under way at these shards meanwhile: HAProxy holds their messages back (domains.lua).
-
-    So nothing is lost where their programs are ended. Should this be killed, it lets them go by itself after a while.
-    """
-    for shard in shards:
-        refuse_another(settings, shard)
-    keys = [f"SHARD{shard}" for shard in shards]
-    # LAST comes last: a list that sees it anew sees what is held, too
-    set_while_it_runs(settings, {**{key: "held" for key in keys}, "HELD": lease(), "LAST": time.time_ns()})
-    try:
-        with keep_lease(settings):
-            time.sleep(TURN)
-            for shard in shards:
-                wait_for_turn(settings, shard)
-            yield
-    finally:
-        set_while_it_runs(settings, {"HELD": None, **{key: None for key in keys}})
 
 
 # ---- its files and its processes
@@ -317,7 +271,13 @@ def check(path):
     # (with -q it wouldn't say why; and cron's PATH hasn't the folder where HAProxy is)
     words = ["haproxy", "-c", "-f", str(path)]
     surroundings = {**os.environ, "PATH": f"{os.environ.get('PATH', os.defpath)}:/usr/sbin:/sbin"}
-    result = subprocess.run(words, capture_output=True, text=True, check=False, env=surroundings)
+    # (it asks the terminal for the words of a key that has some, and takes no folder that was removed)
+    how = {"stdin": subprocess.DEVNULL, "start_new_session": True, "cwd": "/"}
+    try:
+        result = subprocess.run(words, capture_output=True, text=True, check=False, env=surroundings, **how)
+    except OSError as fault:
+        raise Wrong(f"HAProxy's program can't be run ({words_of(fault)}), and HAProxy couldn't start again: install "
+                    "its package") from None
     if result.returncode != 0:
         reasons = [line for line in result.stderr.splitlines() if line.startswith("[ALERT]")]
         raise Wrong("\n".join([f"HAProxy doesn't take {path}:", *(reasons or [result.stderr.strip()])]))
@@ -348,6 +308,16 @@ def shards_in_configuration(settings):
     path = settings.map.with_name("haproxy.cfg")
     line = re.search(r"setenv PDPD_SHARDS (\d+)", text_of(path)) if path.exists() else None
     return int(line[1]) if line else None
+
+
+def is_there(settings, seconds=10.0):
+    """Whether HAProxy answers within that time."""
+    end = time.monotonic() + seconds
+    while time.monotonic() < end:
+        with contextlib.suppress(NoProxy):
+            return info(settings, "Pid") > 0
+        time.sleep(0.1)
+    return False
 
 
 def info(settings, name):

@@ -1,6 +1,6 @@
 """Opens a copy of a backup by pdpd, as the user of the shards: a copy that the program refuses is no backup.
 
-The program gets a token of its own. Its port is none of the shards', and wants the same right as theirs.
+The program gets a token of its own, and a socket that its user alone can reach.
 """
 from __future__ import annotations
 
@@ -18,17 +18,14 @@ import threading
 import time
 from collections.abc import Iterator
 
-from . import listener
+from .listener import connection_to, peer_of
 from .owned import PATIENCE, Folder, User, as_user, copy_file, owner_of, run, surroundings
-from .settings import NUMBERS, Wrong, domains_in, put_off_signals
+from .settings import LOCKS, Wrong, domains_in, put_off_signals
 
 STORE = "pdpd.db"
 FILES = STORE, "pdpd.db-wal"
-# the right by which a shard's program takes a port below 1024
-RIGHT = "net_bind_service"
-# How many connections the program serves: others of this machine may come before the tool, and one of them may be
-# silent for so many seconds.
-CONNECTIONS, IDLE = 1000, 1
+# the folder of its socket, within that of the tools' lock: its path isn't longer than a socket's may be
+SOCKETS = "tried"
 # how many bytes the program may answer, and how many letters of what it writes are told
 MOST, TOLD = 2 ** 26, 1000
 
@@ -77,16 +74,24 @@ def copy_opened(source: Folder, target: Folder, name: str, opened: str) -> None:
         os.close(file)
 
 
-def port_of(settings) -> int:
-    """The port of a trial, behind those of all shards that there may be. One tool at a time has a trial."""
-    _, most = NUMBERS["SHARDS"]
-    return settings.first_port + most
+class Connection(http.client.HTTPConnection):
+    """A connection to a program at a socket, and to nobody else there."""
+
+    def __init__(self, path: str, process: int):
+        super().__init__("pdpd", timeout=PATIENCE)
+        self.path, self.process = path, process
+
+    def connect(self) -> None:
+        self.sock = connection_to(self.path, PATIENCE)
+        if peer_of(self.sock).process != self.process:
+            self.sock.close()
+            raise Wrong(f"another program has the socket {self.path}, at which the copy is tried")
 
 
-def domains_at(port: int, token: str) -> list[str]:
-    """The domains that the program at the port lists."""
-    connection = http.client.HTTPConnection("127.0.0.1", port, timeout=PATIENCE)
-    fields = {"Authorization": f"Bearer {token}", "Connection": "close"}
+def domains_at(path: str, process: int, token: str) -> list[str]:
+    """The domains that a program at a socket lists."""
+    connection = Connection(path, process)
+    fields = {"Authorization": f"Bearer {token}"}
     with contextlib.closing(connection):
         connection.request("GET", "/operator/domains", headers=fields)
         # what takes its time byte by byte holds the lock `alone` no longer than this
@@ -121,18 +126,28 @@ def wait_until_listening(server: subprocess.Popen[bytes]) -> None:
 
 
 @contextlib.contextmanager
-def serve(settings, folder: pathlib.Path, user: User) -> Iterator[int]:
-    """Runs pdpd over the files of a folder, and gives its port."""
-    port = port_of(settings)
-    words = [settings.program, "serve", folder / STORE, f"127.0.0.1:{port}", folder / "token", CONNECTIONS]
+def socket_folder(user: User) -> Iterator[str]:
+    """The path of a socket that the user can make, in a folder of the user's."""
+    LOCKS.mkdir(mode=0o711, exist_ok=True)
+    with Folder(LOCKS) as above:
+        above.clear(SOCKETS)
+        with above.new_folder(SOCKETS) as made:
+            os.fchown(made.fd, *user)
+        try:
+            yield f"{LOCKS}/{SOCKETS}/socket"
+        finally:
+            above.clear(SOCKETS)
+
+
+@contextlib.contextmanager
+def serve(settings, folder: pathlib.Path, path: str, user: User) -> Iterator[int]:
+    """Runs pdpd over the files of a folder at a socket, and gives its process."""
+    words = [settings.program, "listen", folder / STORE, f"unix:{path}", folder / "token"]
     how = {"stdin": subprocess.DEVNULL, "stdout": subprocess.PIPE, "stderr": subprocess.STDOUT}
-    with subprocess.Popen(as_user(user, words, RIGHT), env=surroundings(PDPD_IDLE=IDLE), **how) as server:
+    with subprocess.Popen(as_user(user, words), env=surroundings(), **how) as server:
         try:
             wait_until_listening(server)
-            found = listener.at_port(port)
-            if not found or not listener.has_open(server.pid, found):
-                raise Wrong(f"another program has the port {port}, at which the copy is tried")
-            yield port
+            yield server.pid
         finally:
             server.kill()
 
@@ -166,8 +181,8 @@ def domains_in_folder(settings, shard: int, source: Folder) -> list[str]:
                 copy_files(source, tried, user)
                 tried.write("token", f"{token}\n", user)
                 os.fchown(tried.fd, *user)
-                with serve(settings, tried.path, user) as port:
-                    return domains_at(port, token)
+                with socket_folder(user) as path, serve(settings, tried.path, path, user) as process:
+                    return domains_at(path, process, token)
         except (http.client.HTTPException, KeyError, TypeError, ValueError) as fault:
             raise Wrong(f"a program over the copy answers otherwise than pdpd: {fault!r}") from None
         finally:

@@ -1,19 +1,17 @@
 """Kills a pdpd that is stuck, so that its supervisor starts it again.
 
 Each second each shard is asked for a decision, on a connection of the watchdog's own: so nothing that clients do
-at HAProxy counts. The question waits for the messages that HAProxy has sent before, and for no other: there are
-MAXCONN of them at the most. Stuck is a program that takes connections and gives no reply for five seconds for each of
-these. That is more than a decision request may take under the limit of work that is set by default. Its process is
-killed; what it has answered is kept. A shard that takes no connections is down, or still opening its file: its
-supervisor's affair. So is one that has begun to take them meanwhile. One whose port another program has is taken, and
-nothing is killed.
-
-With KEEP=1 HAProxy has the one connection that a program serves. Then it is asked through HAProxy, and stuck is what
-gives HAProxy itself no reply on an established connection (504), which takes from 12 to 24 seconds.
+at HAProxy counts. A program answers one message of each connection in a turn, so the question waits for one of each
+that is open, and for no other. Stuck is a program that takes connections and gives no reply for five seconds for each
+eight that it has open, by the kernel's list: 0.6 s is the most that a decision request may take under the limits that
+are set by default. Its process is killed; what it has answered is kept. A shard that takes no connections is down, or
+still opening its file: its supervisor's affair. So is one that has begun to take them meanwhile. One whose place
+another program has is taken, and nothing is killed.
 """
 import contextlib
-import http.client
+import math
 import os
+import select
 import signal
 import sys
 import threading
@@ -22,12 +20,14 @@ import time
 from . import applied, listener, room, supervisor, talk
 from . import settings as setting
 
-# how long a message may take, and how long is waited between two looks, in seconds
-LIMIT, PAUSE = 5.0, 1.0
+# how long one message of each of so many connections may take, and how long is waited between two looks, in seconds
+LIMIT, OF_SO_MANY, PAUSE = 5.0, 8, 1.0
+# connections of the watchdog's own: one to look who listens, and that of the question
+OURS = 2
 # for so many seconds after a kill no other shard is killed by one look alone
 ROUND = 10.0
 # a domain that isn't there, and no token: 401 shows that it answers
-QUESTION = "POST", "/domains/watchdog/pdp", b"{}"
+QUESTION = b"POST /domains/watchdog/pdp HTTP/1.1\r\nHost: pdpd\r\nContent-Length: 2\r\n\r\n{}"
 
 
 class Kills:
@@ -51,36 +51,26 @@ KILLS = Kills()
 OWN = {}
 
 
-def patience(settings):
-    """How long a shard may give no reply, in seconds: it serves one connection after another, and MAXCONN of HAProxy's
-    may stand before the question."""
-    return LIMIT * settings.maxconn
+def patience(settings, shard):
+    """How long a shard may give no reply, in seconds, by the connections that it has open beside the watchdog's."""
+    return LIMIT * max(1, math.ceil((listener.connections(settings, shard) - OURS) / OF_SO_MANY))
 
 
 def asked(settings, shard):
     """Whether a shard is `up`, is `silent` though it takes a connection, or is `down`: on a connection of our own."""
-    method, path, body = QUESTION
-    connection = http.client.HTTPConnection("127.0.0.1", settings.port(shard), timeout=patience(settings))
+    began, left = time.monotonic(), LIMIT
     try:
-        connection.request(method, path, body, {"Connection": "close"})
-        connection.getresponse()
-    except TimeoutError:
+        with listener.dial(settings, shard, LIMIT) as connection:
+            connection.sendall(QUESTION)
+            while not select.select([connection], [], [], left)[0]:
+                left = patience(settings, shard) - (time.monotonic() - began)
+                if left <= 0:
+                    return "silent"
+            return "up" if connection.recv(1) else "down"
+    except (TimeoutError, BlockingIOError):
         return "silent"
-    except talk.NO_REPLY:
+    except OSError:
         return "down"
-    finally:
-        connection.close()
-    return "up"
-
-
-def asked_by_proxy(settings, shard):
-    """The same through HAProxy, by what it says of its own connection to the shard."""
-    method, path, body = QUESTION
-    try:
-        status, _ = talk.shard_reply(settings, shard, method, path, "-", timeout=talk.LONGEST + 5, body=body)
-    except talk.NO_REPLY:
-        return "down"  # HAProxy isn't there, has no room for the question, or has cut its reply
-    return {502: "down", 503: "down", 504: "silent"}.get(status, "up")
 
 
 def is_own(settings, shard, socket):
@@ -92,18 +82,25 @@ def is_own(settings, shard, socket):
     return True
 
 
+def taken_at(settings, shard):
+    """Who takes a shard's connections; who did before, where its door is full."""
+    try:
+        return listener.at(settings, shard)
+    except BlockingIOError:
+        return OWN.get(shard)
+
+
 def shard_state(settings, shard):
     """`up`, `stuck`, `down` or `taken`, and the socket that took connections before."""
-    port = settings.port(shard)
-    before = listener.at_port(port)
+    before = taken_at(settings, shard)
     if before is None:
         return "down", None
     if not is_own(settings, shard, before):
         return "taken", before
-    now = (asked_by_proxy if settings.keep else asked)(settings, shard)
+    now = asked(settings, shard)
     if now == "silent":
         # (the question may have waited for a program that has only just begun)
-        now = "stuck" if listener.at_port(port) == before else "down"
+        now = "stuck" if taken_at(settings, shard) == before else "down"
     return now, before
 
 
@@ -113,10 +110,10 @@ def kill(settings, shard, before):
     A tool may have started another one.
     """
     process = supervisor.of(settings).pid(shard)
-    if listener.at_port(settings.port(shard)) != before:
+    if taken_at(settings, shard) != before:
         raise setting.Wrong("the program that was stuck has gone meanwhile")
     if not process or not listener.has_open(process, before):
-        raise setting.Wrong("its program doesn't run, and another one has its port")
+        raise setting.Wrong("its program doesn't run, and another one has its place")
     with contextlib.suppress(ProcessLookupError):
         os.kill(process, signal.SIGKILL)
 
@@ -150,11 +147,11 @@ def look_at_disk(shard, before):
 
 
 def led(settings, shard, now):
-    """Has HAProxy send nothing to a shard's port that another user's program has, and ask it again once it is up: what
+    """Has HAProxy send nothing to a shard's place that another user's program has, and ask it again once it is up: what
     is told of that."""
     try:
         # (a port that was only set by now, and that nobody asks, says nothing of the shard)
-        if now == "taken" and talk.asked_port(settings, shard) == settings.port(shard):
+        if now == "taken" and talk.asked_port(settings, shard) == (settings.port(shard) or 0):
             talk.refuse_another(settings, shard)
         elif now == "taken":
             return f": {listener.another(settings, shard)}"

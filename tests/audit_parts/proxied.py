@@ -170,9 +170,9 @@ def hashed():
     """DECISION_REQUESTS=digest: a line has no attribute of anybody, and can't be worked out again."""
     if not is_there():
         return
-    with Proxied("hashed", DECISION_REQUESTS="digest", RETRY=1) as proxied:
+    with Proxied("hashed", DECISION_REQUESTS="digest") as proxied:
         make(proxied)
-        expect("a decision, with RETRY=1", status_of(ask(proxied)), 200)
+        expect("a decision", status_of(ask(proxied)), 200)
         expect("the line comes", wait_until(lambda: decision_lines(proxied)), True)
         held = json.loads(decision_lines(proxied)[0])
         expect("what it has", sorted(held), ["begin", "domain", "end", "reply", "request_digest", "status", "who"])

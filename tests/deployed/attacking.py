@@ -11,7 +11,8 @@ import threading
 from serving import PATIENCE
 
 from .clients import Client
-from .machine import PLAIN, admin, pid, port, sh, wait_until
+from .machine import PLAIN, admin, listens_at, pid, sh, wait_until
+from .machine import place as place_of
 
 WATCHDOG = pathlib.Path("/var/log/pdpd/pdpd-watchdog/current")
 
@@ -110,18 +111,16 @@ def proxy_mebibytes():
 
 
 class InPlace:
-    """In place of a shard's program something that reads each message whole, keeps it, and replies or just ends."""
+    """In place of a shard's program something that reads each message whole, keeps it, and replies or just ends its
+    connection."""
 
     def __init__(self, shard, reply=b""):
-        self.shard, self.reply, self.messages = shard, reply, []
+        self.shard, self.reply, self.messages, self.taken = shard, reply, [], []
 
     def __enter__(self):
         sh(f"sv down /etc/service/pdpd-{self.shard}")
         wait_until(lambda: not pid(self.shard), "a shard isn't ended")
-        self.socket = socket.socket()
-        self.socket.setsockopt(socket.SOL_SOCKET, socket.SO_REUSEADDR, 1)
-        self.socket.bind(("127.0.0.1", port(self.shard)))
-        self.socket.listen(128)
+        self.socket = listens_at(place_of(self.shard))
         self.thread = threading.Thread(target=self.serve)
         self.thread.start()
         return self
@@ -130,16 +129,22 @@ class InPlace:
         with contextlib.suppress(OSError):
             while True:
                 taken, _ = self.socket.accept()
-                with contextlib.suppress(OSError), taken:
-                    self.take(taken)
+                self.taken.append(taken)
+                threading.Thread(target=self.take_all, args=(taken,), daemon=True).start()
+
+    def take_all(self, taken):
+        taken.settimeout(30)
+        with contextlib.suppress(OSError), taken:
+            while self.take(taken) and self.reply:
+                pass
 
     def take(self, taken):
-        taken.settimeout(5)
+        """Takes the next message of a connection, if there is one."""
         data, whole = b"", None
         while whole is None or len(data) < whole:
             more = taken.recv(65_536)
             if not more:
-                return
+                return False
             data += more
             head, end, _ = data.partition(b"\r\n\r\n")
             if end:
@@ -147,12 +152,17 @@ class InPlace:
                 whole = len(head) + 4 + (int(length[1]) if length else 0)
         self.messages.append(data)
         taken.sendall(self.reply)
+        return True
 
     def __exit__(self, *what):
         with contextlib.suppress(OSError):
             self.socket.shutdown(socket.SHUT_RDWR)
         self.socket.close()
         self.thread.join()
+        for taken in self.taken:
+            # (HAProxy would keep it)
+            with contextlib.suppress(OSError):
+                taken.shutdown(socket.SHUT_RDWR)
         sh(f"sv up /etc/service/pdpd-{self.shard}")
         wait_until(lambda: pid(self.shard), "the shard isn't started again")
 

@@ -141,6 +141,30 @@ def held_by(checks, what, data, ask, shard):
     return len(wanted[2])
 
 
+# clients that take nothing of a reply, each of so many; together more than a program has places for
+CLIENTS, REPLIES = 12, 10
+
+
+def many_held(checks, ask, shard):
+    """More replies that nobody takes than a program has places for connections: it has nothing under way, and others
+    are answered."""
+    with contextlib.ExitStack() as opened:
+        held = [opened.enter_context(Http2(PLAIN, window=0, source=outside(number))) for number in range(CLIENTS)]
+        streams = [(client, client.message(slowness.ask_of_large(4))) for client in held for _ in range(REPLIES)]
+        found = Counter(client.status(stream) for client, stream in streams)
+        checks.expect("replies that nobody takes", found, {200: CLIENTS * REPLIES})
+        checks.expect("what the shard has under way", counted(f"shard{shard}", "pdpd", "scur"), 0)
+        waits = []
+        for _ in range(20):
+            began = time.time()
+            checks.expect("beside them", decision(once(ask)), "Permit")
+            waits.append(time.time() - began)
+        checks.within("the longest wait beside them", max(waits), Between(0, 3))
+        for client, stream in streams:
+            client.lets(stream, 2_000_000)
+        checks.expect("they are whole", len({client.body(stream) for client, stream in streams}), 1)
+
+
 def makes_rows(name, size):
     """Sets rows of about so many bytes."""
     row = '{"AttributeId":"a","Category":"Action","DataType":"string","Entity":"e%d","Value":"%s"}'
@@ -169,10 +193,7 @@ def windows(machine, checks):
         found = [client.message(ask_that_includes(more)) for _ in range(10)]
         checks.expect("ten at a time", [client.status(stream) for stream in found], [200] * 10)
         checks.expect("beside them", decision(once(ask)), "Permit")
-    machine.set(KEEP=1)
-    for count in (4, 16):
-        held_by(checks, f"{count} decisions with KEEP=1", slowness.ask_of_large(count), ask, shard)
-    machine.set(KEEP=0)
+    many_held(checks, ask, shard)
     checks.say(f"a window of nothing, at replies of {sizes} bytes: none held the shard")
 
 
@@ -220,30 +241,6 @@ def tokens(machine, checks):
 def from_outside(data):
     with Outsider(0) as client:
         return status(client.ask(data))
-
-
-# ---- once more
-
-def repeats(machine, checks):
-    """A message whose connection to its shard is lost is sent once more with RETRY=1 if it changes nothing."""
-    operator = machine.operator
-    operator.clear()
-    ask = operator.makes("acme")
-    shard, token, rows = int(slowness.shard_of("acme")), "acme-token-1", '{"Row":[]}'
-    twice = {"an ask": ask, "an ask?x": ask.replace(b"/pdp", b"/pdp?x"),
-             "rows": message("GET", "/domains/acme/pip", token)}
-    never = {"new rows": message("PUT", "/domains/acme/pip", token, rows),
-             "a policy": message("POST", "/domains/acme/pap/policies", token, "{}"),
-             "a deletion": message("DELETE", "/domains/acme/pap/policy/urn:p/1.0", token)}
-    for retry, count in ((1, 2), (0, 1)):
-        machine.set(RETRY=retry)
-        with InPlace(shard) as ended:
-            for what, data in (*twice.items(), *never.items()):
-                ended.messages.clear()
-                found = status(once(data)), len(ended.messages)
-                wanted = 502, count if what in twice else 1
-                checks.expect(f"RETRY={retry}: {what}, and how often it came", found, wanted)
-        wait_until(lambda: decision(once(ask)) == "Permit", "the shard isn't there again")
 
 
 # ---- bodies without a length
@@ -362,7 +359,7 @@ def clock(machine, checks):
     machine.operator.clear()
     asks = many(machine, 8)
     sys.path.insert(0, str(LIBRARY))
-    from operating import settings, talk
+    from operating import holding, settings, talk
     now = settings.read()
     place = int(slowness.shard_of("d0"))
     with proxy_clock(machine.folder) as is_ahead:
@@ -370,7 +367,7 @@ def clock(machine, checks):
         is_ahead(0)
         time.sleep(1)
         ask, wanted = asks[0]
-        with talk.hold_messages(now, place), clients.Client(PLAIN) as held:
+        with holding.hold_messages(now, place), clients.Client(PLAIN) as held:
             held.send(ask)
             checks.expect("a message is held back", held.is_silent(2), True)
         with Deciders(asks, 6) as deciders:
@@ -384,4 +381,4 @@ def clock(machine, checks):
         talk.set_while_it_runs(now, {f"SHARD{(place + 1) % 4}": None, "HELD": None})
 
 
-ATTACKS = (connections, streams, lists, windows, tokens, repeats, bodies, memory, handshakes, standstill, clock)
+ATTACKS = (connections, streams, lists, windows, tokens, bodies, memory, handshakes, standstill, clock)

@@ -1,6 +1,7 @@
 """What a user of the machine tries: to be a shard, and to hold the tools up. And what the unit of backups leaves."""
 import os
 import pathlib
+import pwd
 import re
 import shlex
 import signal
@@ -15,21 +16,28 @@ from .machine import (
     LIBRARY, SETTINGS, admin, as_user, backs_up, instead_of, pid, port, sh, shards, user_words, wait_until)
 
 NOBODY = "nobody"
-# It waits until it may take connections at a port, says so, and then whatever it is sent; it answers as a shard would
-# that permits all.
+# (the test's own may be in a folder that is root's alone)
+PYTHON = "/usr/bin/python3"
+# It waits until it may take connections at a port, or at a path, says so, and then whatever it is sent; it answers as a
+# shard would that permits all.
 THIEF = """
-import re, socket, sys, time
-address = "127.0.0.1", int(sys.argv[1])
+import os, re, socket, sys, time
+is_path = sys.argv[1].startswith("/")
+address = sys.argv[1] if is_path else ("127.0.0.1", int(sys.argv[1]))
 print("waits", flush=True)
 while True:
-    listener = socket.socket()
+    listener = socket.socket(socket.AF_UNIX if is_path else socket.AF_INET)
     listener.setsockopt(socket.SOL_SOCKET, socket.SO_REUSEADDR, 1)
     try:
+        if is_path and os.path.exists(address):
+            os.unlink(address)
         listener.bind(address)
         break
     except OSError:
         listener.close()
         time.sleep(0.001)
+if is_path:
+    os.chmod(address, 0o666)
 listener.listen(100)
 print("taken", flush=True)
 while True:
@@ -45,17 +53,6 @@ while True:
     except OSError:
         pass
     connection.close()
-"""
-# It connects again and again, and says something that no token is in.
-KNOCKER = """
-import socket, sys, time
-while True:
-    try:
-        with socket.create_connection(("127.0.0.1", int(sys.argv[1])), timeout=1) as connection:
-            connection.sendall(b"GET / HTTP/1.1\\r\\n\\r\\n")
-            print("connected", flush=True)
-    except OSError:
-        time.sleep(0.001)
 """
 
 
@@ -87,13 +84,104 @@ def owner_and_mode(path):
     return sh(f"stat -c '%U %G %a %F' {path}").strip()
 
 
+# ---- a shard's socket
+
+FOLDERS = "/run/pdpd-shards"
+# tries to enter a shard's folder, to connect to its socket, and to make one beside it
+ENTERS = """
+import os, socket, sys
+for what, tries in (("lists", lambda: os.listdir(sys.argv[1])),
+                    ("connects", lambda: socket.socket(socket.AF_UNIX).connect(sys.argv[1] + "/socket")),
+                    ("makes", lambda: socket.socket(socket.AF_UNIX).bind(sys.argv[1] + "/other")),
+                    ("removes", lambda: os.unlink(sys.argv[1] + "/socket")),
+                    ("moves", lambda: os.rename(sys.argv[1], sys.argv[1] + ".away"))):
+    try:
+        tries()
+        print(what, end=" ")
+    except PermissionError:
+        pass
+"""
+
+
+def sockets(machine, checks):
+    """A shard's socket is where its user alone can make one, and HAProxy's user alone can reach it beside that. What
+    stands there in its place is told, shown no token, and leads HAProxy nowhere that matters."""
+    operator = machine.operator
+    operator.clear()
+    asks = many(machine, 8)
+    found = [owner_and_mode(f"{FOLDERS}{path}") for path in ("", "/1", "/1/socket")]
+    checks.expect("the folders and the socket", found, [
+        "root root 711 directory", "pdpd haproxy 2710 directory", "pdpd haproxy 660 socket"])
+    checks.expect("what is left of the pipe", "end" in os.listdir(f"{FOLDERS}/1"), False)
+    for user, wanted in ((NOBODY, ""), ("pdpd-replica", ""), ("haproxy", "connects ")):
+        sh(f"id {user} > /dev/null 2>&1 || useradd --system {user}")
+        said = as_user(user, shlex.join([PYTHON, "-Ic", ENTERS, f"{FOLDERS}/1"]))
+        checks.expect(f"what {user} can do", said, wanted)
+    with Local(NOBODY, THIEF, f"{FOLDERS}/1/socket") as thief, Deciders(asks, 4) as deciders:
+        wait_until(lambda: "waits" in thief.said(), "the thief doesn't begin")
+        shards("restart", 1)
+        checks.expect("what a thief gets", thief.said(), "waits\n")
+    checks.expect("no decision is lost, or another's", deciders.wrong, [])
+    planted(checks, [decision(once(ask)) for ask, _ in asks], asks)
+
+
+def led():
+    """What HAProxy has in its map, but for that a shard is away."""
+    return [line for line in admin("show map /etc/haproxy/domains.map").splitlines() if " AWAY " not in line]
+
+
+def planted(checks, right, asks):
+    """What the user of the shards may put in a socket's place: each kind is told by `status`, is asked for nothing by
+    HAProxy but what the shard's own clients ask, and keeps the shard away until it is gone."""
+    path = f"{FOLDERS}/1/socket"
+    places = [int(shards("where", f"d{number}")) for number in range(8)]
+    away = [503 if place == 1 else effect for place, effect in zip(places, right)]
+    sh("sv down /etc/service/pdpd-1")
+    wait_until(lambda: not pid(1), "a shard isn't ended")
+    before = led()
+    for what, command, told in (
+            ("a link to HAProxy's own socket", f"ln -s /run/haproxy/admin.sock {path}", "the socket of shard 1"),
+            ("a pipe", f"mkfifo {path}", "shard 1 takes no connections"),
+            ("a file", f"echo > {path}", "shard 1 takes no connections")):
+        as_user("pdpd", f"rm -f {path}; {command}")
+        said = asked_status()
+        checks.expect(f"{what}, as status tells it: {said}", told in said, True)
+        checks.expect(f"{what}: what clients are answered", [decision(once(ask)) for ask, _ in asks], away)
+    checks.expect("what HAProxy was told", led(), before)
+    as_user("pdpd", f"rm -f {path}")
+    with Local("pdpd", THIEF, path) as thief:
+        wait_until(lambda: "taken" in thief.said(), "the thief doesn't begin")
+        said = asked_status()
+        uid = pwd.getpwnam("pdpd").pw_uid
+        whose = f"another program has the socket of shard 1, {path}: user {uid} (pdpd), "
+        checks.expect(f"another program of the user: {said}", f"{whose}process {thief.process.pid}." in said, True)
+        row = re.search(r"(?m)^1 +(\w+) ", said)
+        checks.expect("its state", row and row[1], "taken")
+        for words in (("restart", 1), ("backup", 1), ("move", "d0", 0, 1), ("remap",)):
+            said = shards(*words, status=1)
+            checks.expect(f"{words}: {said}", whose in said, True)
+        operator = pathlib.Path("/etc/pdpd/token").read_text().strip()
+        checks.expect("it is shown the operator's token", operator in thief.said(), False)
+    sh("sv up /etc/service/pdpd-1")
+    wait_until(lambda: [decision(once(ask)) for ask, _ in asks] == right, "the shard isn't there again", 60)
+
+
 # ---- a shard's port
 
+def to_places(first_port):
+    """Changes where shards listen, as the page says."""
+    sh(f"sed -i 's/^FIRST_PORT=.*/FIRST_PORT={first_port}/' {SETTINGS}")
+    shards("config", "--write")
+    return shards("restart")
+
+
 def thieves(machine, checks):
-    """A user that waits for a shard's port never gets it, neither during a restart nor behind a kill, and no decision
-    is another one's."""
+    """A user that waits for a shard's port below 1024 never gets it, neither during a restart nor behind a kill, and no
+    decision is another one's."""
     machine.operator.clear()
     asks = many(machine, 8)
+    said = to_places(LOW)
+    checks.expect(f"from sockets to ports: {said}", "all shards are restarted" in said, True)
     with Local(NOBODY, THIEF, port(1)) as thief, Deciders(asks, 4, also=(None, 502, 503)) as deciders:
         wait_until(lambda: "waits" in thief.said(), "the thief doesn't begin")
         for _ in range(3):
@@ -108,18 +196,19 @@ def thieves(machine, checks):
     rights = sh(f"grep -E 'Cap(Prm|Eff|Amb)|NoNewPrivs' /proc/{pid(1)}/status").split()
     wanted = [f"{1 << 10:016x}"] * 3 + ["1"]  # CAP_NET_BIND_SERVICE (capabilities(7))
     checks.expect("the rights of a shard", rights[1::2], wanted)
+    with Deciders(asks, 4, also=(503,)) as deciders:
+        to_places("")
+    checks.expect("from ports to sockets: no decision is another's", deciders.wrong, [])
+    checks.expect("behind it", [decision(once(ask)) for ask, _ in asks], [effect for _, effect in asks])
 
 
 def impostors(machine, checks):
-    """Where FIRST_PORT is of an earlier version, a user can take a port: each tool that meets that says so, ends with
-    1, and shows it no token, and no client's message comes to it. Then the ports are changed under load, as the page
-    says."""
+    """Where FIRST_PORT is a port of everybody's, a user can take one: each tool that meets that says so, ends with 1,
+    and shows it no token, and no client's message comes to it. Then the ports are changed under load."""
     machine.operator.clear()
     asks = many(machine, 8)
     places = [int(shards("where", f"d{number}")) for number in range(8)]
-    low = port(0)
-    machine.set(FIRST_PORT=7100)
-    shards("restart")
+    to_places(7100)
     backs_up()
     said = shards("status", status=1)
     checks.expect(f"ports of everybody: {said}", "WRONG: every user of this machine can take" in said, True)
@@ -141,7 +230,8 @@ def impostors(machine, checks):
     shards("restart", 1)
     checks.expect("behind it", [decision(once(ask)) for ask, _ in asks], [effect for _, effect in asks])
     kept_from(checks, asks, places)
-    changes_ports(machine, checks, asks, low)
+    changes_ports(machine, checks, asks)
+    to_places("")
 
 
 def kept_from(checks, asks, places):
@@ -200,14 +290,16 @@ def meets(machine, checks, thief):
     checks.expect("what they leave held back", left, [])
 
 
-def changes_ports(machine, checks, asks, low):
-    """The page's way from ports of everybody to ports below 1024, under load."""
+# the first of ports that take a right
+LOW = 288
+
+
+def changes_ports(machine, checks, asks):
+    """From ports of everybody to ports below 1024, under load."""
     with Deciders(asks, 4) as deciders:
-        sh(f"sed -i 's/^FIRST_PORT=.*/FIRST_PORT={low}/' {SETTINGS}")
-        shards("config", "--write")
-        shards("restart")
+        to_places(LOW)
     checks.expect("no decision is lost while ports change", deciders.wrong, [])
-    checks.expect("the ports", [bool(listens(low + shard)) for shard in range(4)], [True] * 4)
+    checks.expect("the ports", [bool(listens(LOW + shard)) for shard in range(4)], [True] * 4)
     shards("reload")
     shards("remap")
     checks.expect("status behind it", shards("status").count(" up "), 4)
@@ -263,16 +355,19 @@ def hanging(machine, checks):
 
 # ---- the trial of a backup
 
-# It tells who runs it, with which rights and words, and what its file of the token has; then it is the program.
+# the folder of its socket
+TRIED = "/run/pdpd/tried"
+# It tells who runs it, with which rights and words, what its file of the token has, and whose its folder is; then it is
+# the program.
 TELLING = """#!/bin/sh
-{ id -un; grep CapEff /proc/self/status; echo "$@"; cat "$4"; echo; } >> /tmp/told
+{ id -un; grep CapEff /proc/self/status; echo "$@"; cat "$4"; stat -c '%U %G %a %F' /run/pdpd/tried; } >> /tmp/told
 exec /usr/local/lib/pdpd/pdpd "$@"
 """
 
 
 def trials(machine, checks):
-    """The program over a copy of a backup runs as pdpd, with a token of its own. A user who has its port has no backup
-    made, and is sent nothing; one who connects again and again stops none."""
+    """The program over a copy of a backup runs as pdpd, with a token of its own and no right, at a socket that no other
+    user can reach. One of pdpd's own that takes its place has no backup made, and is sent nothing."""
     program = LIBRARY / "telling"
     program.write_text(TELLING)
     program.chmod(0o755)
@@ -282,22 +377,41 @@ def trials(machine, checks):
         backs_up(0)
     finally:
         sh(f"sed -i '/^PROGRAM=/d' {SETTINGS}")
-    user, rights, words, token = pathlib.Path("/tmp/told").read_text().split("\n")[:4]
-    place = port(64)
-    checks.expect("who runs it", (user, rights.split()[1]), ("pdpd", f"{1 << 10:016x}"))
-    checks.expect(f"its port: {words}", f" 127.0.0.1:{place} " in words, True)
+    user, rights, words, token, mode = pathlib.Path("/tmp/told").read_text().split("\n")[:5]
+    checks.expect("who runs it", (user, rights.split()[1]), ("pdpd", f"{0:016x}"))
+    checks.expect(f"its socket: {words}", f" unix:{TRIED}/socket " in words, True)
+    checks.expect("its folder", mode, "pdpd pdpd 700 directory")
     operator = pathlib.Path("/etc/pdpd/token").read_text().strip()
     is_other = token != operator and operator not in words and len(token) >= 32
     checks.expect("its token is none that opens anything else", is_other, True)
-    with Local(NOBODY, KNOCKER, place) as knocker:
-        for _ in range(3):
-            backs_up(0)
-        checks.say(f"a trial beside a user that came {knocker.said().count('connected')} times")
-    with Local("root", THIEF, place) as thief:
-        wait_until(lambda: "taken" in thief.said(), "the port isn't taken")
+    checks.expect("what is left of it", pathlib.Path(TRIED).exists(), False)
+    taken_over(machine, checks)
+
+
+def taken_over(machine, checks):
+    """A program of pdpd's that takes the socket of the trial."""
+    program = LIBRARY / "away"
+    program.write_text(f"""#!/bin/sh
+rm -f {TRIED}/socket
+{PYTHON} -Ic "$(cat /tmp/thief)" {TRIED}/socket > /tmp/stolen 2>&1 &
+echo $! > /tmp/stolen.process
+until grep -q taken /tmp/stolen; do sleep 0.1; done
+echo listening unix:{TRIED}/socket
+exec sleep 60
+""")
+    program.chmod(0o755)
+    pathlib.Path("/tmp/thief").write_text(THIEF)
+    sh("chmod 644 /tmp/thief; install -o pdpd -m 600 /dev/null /tmp/stolen; "
+       "install -o pdpd -m 600 /dev/null /tmp/stolen.process")
+    sh(f"echo PROGRAM={program} >> {SETTINGS}")
+    try:
         said = shards("backup", 0, status=1)
-        checks.expect(f"its port is taken: {said}", "the copy isn't opened" in said, True)
-        checks.expect("what is sent there", thief.said(), "waits\ntaken\n")
+    finally:
+        sh(f"sed -i '/^PROGRAM=/d' {SETTINGS}; kill -KILL $(cat /tmp/stolen.process)")
+    checks.expect(f"another's socket: {said}", "another program has the socket" in said, True)
+    # (it is connected to, and sees nothing)
+    checks.expect("what it is sent", pathlib.Path("/tmp/stolen").read_text(), "waits\ntaken\nb''\n")
+    backs_up(0)
 
 
 # ---- the unit of backups
@@ -357,4 +471,4 @@ def elsewhere(machine, checks):
     sh("cd /etc/systemd/system && rm -r 'pdpd-backup@.service.d' haproxy.service*")
 
 
-ATTACKS = (thieves, impostors, locks, hanging, trials, confined)
+ATTACKS = (sockets, thieves, impostors, locks, hanging, trials, confined)

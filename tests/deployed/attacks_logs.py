@@ -14,7 +14,7 @@ from checks import Between
 
 from . import audit
 from .attacking import Outsider, is_there, outside
-from .attacks_local import THIEF, Local, asked_status, owner_and_mode
+from .attacks_local import THIEF, Local, asked_status, owner_and_mode, to_places
 from .clients import Load, decision, message, once, policy, status
 from .http2 import ENDS_HEADERS, ENDS_STREAM, HEADERS, RESET, Http2, block, frame
 from .machine import LIBRARY, PLAIN, SETTINGS, as_user, pid, port, sh, shards, wait_until
@@ -196,10 +196,8 @@ def handed(machine, checks):
     """Where ports are everybody's, a program that takes a shard's is shown no token by the daemon that logs changes,
     and answers none."""
     audit.switch_on(machine)
-    low = port(0)
     name = next(f"h{number}" for number in range(99) if shards("where", f"h{number}").strip() == "1")
-    machine.set(FIRST_PORT=7100)
-    shards("restart")
+    to_places(7100)
     wait_until(lambda: audit.sent("PUT", f"/operator/domains/{name}", machine.operator.token)[0] in (201, 409),
                "no change is taken")
     sh("sv down /etc/service/pdpd-1")
@@ -211,16 +209,23 @@ def handed(machine, checks):
         checks.expect("changes meanwhile", found, [503, 503])
         shown = re.findall(r"(?i)Bearer (?!-\\r)\S+", thief.said())
         checks.expect("tokens that it is shown", shown, [])
-    told = [line for line in lines_in("pdpd-replica-1") if "a program of user 65534 has pdpd's port" in line]
+    told = [line for line in lines_in("pdpd-replica-1") if "a program of user 65534 has 127.0.0.1:7101" in line]
     checks.expect("what the daemon tells", len(told) > 0, True)
-    machine.set(FIRST_PORT=low)
-    shards("restart")
+    to_places("")
     wait_until(lambda: audit.sent("PUT", f"/operator/domains/{name}", machine.operator.token)[0] in (201, 409),
                "no change is taken again")
 
 
 # changes by that many connections of each of so many addresses
 EACH, ADDRESSES = 15, 12
+
+
+def times_of_changes():
+    """For how many seconds HAProxy had each change of the tenant's, by its log. (The test's own threads wait for each
+    other on a busy machine.)"""
+    found = [re.match(r'change 127\.0\.0\.1:\d+ \S+ \S+ PUT "/domains/ward/pip" \d+ \S+/(\d+) ', line)
+             for line in lines_in("changes")]
+    return [int(match[1]) / 1000 for match in found if match]
 
 
 def awaited(machine, checks):
@@ -252,7 +257,10 @@ def awaited(machine, checks):
     checks.expect("his decisions", set(answers["a decision"]), {200})
     # (one that has no turn within ten seconds isn't made)
     checks.within("his changes", set(answers["a change"]), [{200}, {200, 503}])
-    checks.within("the seconds of his longest change", max(took["a change"]), Between(0, 15))
+    # (the one behind which the load began is logged as well)
+    wait_until(lambda: len(times_of_changes()) > len(took["a change"]), "not all of them are logged")
+    checks.say(f"by HAProxy's log the longest change took {max(times_of_changes()):.2f} s")
+    checks.within("the seconds of his longest change, by HAProxy's log", max(times_of_changes()), Between(0, 15))
     checks.within("the seconds of his longest decision", max(took["a decision"]), Between(0, 3))
 
 

@@ -18,7 +18,6 @@ from .attacks_local import Local, owner_and_mode
 from .clients import decision, message, once, read, status
 from .http2 import Http2, of_message
 from .machine import LIBRARY, PLAIN, admin, as_user, backs_up, pid, sh, shards, wait_until
-from .units import made_with
 
 PROXY, RUN = "haproxy", "/run/haproxy"
 CONFIGURATION = pathlib.Path("/etc/haproxy/haproxy.cfg")
@@ -69,7 +68,7 @@ def proxy_user(machine, checks):
     looks = "; do if cat $file > /dev/null 2>&1; then echo $file; fi; done"
     said = as_user(PROXY, f"for file in {' '.join(closed)}{looks}")
     checks.expect("what it reads", said, "")
-    places = "/etc/haproxy /etc/pdpd /run/haproxy /run/pdpd /usr/local/lib/pdpd /var/lib/pdpd /var/lib/pdpd-backups"
+    places = "/etc/haproxy /etc/pdpd /run/haproxy /run/pdpd /run/pdpd-shards /usr/local/lib/pdpd /var/lib/pdpd /var/lib/pdpd-backups"
     said = as_user(PROXY, f"find {places} -writable -not -type s 2> /dev/null || true")
     checks.expect("where it writes", said, "")
     sh("umask 077; rm -f /var/only-root; echo 'only root reads this' > /var/only-root")
@@ -84,7 +83,8 @@ def proxy_user(machine, checks):
             checks.expect("a tenant", decision(once(ask)), "Permit")
         checks.expect("what it has linked", linker.said(), "begins\n")
     given = re.findall(r'"(\S+\.sock)\.\d+\.tmp"', (machine.folder / "given").read_text())
-    checks.expect("sockets that were given away", sorted(given), [f"{RUN}/inner.sock", f"{RUN}/lists.sock"])
+    places = [f"{RUN}/{name}.sock" for name in ("again", "inner", "lists")]
+    checks.expect("sockets that were given away", sorted(given), places)
     checks.expect("the file of root's", owner_and_mode("/var/only-root"), "root root 600 regular file")
     sh("rm /var/only-root")
     shards("restart", 0)
@@ -111,15 +111,15 @@ def newer(text):
 
 
 def versions(machine, checks):
-    """For HAProxy from 2.7 on: what has no length is answered with 501, and comes to no shard; all else comes whole.
-    KEEP=1 is refused."""
+    """For HAProxy from 2.7 on: what has no length is answered with 501, and comes to no shard; all else comes whole,
+    each on a connection of its own."""
     operator = machine.operator
     operator.clear()
     ask = operator.makes("acme")
     shard, line = int(slowness.shard_of("acme")), ask.partition(b"\r\nContent-Length")[0]
     coded = line + b"\r\nTransfer-Encoding: chunked\r\n\r\n"
     conditions = re.findall(r"(?m)^ *\.(?:el)?if (.*)", CONFIGURATION.read_text())
-    checks.expect("conditions", conditions, ["version_before(2.7)"])
+    checks.expect("conditions", conditions, ["version_before(2.7)"] * 2)
     with as_version(newer), InPlace(shard, b"HTTP/1.1 200 OK\r\nContent-Length: 2\r\n\r\n{}") as seen:
         refused = {"chunked": once(coded + b"2\r\n{}\r\n0\r\n\r\n"), "chunked, empty": once(coded + b"0\r\n\r\n")}
         for what, reply in refused.items():
@@ -129,10 +129,10 @@ def versions(machine, checks):
         checks.expect("with a length", status(once(ask)), 200)
         checks.expect("with a length over HTTP/2", by_http2(ask, None), 200)
         checks.expect("without a body", status(once(message("GET", "/domains/acme/pip", "acme-token-1"))), 200)
+        checks.expect("connections", counted(f"shard{shard}", "pdpd", "reuse"), 0)
         bodies = [data.partition(b"\r\n\r\n")[2] for data in seen.messages]
         checks.expect("their bodies", bodies, [b'{"Request":{}}', b'{"Request":{}}', b""])
     wait_until(lambda: decision(once(ask)) == "Permit", "the shard isn't there again")
-    kept_open(machine, checks)
     led(checks)
 
 
@@ -148,9 +148,10 @@ def led(checks):
             "set server <b>/<s> addr requires an address and optionally a port.":
             "HAProxy: set server <b>/<s> addr requires an address and optionally a port."}
     for reply, wanted in said.items():
-        with mock.patch.object(talk, "admin_reply", return_value=f"{reply}\n"):
+        at_port = mock.patch.object(talk, "asked_port", return_value=291)
+        with mock.patch.object(talk, "admin_reply", return_value=f"{reply}\n"), at_port:
             try:
-                found = talk.lead(settings.read(), 0)
+                found = talk.lead(settings.Settings("FIRST_PORT=299"), 0)
             except settings.Wrong as fault:
                 found = str(fault)
         checks.expect(f"HAProxy says {reply}", found, wanted)
@@ -165,16 +166,6 @@ def by_http2(data, body):
         stream = client.headers(method, path, fields, ends=False)
         client.data(stream, body)
         return client.status(stream)
-
-
-def kept_open(machine, checks):
-    """KEEP=1: this version takes its file, and newer ones refuse it."""
-    found, said = made_with(machine.folder, "KEEP=1")
-    checks.expect(f"KEEP=1 here: {said}", found, 0)
-    made = machine.folder / "settings" / "haproxy.cfg"
-    (made.parent / "newer.cfg").write_text(newer(made.read_text()))
-    said = sh(f"haproxy -c -f {made.parent}/newer.cfg 2>&1 || true")
-    checks.expect(f"KEEP=1 with newer ones: {said}", "KEEP=1 is for HAProxy 2.6 alone" in said, True)
 
 
 # ---- frames of HTTP/2
@@ -227,33 +218,31 @@ def buffers_used():
     return int(re.search(r"Pool buffer .* (\d+) used", admin("show pools"))[1])
 
 
+MOST_BUFFERS = 2
+
+
 def buffers(machine, checks):
-    """Each message that waits with its body holds no more of HAProxy's buffers than the limit of all has for it: two,
-    or three if it goes through HAProxy twice."""
+    """Each message that waits with its body holds no more of HAProxy's buffers than the limit of all has for it."""
     operator = machine.operator
     operator.clear()
     ask = operator.makes("acme")
     shard = int(slowness.shard_of("acme"))
     long = message("POST", "/domains/acme/pdp", "acme-token-1", '{"Request":{"x":"%s"}}' % ("x" * BODY))
     sh("sv down pdpd-watchdog")
-    for settings, most in (({}, 2), ({"RETRY": 1}, 3), ({"RETRY": 0, "KEEP": 1}, 3)):
-        if settings:
-            machine.set(**settings)
-        limit = int(re.search(r"tune.buffers.limit (\d+)", CONFIGURATION.read_text())[1])
-        # (2,000 connections of clients, 1,000 messages, and 200 connections of the tools)
-        checks.expect(f"{settings}: the limit of all", limit, 2000 + 200 + most * 1000)
-        wait_until(lambda: decision(once(ask)) == "Permit", "the shard isn't there")
-        before = buffers_used()
-        os.kill(pid(shard), signal.SIGSTOP)
-        with outsiders(HELD // 10, 10, long):
-            wait_until(lambda: counted("pdp", "FRONTEND", "scur") == HELD, "they aren't all there")
-            time.sleep(1)
-            found = buffers_used() - before
-        os.kill(pid(shard), signal.SIGCONT)
-        checks.say(f"{settings}: {HELD} messages hold {found} buffers")
-        checks.within(f"{settings}: buffers of {HELD} messages", found, range(HELD // 2, most * HELD + 1))
+    # (2,000 connections of clients, 1,000 messages, and 200 connections of the tools; a hundred messages are led twice)
+    limit = int(re.search(r"tune.buffers.limit (\d+)", CONFIGURATION.read_text())[1])
+    checks.expect("the limit of all", limit, 2000 + 200 + 100 + MOST_BUFFERS * 1100)
+    before = buffers_used()
+    os.kill(pid(shard), signal.SIGSTOP)
+    with outsiders(HELD // 10, 10, long):
+        wait_until(lambda: counted("pdp", "FRONTEND", "scur") == HELD, "they aren't all there")
+        time.sleep(1)
+        found = buffers_used() - before
+    os.kill(pid(shard), signal.SIGCONT)
+    checks.say(f"{HELD} messages hold {found} buffers")
+    checks.within(f"buffers of {HELD} messages", found, range(HELD // 2, MOST_BUFFERS * HELD + 1))
+    wait_until(lambda: decision(once(ask)) == "Permit", "the shard isn't there")
     sh("sv up pdpd-watchdog")
-    machine.set(KEEP=0)
 
 
 ATTACKS = (proxy_user, versions, frames, buffers)

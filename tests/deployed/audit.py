@@ -6,7 +6,9 @@ import re
 import subprocess
 import time
 
-from .clients import Load
+from checks import Between
+
+from .clients import Load, Makers
 from .machine import LIBRARY, PAGE, PLAIN, SETTINGS, TOP, backs_up, sh, shards, wait_until
 
 DECISIONS, ARCHIVES = pathlib.Path("/var/log/pdpd-decisions"), pathlib.Path("/var/lib/pdpd-replica")
@@ -192,6 +194,17 @@ def kept(operator, checks):
                   {(path.owner(), f"{path.stat().st_mode & 0o777:o}") for path in files}, {("pdpd-replica", "600")})
     found = {(path.owner(), path.group(), f"{path.stat().st_mode & 0o777:o}") for path in DECISIONS.glob("*.log")}
     checks.expect("and the lines of decisions", found, {("pdpd-replica", "pdpd-replica", "640")})
+
+
+def restarted_logged(machine, checks):
+    """Restarts in a stream of changes that are logged: each is answered, and none is made twice."""
+    switch_on(machine)
+    with Makers(machine.operator, "logged", pause=0.02) as makers:
+        for _ in range(2):
+            shards("restart")
+    checks.expect("changes without success", (makers.wrong, makers.unanswered), ([], []))
+    checks.within("those that were made", len(makers.acknowledged), Between(20))
+    checks.expect("and are there", {*makers.acknowledged} - {*machine.operator.names()}, set())
 
 
 def killed_logged(machine, checks):

@@ -239,17 +239,17 @@ def unapplied(checks, log):
 ENDED = """
 import os, signal, sys, threading
 sys.path.insert(0, sys.argv[1])
-from operating import cli, settings, talk, trial
+from operating import cli, holding, settings, supervisor, trial
 held, start = settings.read(), threading.Thread.start
 def start_and_end(thread):
     start(thread)
     os.kill(os.getpid(), signal.SIGTERM)
 def holds():
-    with talk.keep_lease(held):
+    with holding.keep_lease(held):
         print("goes on")
 cli.end_in_order()
 threading.Thread.start = start_and_end
-for call in (lambda: trial.domains_at(held.first_port, held.operator()), holds):
+for call in (lambda: trial.domains_at(held.socket(0), supervisor.of(held).pid(0), held.operator()), holds):
     try:
         call()
     except SystemExit as end:
@@ -275,7 +275,8 @@ def anew(machine, checks):
     shards("move", "d0", shard, (shard + 1) % 4)
     backs_up()
     names = dict(line.split() for line in shards("backups").splitlines())
-    sh("sv force-stop /etc/service/pdpd-[0-3] > /dev/null || true; rm -r /var/lib/pdpd/[0-3] /etc/haproxy/domains.map")
+    sh("sv force-stop /etc/service/pdpd-[0-3] > /dev/null || true; rm -r /var/lib/pdpd/[0-3] "
+       "/etc/haproxy/domains.map /etc/haproxy/haproxy.cfg")
     sh("sv up /etc/service/pdpd-[0-3]")
     shards("config", "--write")
     shards("reload")

@@ -12,8 +12,9 @@ import zlib
 from checks import Between
 
 from . import clients
+from .attacking import counted
 from .clients import Deciders, Load, Makers, decision, many, message, once, read, status
-from .machine import LIBRARY, SETTINGS, admin, ended_shards, pid, port, sh, shards, wait_until
+from .machine import LIBRARY, SETTINGS, admin, backs_up, ended_shards, holder, pid, place, sh, shards, wait_until
 
 
 def shown_of(name):
@@ -59,7 +60,7 @@ def cut_moves(machine, checks, before):
     other = (one + 1) % 4
     for shard in (one, other):
         sh(f"sv down /etc/service/pdpd-{shard}")
-    sh("sleep 0.3")
+    wait_until(lambda: not holder(one) and not holder(other), "the shards don't end")
     copied(*(f"/var/lib/pdpd/{shard}/pdpd.db" for shard in (one, other)))
     for shard in (one, other):
         sh(f"sv up /etc/service/pdpd-{shard}")
@@ -67,10 +68,10 @@ def cut_moves(machine, checks, before):
     checks.expect("a move that was cut", shown_of("mover"), before)
     checks.expect("it is listed once", machine.operator.names().count("mover"), 1)
     # a domain of the same name, made at another shard by mistake
-    place = port(one)
-    checks.expect("a second one", status(once(machine.operator.creates("mover"), place)), 201)
+    there = place(one)
+    checks.expect("a second one", status(once(machine.operator.creates("mover"), there)), 201)
     said = shards("move", "mover", other, one, status=1)
-    behind = status(once(machine.operator.message("GET", ""), place))
+    behind = status(once(machine.operator.message("GET", ""), there))
     found = "both shards have" in said, behind
     checks.expect("it isn't moved, and its shards answer behind that", found, (True, 200))
     checks.expect("and shows what it did", shown_of("mover"), before)
@@ -78,7 +79,7 @@ def cut_moves(machine, checks, before):
     warning = f"WRONG: shard {one} has mover, whose messages go to shard {other}"
     checks.expect("the second one is told", warning in shards("status", status=1), True)
     removes = machine.operator.message("DELETE", "/mover")
-    checks.expect("the second one goes", status(once(removes, place)), 200)
+    checks.expect("the second one goes", status(once(removes, there)), 200)
 
 
 def crossed(machine, checks):
@@ -105,6 +106,30 @@ def status_and_names(machine):
     """The status and the body of the list."""
     reply = read(once(machine.operator.message("GET", "")))
     return reply and (reply[0], reply[2])
+
+
+# decisions that are asked for while the deployment is changed
+LIVE = 100_000
+
+
+def live(machine, checks):
+    """Restarts, moves, a put-back and an upgrade while a hundred clients ask, over connections that HAProxy keeps to
+    the shards: of a hundred thousand decisions none fails, or is another's."""
+    machine.operator.clear()
+    asks = many(machine, 8)
+    one = int(shards("where", "d0"))
+    other, name = (one + 1) % 4, re.search(rf"/{one}/([^,]+), ", backs_up(one))[1]
+    steps = (("restart",), ("move", "d0", one, other), ("move", "d0", other, one), ("put-back", one, name, "--yes"),
+             ("upgrade",))
+    rounds = 0
+    with Deciders(asks, 2) as deciders, clients.Crowd(machine.folder, [ask for ask, _ in asks], 100) as crowd:
+        while not rounds or crowd.count < LIVE:
+            for words in steps:
+                shards(*words)
+            rounds += 1
+    checks.expect("decisions that fail", crowd.failed, (0, []))
+    checks.expect("others, which are compared", deciders.wrong, [])
+    checks.say(f"{crowd.count + deciders.answered} decisions beside {rounds} times {len(steps)} changes: none failed")
 
 
 # How a move is ended, at the entries of which system calls, and at each how manyth of them. It renames the map's
@@ -173,20 +198,22 @@ def growth(machine, checks):
     operator = machine.operator
     operator.clear()
     asks = many(machine, 12)
-    twice, place = copied_by_mistake(machine)
+    twice, stays = copied_by_mistake(machine)
     # (behind the reload HAProxy knows the operator's token no more before a success: of such messages REFUSALS leaves
     # one address a thousand in ten seconds, which these don't reach)
-    with Deciders(asks, 6) as deciders, Makers(operator, "g", 2, also=(503,), pause=0.02) as makers:
+    crowd = clients.Crowd(machine.folder, [ask for ask, _ in asks], 50)
+    with Deciders(asks, 6) as deciders, Makers(operator, "g", 2, also=(503,), pause=0.02) as makers, crowd:
         time.sleep(1)
         began = time.time()
         shards("grow", 6)
         took = time.time() - began
         time.sleep(1.5)
     checks.expect("decisions", deciders.wrong, [])
+    checks.expect("of others", crowd.failed, (0, []))
     checks.expect("domains that are made", makers.wrong + makers.unanswered, [])
     names = operator.names()
-    checks.expect("a domain of which another shard has a copy", int(shards("where", twice)), place)
-    checks.expect("the copy goes", status(once(operator.message("DELETE", f"/{twice}"), port(3))), 200)
+    checks.expect("a domain of which another shard has a copy", int(shards("where", twice)), stays)
+    checks.expect("the copy goes", status(once(operator.message("DELETE", f"/{twice}"), place(3))), 200)
     checks.expect("each is there once", sorted(names), sorted(set(names)))
     wanted = {*makers.acknowledged, *(f"d{number}" for number in range(12))}
     checks.expect("each that was acknowledged, and no other", set(names), wanted)
@@ -196,7 +223,7 @@ def growth(machine, checks):
     checks.expect("new ones come to the new shards: those that got none", {4, 5} - made, set())
     checks.expect("a domain of before", decision(once(asks[0][0])), asks[0][1])
     checks.say(f"growth: {took:.0f} s, in which {len(makers.refused)} new domains were refused; "
-               f"{len(makers.acknowledged)} were made")
+               f"{len(makers.acknowledged)} were made, beside {deciders.answered + crowd.count} decisions")
     checks.expect("SHARDS can't be set back", "write SHARDS=6 again" in refused_configuration(), True)
 
 
@@ -240,13 +267,13 @@ def set_count(count):
 def copied_by_mistake(machine):
     """Makes one of d0 to d11 a second time, at the last shard; its name, and where its messages are led."""
     for name in map("d{}".format, range(12)):
-        place = int(shards("where", name))
-        if place != 3:
+        led = int(shards("where", name))
+        if led != 3:
             break
-    made = status(once(machine.operator.creates(name), port(3)))
+    made = status(once(machine.operator.creates(name), place(3)))
     if made != 201:
         raise RuntimeError(f"{name} isn't made a second time: {made}")
-    return name, place
+    return name, led
 
 
 def refused_configuration():
@@ -257,13 +284,80 @@ def refused_configuration():
     return said
 
 
+# what became a shard's program in an earlier version, and the lines of its settings that meant something else
+OLDER_RUN = """#!/bin/sh
+. /etc/pdpd/shards.conf
+export PDPD_IDLE=4
+umask 077
+exec /usr/local/lib/pdpd/pdpd serve "/var/lib/pdpd/$1/pdpd.db" "127.0.0.1:$((288 + $1))" \
+    "$CREDENTIALS_DIRECTORY/token" 1000000
+"""
+OLDER = {"FIRST_PORT": 288, "MAXCONN": 1, "CONNECTIONS": 1_000_000, "IDLE": 4, "KEEP": 0, "RETRY": 0}
+
+
+def as_older():
+    """Has all of it run as an earlier version did: programs that take one connection after another, at ports."""
+    text = "".join(line for line in SETTINGS.read_text().splitlines(True) if line.partition("=")[0] not in OLDER)
+    SETTINGS.write_text(text + "".join(f"{name}={value}\n" for name, value in OLDER.items()))
+    shards("config", "--write")
+    configuration = pathlib.Path("/etc/haproxy/haproxy.cfg")
+    # (as with newer versions of HAProxy each message has a connection of its own)
+    configuration.write_text(configuration.read_text().replace("version_before(2.7)", "version_before(1.0)"))
+    for shard in range(4):
+        sh(f"sv down /etc/service/pdpd-{shard}")
+    wait_until(lambda: not any(holder(shard) for shard in range(4)), "the shards don't end")
+    (LIBRARY / "pdpd-run").write_text(OLDER_RUN)
+    sh("cp /etc/pdpd/shards.conf /etc/pdpd/applied/0.conf; for n in 1 2 3; do cp /etc/pdpd/applied/0.conf "
+       "/etc/pdpd/applied/$n.conf; done; sed -i '/--place/d' /usr/local/lib/pdpd/runit/pdpd; "
+       "sv up /etc/service/pdpd-0 /etc/service/pdpd-1 /etc/service/pdpd-2 /etc/service/pdpd-3")
+    shards("reload")
+
+
+def older(machine, checks):
+    """An installation of an earlier version is upgraded under load, and loses nothing: its shards stay at their ports,
+    and what its settings mean now is told. Then they get sockets, as the page says."""
+    machine.operator.clear()
+    asks, held = many(machine, 8), SETTINGS.read_text()
+    as_older()
+    wait_until(machine.operator.is_answered, "the shards of the earlier version aren't there")
+    words = pathlib.Path(f"/proc/{holder(2)}/cmdline").read_bytes().split(b"\0")
+    checks.expect("what runs before", (words[1], words[3]), (b"serve", b"127.0.0.1:290"))
+    with Deciders(asks, 6) as deciders, Makers(machine.operator, "o") as makers:
+        sh(f"{next(machine.folder.glob('pdpd-*/deploy/install'))} /usr/local")
+        said = shards("upgrade")
+    checks.expect("no decision is lost, or another's", deciders.wrong, [])
+    checks.expect("no change is lost, or made twice", makers.wrong + makers.unanswered, [])
+    for what in ("CONNECTIONS, IDLE, KEEP, RETRY of /etc/pdpd/shards.conf set nothing any more",
+                 "MAXCONN of /etc/pdpd/shards.conf is 1", "FIRST_PORT of /etc/pdpd/shards.conf is set"):
+        checks.expect(f"it tells that {what}", what in said, True)
+    words = pathlib.Path(f"/proc/{pid(2)}/cmdline").read_bytes().split(b"\0")
+    checks.expect("what runs behind", (words[1], words[3]), (b"listen", b"127.0.0.1:290"))
+    SETTINGS.write_text(held)
+    with Deciders(asks, 6, also=(503,)) as deciders, Makers(machine.operator, "p", also=(503,)) as makers:
+        shards("config", "--write")
+        shards("restart")
+    checks.expect("from ports to sockets: other answers", deciders.wrong + makers.wrong + makers.unanswered, [])
+    checks.expect("behind it", [decision(once(ask)) for ask, _ in asks], [effect for _, effect in asks])
+    checks.expect("where they are", [pathlib.Path(place(shard)).is_socket() for shard in range(4)], [True] * 4)
+    shards("remap")  # (of domains that other parts have moved and removed)
+    checks.expect("status", shards("status").count(" up "), 4)
+
+
+# messages that HAProxy has at a shard at a time (MAXCONN)
+MAXCONN = 8
+
+
 def keeping(machine, checks):
-    """The other way of connections, with one kept to each shard, answers the same."""
+    """HAProxy keeps as many connections to a shard as it may have messages there, and opens no others; each shard
+    answers those that it is asked by at the same time."""
     machine.operator.clear()
     asks = many(machine, 8)
-    machine.set(KEEP=1)
+    shards("restart")
+    before = [counted(f"shard{shard}", "pdpd", "connect") for shard in range(4)]
     script = clients.script_of(machine.folder / "asks.lua", [ask for ask, _ in asks])
     found = clients.wrk(script, 50, 3)
-    checks.expect("kept connections: all are answered with success", (found["bad"], found["errors"]), (0, ""))
-    checks.say(f"kept connections: {found['rate']:.0f} asks/s")
-    machine.set(KEEP=0)
+    checks.expect("all are answered with success", (found["bad"], found["errors"]), (0, ""))
+    made = [counted(f"shard{shard}", "pdpd", "connect") - before[shard] for shard in range(4)]
+    checks.within("connections to each shard", max(made), range(1, MAXCONN + 1))
+    checks.say(f"{found['count']} asks by 50 clients over {sum(made)} connections to 4 shards: "
+               f"{clients.in_a_line(found)}")

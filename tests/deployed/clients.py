@@ -9,9 +9,23 @@ import threading
 import time
 
 sys.path.insert(0, str(pathlib.Path(__file__).resolve().parent.parent))
-from serving import Client, making, message, policy  # noqa: E402
+import serving  # noqa: E402
+from serving import making, message, policy  # noqa: E402
 
 from .machine import PLAIN  # noqa: E402
+
+
+class Client(serving.Client):
+    """One connection to a port, or to a Unix socket of that path."""
+
+    def __init__(self, place):
+        if not isinstance(place, str):
+            super().__init__(place)
+            return
+        self.socket, self.held = socket.socket(socket.AF_UNIX), b""
+        self.socket.settimeout(serving.PATIENCE)
+        self.socket.connect(place)
+
 
 # the fields of a reply that are compared: those that pdpd sends (docs/guide/API.md), in small letters
 FIELDS = ("content-type", "content-length", "www-authenticate", "allow")
@@ -36,29 +50,29 @@ def status(reply):
 SENT = []
 
 
-def once(data, port=PLAIN):
+def once(data, place=PLAIN):
     """The reply to a message on a connection of its own; empty where the connection ends without one."""
     began, fault = time.time(), ""
     try:
-        with Client(port) as client:
+        with Client(place) as client:
             reply = client.ask(data)
     except OSError as error:
         reply, fault = b"", repr(error)
     head = data[:data.index(b"\r\n")]
     if not head.endswith(b"/pdp HTTP/1.1"):
         is_list = b" /operator/domains " in head
-        SENT.append((began, time.time(), port, head, reply if is_list else reply[:60], fault))
+        SENT.append((began, time.time(), place, head, reply if is_list else reply[:60], fault))
     return reply
 
 
 def history_of(domain):
     """What was sent of a domain, with the replies."""
     at = re.compile(rf"/domains/{re.escape(domain)}[/ ]".encode())
-    for began, ended, port, head, reply, fault in list(SENT):
+    for began, ended, place, head, reply, fault in list(SENT):
         if at.search(head) or b" /operator/domains " in head:
             times = reply.count(f'"{domain}"'.encode())
             listed = f" lists it {times} times" if b" /operator/domains " in head else ""
-            yield f"{began:.3f} to {ended:.3f} port {port} {head.decode()}: {reply[:60]!r}{listed} {fault}"
+            yield f"{began:.3f} to {ended:.3f} at {place} {head.decode()}: {reply[:60]!r}{listed} {fault}"
 
 
 class Operator:
@@ -143,9 +157,9 @@ class Deciders:
     """Threads that ask for decisions, each on a connection of its own; they keep what is wrong."""
 
     def __init__(self, asks, count=8, also=()):
-        """`asks` are messages with their decisions; `also` are statuses that may come as well."""
+        """`asks` are messages with their decisions; `also` are statuses that may come as well, which are counted."""
         self.asks, self.also = asks, also
-        self.answered, self.wrong, self.longest, self.lock = 0, [], 0.0, threading.Lock()
+        self.answered, self.lost, self.wrong, self.longest, self.lock = 0, 0, [], 0.0, threading.Lock()
         self.load = Load(self.ask, count)
         self.turn = 0
 
@@ -161,6 +175,7 @@ class Deciders:
             self.longest = max(self.longest, took)
             if found != wanted and found not in self.also:
                 self.wrong.append((wanted, found, round(took, 2)))
+            self.lost += found != wanted
 
     def __enter__(self):
         self.load.__enter__()
@@ -218,6 +233,32 @@ def wrk(script, connections, seconds, at=f"http://127.0.0.1:{PLAIN}"):
             "rate": rate, "p50": middle, "p99": slow}
 
 
+class Crowd:
+    """So many clients of wrk that ask until the end of the `with` statement, each time on a connection of their own."""
+
+    def __init__(self, folder, asks, connections):
+        self.script = script_of(folder / "crowd.lua", asks, closes=True)
+        self.connections, self.found = connections, []
+        self.load = Load(lambda _number: self.found.append(wrk(self.script, self.connections, 3)), 1)
+
+    def __enter__(self):
+        self.load.__enter__()
+        return self
+
+    def __exit__(self, *what):
+        self.load.__exit__(*what)
+
+    @property
+    def count(self):
+        """How many were answered."""
+        return sum(found["count"] for found in self.found)
+
+    @property
+    def failed(self):
+        """How many were answered with another status than 2xx, and what wrk says of those without an answer."""
+        return sum(found["bad"] for found in self.found), [found["errors"] for found in self.found if found["errors"]]
+
+
 def in_a_line(found):
     """What wrk found, in a line."""
     return f"{found['rate']:.0f} asks/s, p50 {found['p50']:.1f} ms, p99 {found['p99']:.1f} ms"
@@ -229,20 +270,20 @@ def milliseconds(text):
     return float(number) * {"us": 0.001, "ms": 1, "s": 1000, "m": 60000}[unit]
 
 
-def script_of(path, asks):
-    """Writes a script of wrk that sends these messages in turn."""
-    rows = []
+def script_of(path, asks, *, closes=False):
+    """Writes a script of wrk that sends these messages in turn, each on a connection of its own if it closes that."""
+    rows, last = [], ',["Connection"]="close"' if closes else ""
     for data in asks:
         head, _, body = data.decode().partition("\r\n\r\n")
         method, target, _ = head.split("\r\n")[0].split(" ")
         token = re.search(r"Bearer (\S+)", head)[1]
-        fields = f'["Authorization"]="Bearer {token}",["Content-Type"]="application/json"'
+        fields = f'["Authorization"]="Bearer {token}",["Content-Type"]="application/json"{last}'
         rows.append(f'wrk.format("{method}","{target}",{{{fields}}},[==[{body}]==])')
     path.write_text("local asks = {}\ninit = function() asks = {" + ",\n".join(rows) + "} end\nlocal at = 0\n"
                     "request = function() at = at % #asks + 1; return asks[at] end\n")
     return str(path)
 
 
-def silent(port):
+def silent(place):
     """A connection that says nothing."""
-    return socket.create_connection(("127.0.0.1", port))
+    return Client(place).socket

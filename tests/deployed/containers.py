@@ -125,7 +125,7 @@ def build(podman, checks, folder):
     podman("build", *how, "-t", "pdpd:0.1", "-f", folder / "deploy" / "container" / "Dockerfile", folder)
     held = "ls /usr/local/lib/pdpd; command -v python3 || echo no Python"
     said = podman("run", "--rm", "--network=none", *podman.limits, "--entrypoint", "/bin/sh", "pdpd:0.1", "-c", held)
-    checks.expect("what the image has", said.split("\n"), ["pdpd", "pdpd-loop", "no Python"])
+    checks.expect("what the image has", said.split("\n"), ["pdpd", "pdpd-contained", "no Python"])
 
 
 def ends(podman, checks, folder):

@@ -8,6 +8,7 @@ import time
 from .booting import booted
 from .clients import Operator, decision, once
 from .machine import PLAIN, commands_of_page, pack, sh, wait_until
+from .systemd import pid
 
 # in place of the archive and the user the package brings, and it makes a token
 BROUGHT = re.compile(r"sha256sum |\S+/deploy/install |useradd |.*openssl rand ")
@@ -82,8 +83,8 @@ def begin(machine, checks, name):
                "pdpd-shards config --write; pdpd-shards reload; pdpd-shards backup")
     operator = Operator(machine.sh("cat /etc/pdpd/token"))
     checks.expect("the page's domain", operator.names(), ["acme"])
-    checks.expect("where the program is", machine.sh("readlink /proc/$(systemctl show -p MainPID --value pdpd@0)/exe"),
-                  "/usr/lib/pdpd/pdpd")
+    program = machine.sh(f"readlink /proc/{pid(machine, 'pdpd@0')}/exe")
+    checks.expect("where the program is", program, "/usr/lib/pdpd/pdpd")
     return operator, operator.makes("kept")
 
 

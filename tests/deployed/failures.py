@@ -1,11 +1,9 @@
 """What goes wrong: restarts, kills, programs that are stuck."""
 import contextlib
 import io
-import json
 import os
 import pathlib
 import signal
-import socket
 import subprocess
 import sys
 import threading
@@ -15,9 +13,9 @@ from unittest import mock
 from checks import Between
 
 from . import clients
-from .attacking import kills as killed_by_watchdog
-from .clients import Client, Deciders, Load, Makers, decision, many, message, once, status
-from .machine import LIBRARY, SETTINGS, pid, port, refuse_starts, sh, shards, wait_until
+from .attacking import counted
+from .clients import Client, Deciders, Makers, decision, many, once
+from .machine import LIBRARY, SETTINGS, listens_at, pid, place, refuse_starts, sh, shards, wait_until
 
 KILLS = 20
 
@@ -49,20 +47,18 @@ def disturb():
 
 
 def kills(machine, checks):
-    """Kills, ends of n and reloads: no decision is lost where retries are on, no change is lost or made twice."""
+    """Kills and reloads: what is under way at a program may be lost with it, and nothing else; no change that was
+    acknowledged is lost, or made twice."""
     machine.operator.clear()
     asks = many(machine, 8)
-    machine.set(RETRY=1, CONNECTIONS=400)
-    shards("restart")
     before = set(machine.operator.names())
-    with Deciders(asks, 6) as deciders, Makers(machine.operator, "k") as makers:
+    with Deciders(asks, 6, also=(None, 502)) as deciders, Makers(machine.operator, "k") as makers:
         disturb()
-    machine.set(RETRY=0, CONNECTIONS=1_000_000)
-    shards("restart")
+    wait_until(machine.operator.is_answered, "the shards aren't there again")
     made, unanswered, found = set(makers.acknowledged), set(makers.unanswered), set(machine.operator.names())
     checks.say(f"{KILLS} kills: {deciders.answered} decisions, the longest after {deciders.longest:.2f} s; {len(made)} "
                f"changes, {len(unanswered)} without an answer, of which {len(found & unanswered)} were made")
-    checks.expect("no decision is lost, or another's", deciders.wrong, [])
+    checks.expect("no decision is another's", deciders.wrong, [])
     checks.within("none waits for long: the seconds of the longest", deciders.longest, Between(0, 5))
     checks.expect("no change is made twice, or refused", makers.wrong, [])
     checks.expect("each change that was acknowledged is there", made - found, set())
@@ -70,22 +66,47 @@ def kills(machine, checks):
     checks.expect("there were decisions and changes", (deciders.answered > 500, len(made) > 50), (True, True))
 
 
+# messages that HAProxy has at a shard at a time (MAXCONN), those who ask, and kills
+MAXCONN, CROWD, ENDS = 8, 60, 4
+
+
+def queued(machine, checks):
+    """A program is killed while messages wait for it in HAProxy's queue: what it has may be lost with it, and all else
+    is answered by the next program."""
+    machine.operator.clear()
+    ask = machine.operator.makes("waits")
+    shard = int(shards("where", "waits"))
+    with Deciders([(ask, "Permit")], CROWD, also=(None, 502)) as deciders:
+        for _ in range(ENDS):
+            old = pid(shard)
+            os.kill(old, signal.SIGSTOP)
+            wait_until(lambda: counted(f"shard{shard}", "pdpd", "qcur") >= CROWD - MAXCONN, "there is no queue")
+            os.kill(old, signal.SIGKILL)
+            wait_until(lambda old=old: pid(shard) not in (0, old), "it isn't started again")
+            wait_until(lambda: decision(once(ask)) == "Permit", "it doesn't answer again")
+            # (what was led once more is led there once)
+            time.sleep(2)
+    checks.expect("other answers", deciders.wrong, [])
+    checks.within("those that are lost", deciders.lost, range(ENDS * MAXCONN + 1))
+    checks.say(f"{ENDS} kills beside {CROWD - MAXCONN} that wait: {deciders.lost} of {deciders.answered} were lost, "
+               f"the longest took {deciders.longest:.2f} s")
+
+
 def stuck(machine, checks):
-    """A program that stands still and a connection that says nothing: both end, and nobody is answered wrong."""
+    """A program that stands still is killed, and what was under way at it alone is lost; a connection that says nothing
+    holds nobody up."""
     machine.operator.clear()
     asks = many(machine, 8)
-    machine.set(RETRY=1)
     kinds = {"a program that stands still": stands_still, "a silent connection": says_nothing}
     for what, disturbs in kinds.items():
-        with Deciders(asks, 8) as deciders:
+        with Deciders(asks, 8, also=(None, 502) if disturbs is stands_still else ()) as deciders:
             time.sleep(0.5)
             took = disturbs()
             time.sleep(0.5)
         checks.say(f"{what}: over after {took:.1f} s; the longest of {deciders.answered} decisions took "
                    f"{deciders.longest:.1f} s")
-        checks.expect(f"{what}: no decision is lost", deciders.wrong, [])
+        checks.expect(f"{what}: no decision is lost, or another's", deciders.wrong, [])
         checks.within(f"{what}: the seconds until it ends", took, Between(0, 9))
-    machine.set(RETRY=0)
 
 
 def stands_still():
@@ -97,74 +118,22 @@ def stands_still():
 
 def says_nothing():
     began = time.time()
-    with clients.silent(port(2)):
+    with clients.silent(place(2)):
         time.sleep(0.2)
-        with Client(port(2)) as behind:
+        with Client(place(2)) as behind:
             behind.send(b"GET / HTTP/1.1\r\nConnection: close\r\n\r\n")
             behind.all()
             return time.time() - began
 
 
-# the limit of work that is installed, and the most that its page allows; how long the dearest message is to take here
-WORK, MOST_WORK, DEAR = 150_000_000, 2_400_000_000, 2.5
-CONTAINS = "urn:oasis:names:tc:xacml:3.0:function:string-contains"
-
-
-def makes_dear(operator, name):
-    """Makes a domain, and gives an ask of it that only the limit of work ends: 64 decisions, each of which looks for
-    3,000 texts in 3,000 others."""
-    values = {"AttributeDesignator": {"Category": "Resource", "DataType": "string", "MustBePresent": False}}
-    one, other = ({"AttributeDesignator": {**values["AttributeDesignator"], "AttributeId": word}} for word in "ab")
-    function = {"FunctionId": "urn:oasis:names:tc:xacml:3.0:function:any-of-any",
-                "Expression": [{"Function": {"FunctionId": CONTAINS}}, one, other]}
-    text = json.loads(clients.policy("Permit"))
-    text["Policy"]["Rule"][0]["Condition"] = {"Apply": function}
-    operator.makes(name, text=json.dumps(text))
-    attributes = [{"AttributeId": word, "Value": [f"{word}{number:04}" for number in range(3000)]} for word in "ab"]
-    asked = {"Resource": {"Id": "r", "Attribute": attributes},
-             "MultiRequests": {"RequestReference": [{"ReferenceId": "r"}] * 64}}
-    return message("POST", f"/domains/{name}/pdp", f"{name}-token-1", json.dumps({"Request": asked}))
-
-
-def time_of(ask, shard):
-    """How many seconds a shard takes to give that up, for its limit of work."""
-    began = time.time()
-    found = status(once(ask, port(shard)))
-    if found != 503:
-        raise RuntimeError(f"the dearest message is answered with {found}")
-    return time.time() - began
-
-
-def behind_several(machine, checks):
-    """With MAXCONN=4 three messages wait in the program behind the one that is answered. While each is as dear as the
-    limit of work allows, the watchdog's question waits behind them all, and nothing is killed."""
-    operator = machine.operator
-    operator.clear()
-    ask = makes_dear(operator, "dear")
-    shard = int(shards("where", "dear"))
-    # (the program may be one of another speed, on a machine that others use)
-    work = min(MOST_WORK, int(WORK * DEAR / max(time_of(ask, shard), time_of(ask, shard))))
-    machine.set(MAXCONN=4, WORK=work)
-    shards("restart", shard)
-    checks.say(f"the dearest message takes {time_of(ask, shard):.1f} s, by WORK={work}")
-    before = pid(shard), killed_by_watchdog()
-    with Load(lambda _number: once(ask), 8):
-        time.sleep(25)
-    checks.expect("the program, and kills", (pid(shard), killed_by_watchdog()), before)
-    machine.set(MAXCONN=1, WORK=WORK)
-    shards("restart", shard)
-
-
 class Mute:
-    """Takes connections at a shard's port, and never replies."""
+    """Takes connections in a shard's place, and never replies."""
 
-    def __init__(self, number):
-        self.socket = socket.socket()
-        self.socket.setsockopt(socket.SOL_SOCKET, socket.SO_REUSEADDR, 1)
-        self.socket.bind(("127.0.0.1", number))
+    def __init__(self, shard):
+        self.socket = listens_at(place(shard))
 
     def __enter__(self):
-        self.socket.listen()
+        pass
 
     def __exit__(self, *what):
         self.socket.close()
@@ -181,6 +150,12 @@ def watched(machine, checks):
     os.kill(pid(3), signal.SIGSTOP)
     found, socket_of = watchdog.shard_state(now, 3)
     checks.expect("one that stands still", found, "stuck")
+    with contextlib.ExitStack() as opened, mock.patch.object(watchdog, "LIMIT", 1.0):
+        for _ in range(20):
+            opened.enter_context(clients.silent(place(3)))
+        began = time.time()
+        checks.expect("one that stands still, with 20 connections", watchdog.shard_state(now, 3)[0], "stuck")
+        checks.within("for how many times the limit it was waited", time.time() - began, Between(3, 5))
     os.kill(pid(3), signal.SIGCONT)
     checks.expect("and goes on", watchdog.shard_state(now, 3), ("up", socket_of))
     with killed_during(3, 2):
@@ -188,7 +163,7 @@ def watched(machine, checks):
     sh("sv down /etc/service/pdpd-3")
     wait_until(lambda: not pid(3), "a shard isn't ended")
     checks.expect("without a program", watchdog.shard_state(now, 3), ("down", None))
-    with Mute(port(3)):
+    with Mute(3):
         began = time.time()
         checks.expect("another program has the port", watchdog.shard_state(now, 3)[0], "taken")
         checks.within("it isn't asked: the seconds", time.time() - began, Between(0, 4))
@@ -222,9 +197,9 @@ def unkilled(machine, checks):
     # the services' own watchdog would kill it
     sh("sv down /etc/service/pdpd-watchdog /etc/service/pdpd-3")
     wait_until(lambda: not pid(3), "a shard isn't ended")
-    with Mute(port(3)):
+    with Mute(3):
         now, (line,) = looked(3, "up")
-        begins = line.startswith("shard 3 is taken: another program has the port of shard 3, ")
+        begins = line.startswith("shard 3 is taken: another program has the socket of shard 3, ")
         checks.expect(f"another program has its port: {line}", (now, begins), ("taken", True))
     stuck = "shard 3 is stuck"
     sh("sv up /etc/service/pdpd-3")
@@ -282,7 +257,7 @@ def unstarted(machine, checks):
     # (both shards have it, and not the same of it: that is found once both are stopped)
     twice = next(name for name in map("twice{}".format, range(100)) if int(shards("where", name)) == one)
     machine.operator.makes(twice)
-    checks.expect("it is made twice", decision(once(machine.operator.creates(twice), port(other))), 201)
+    checks.expect("it is made twice", decision(once(machine.operator.creates(twice), place(other))), 201)
     for refused, started in ((one, other), (other, one)):
         beside = [ask for ask, place in zip(asks, places) if place == started]
         with refuse_starts(machine.folder, refused), Deciders(beside, 2) as deciders:
@@ -294,7 +269,7 @@ def unstarted(machine, checks):
         checks.expect("no decision of the other is lost", deciders.wrong, [])
         sh(f"sv up /etc/service/pdpd-{refused}")
         wait_until(machine.operator.is_answered, "the shard isn't there again")
-    once(machine.operator.message("DELETE", f"/{twice}"), port(other))
+    once(machine.operator.message("DELETE", f"/{twice}"), place(other))
     with refuse_starts(machine.folder, other):
         shards("move", "d0", one, other, status=1)
     sh(f"sv up /etc/service/pdpd-{other}")
@@ -307,13 +282,13 @@ def holding(machine, checks):
     """What is held back for over ten seconds is refused, and never goes on while a tool has a shard's program
     ended; what a tool holds that was killed goes on soon. A reload waits for the tools."""
     sys.path.insert(0, str(LIBRARY))
-    from operating import settings, talk
+    from operating import holding, settings, talk
     machine.operator.clear()
     asks, now = many(machine, 8), settings.read()
     in_one = [shards("where", f"d{number}").strip() == "1" for number in range(8)]
     (ask, wanted), (beside, other) = asks[in_one.index(True)], asks[in_one.index(False)]
     began = time.time()
-    with settings.alone(), talk.hold_messages(now, 1):
+    with settings.alone(), holding.hold_messages(now, 1):
         reload = subprocess.Popen(["pdpd-shards", "reload"], stdout=subprocess.DEVNULL)
         checks.expect("beside what is held", decision(once(beside)), other)
         found = decision(once(ask))

@@ -286,9 +286,44 @@ def port(shard):
     return int(re.search(r'(?m)^FIRST_PORT="?(\d+)', SETTINGS.read_text())[1]) + shard
 
 
-def pid(shard):
-    """The process of a shard, 0 where there is none."""
+def place(shard):
+    """Where a shard listens, by the settings: the path of its socket, or its port."""
+    found = re.search(r'(?m)^FIRST_PORT="?(\d+)', SETTINGS.read_text())
+    return int(found[1]) + shard if found else f"/run/pdpd-shards/{shard}/socket"
+
+
+def listens_at(where):
+    """A socket that takes connections at such a place, also those of HAProxy's user."""
+    if isinstance(where, str):
+        pathlib.Path(where).unlink(missing_ok=True)
+        made = socket.socket(socket.AF_UNIX)
+        made.bind(where)
+        os.chmod(where, 0o660)
+    else:
+        made = socket.socket()
+        made.setsockopt(socket.SOL_SOCKET, socket.SO_REUSEADDR, 1)
+        made.bind(("127.0.0.1", where))
+    made.listen(128)
+    return made
+
+
+def holder(shard):
+    """The process that is supervised for a shard: it holds the pipe of the program's input. 0 where there is none."""
     return int(pathlib.Path(f"/etc/service/pdpd-{shard}/supervise/pid").read_text().strip() or 0)
+
+
+def pid(shard):
+    """The process of a shard's program, 0 where there is none."""
+    process = holder(shard)
+    try:
+        words = pathlib.Path(f"/proc/{process}/cmdline").read_bytes().split(b"\0")
+        children = pathlib.Path(f"/proc/{process}/task/{process}/children").read_text().split()
+        # (behind its end `rm` is one for a moment)
+        names = {child: pathlib.Path(f"/proc/{child}/comm").read_text().strip() for child in children}
+    except (FileNotFoundError, ProcessLookupError):
+        return 0
+    found = [child for child in children if names[child] not in ("rm", "pdpd-hold")]
+    return int(found[0]) if found and words[1:2] == [b"/usr/local/lib/pdpd/pdpd-hold"] else 0
 
 
 def wait_until(holds, what, seconds=120.0):

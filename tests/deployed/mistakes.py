@@ -249,7 +249,8 @@ def not_begun(machine, checks, ask):
     place = machine.folder / "never"
     place.mkdir()
     file = place / "shards.conf"
-    names = {"DATA": "data", "BACKUPS": "backups", "SERVICES": "services", "HAPROXY_RUN": "run", "TOKEN": "token"}
+    names = {"DATA": "data", "BACKUPS": "backups", "SERVICES": "services", "HAPROXY_RUN": "run", "SOCKETS": "sockets",
+             "TOKEN": "token"}
     file.write_text("".join(f"{name}={place / word}\n" for name, word in names.items()))
     for words in ("backup", "backup 0", "restart 0", "services", "remap", "grow 5", "reserve 0", "put-back 0 none"):
         said = sh(f"PDPD_SETTINGS={file} pdpd-shards {words} 2>&1 && echo done || true")

@@ -120,25 +120,31 @@ def undecided(machine, checks):
 
 # ---- a full disk
 
+# The MiB of the disk, and those that are kept: more than the log, which is written back into the file as the program
+# ends for a move.
+DISK, KEPT = 16, 6
+
+
 def full(machine, checks):
     """A shard's disk is full: its changes are refused, and nothing is lost. status and the watchdog tell it. What was
     kept for that is given up, and the shard goes on without a start: policies can be removed, and a domain moved."""
     machine.operator.clear()
     place = 3
     folder = f"/var/lib/pdpd/{place}"
-    write("RESERVE", 1)
+    write("RESERVE", KEPT)
     owner = "uid=$(id -u pdpd),gid=$(id -g pdpd)"
-    sh(f"sv -w 60 stop /etc/service/pdpd-{place}; mount -t tmpfs -o size=4m,mode=700,{owner} full {folder}; "
+    sh(f"sv -w 60 stop /etc/service/pdpd-{place}; mount -t tmpfs -o size={DISK}m,mode=700,{owner} full {folder}; "
        f"sv up /etc/service/pdpd-{place}")
     wait_until(machine.operator.is_answered, "the shard stays away")
     try:
-        tells(checks, "nothing is kept", f"shard {place} has no reserve of 1 MiB")
+        tells(checks, "nothing is kept", f"shard {place} has no reserve of {KEPT} MiB")
         write("RESERVE", 100)
         said = shards("reserve", place, status=1)
         checks.expect(f"too much to keep: {said}", f"no room is kept for shard {place}: " in said, True)
-        write("RESERVE", 1)
+        write("RESERVE", KEPT)
         shards("reserve", place)
-        checks.expect("what is kept, and whose", sh(f"stat -c '%s %U %a' {folder}/reserve"), f"{2 ** 20} pdpd 600\n")
+        found = sh(f"stat -c '%s %U %a' {folder}/reserve")
+        checks.expect("what is kept, and whose", found, f"{KEPT * 2 ** 20} pdpd 600\n")
         filled(machine, checks, place)
     finally:
         sh(f"sv -w 60 stop /etc/service/pdpd-{place}; umount {folder}; sv up /etc/service/pdpd-{place}")
@@ -164,13 +170,13 @@ def filled(machine, checks, place):
     checks.expect("a removal, then", status_of(once(remove)), 503)
     checks.expect("and a decision", decision(once(ask)), "Permit")
     tells(checks, "a full disk", f"the disk of shard {place} has only ")
-    tells(checks, "what helps", f"pdpd-shards make-room {place} gives up 1 MiB that are kept for this")
+    tells(checks, "what helps", f"pdpd-shards make-room {place} gives up {KEPT} MiB that are kept for this")
     unseen(checks, place)
     line = f"pdpd-watchdog: the disk of shard {place} is full"
     wait_until(lambda: line in WATCHDOG.read_text(), "the watchdog doesn't tell it")
     before, count = pid(place), WATCHDOG.read_text().count(f"the disk of shard {place} is not full")
     said = shards("make-room", place)
-    told = re.search(rf"the disk of shard {place} has 1\.\d MiB left", said)
+    told = re.search(rf"the disk of shard {place} has {KEPT}\.\d MiB left", said)
     checks.expect(f"what is told: {said}", told is not None, True)
     checks.expect("a removal, with room", status_of(once(remove)), 200)
     found = [key for key in kept[1:] if status_of(once(message("GET", f"{at}/policy/{key}/1.0", token))) != 200]

@@ -21,7 +21,7 @@ def commands():
 
 def ours(folder):
     """The names of a deployment that a folder has."""
-    words = r"pdpd.*|haproxy|haproxy\.cfg.*|domains\..*"
+    words = r"pdpd.*|haproxy|haproxy\.cfg.*|domains\..*|leases\..*"
     return [name for name in sorted(os.listdir(folder)) if re.fullmatch(words, name)] if os.path.isdir(folder) else []
 
 

@@ -80,20 +80,21 @@ def unapplied(machine, checks, ask):
     place = int(shards("where", "ward"))
     # (pdpd-run, which reads what was applied, is the user pdpd, whatever umask root's shell has)
     sh("rm -r /etc/pdpd/applied; umask 077; pdpd-shards restart; pdpd-shards reload")
-    sh(f"sed -i 's/^FIRST_PORT=.*/FIRST_PORT=388/; s/^IDLE=.*/IDLE=3/' {SETTINGS}")
+    sh(f"sed -i 's/^FIRST_PORT=.*/FIRST_PORT=388/; s/^READING=.*/READING=15000000/' {SETTINGS}")
     os.kill(old := pid(place), signal.SIGKILL)
     wait_until(lambda: pid(place) not in (0, old), "the shard isn't started again")
     checks.expect("a shard that is started again", decision(once(ask)), "Permit")
     words = pathlib.Path(f"/proc/{pid(place)}/environ").read_text().split("\0")
-    checks.expect("its settings", [word for word in words if word.startswith("PDPD_IDLE")], ["PDPD_IDLE=4"])
+    checks.expect("its settings", [word for word in words if word.startswith("PDPD_REA")], ["PDPD_READING=16000000"])
     os.kill(old := pid(place), signal.SIGSTOP)
     wait_until(lambda: pid(place) not in (0, old), "the watchdog doesn't look where the shard is")
-    tells(checks, "settings that aren't applied", f"FIRST_PORT, IDLE of {SETTINGS} isn't what shard 0 was started with")
-    SETTINGS.write_text(re.sub("(?m)^IDLE=.*", "IDLE=3", held))
-    tells(checks, "one that isn't applied", f"IDLE of {SETTINGS} isn't what shard 3 was started with: pdpd-shards")
+    tells(checks, "settings that aren't applied", f"FIRST_PORT, READING of {SETTINGS} isn't what shard 0 was started "
+          "with")
+    SETTINGS.write_text(re.sub("(?m)^READING=.*", "READING=15000000", held))
+    tells(checks, "one that isn't applied", f"READING of {SETTINGS} isn't what shard 3 was started with: pdpd-shards")
     shards("restart")
     words = pathlib.Path(f"/proc/{pid(place)}/environ").read_text().split("\0")
-    checks.expect("once it is applied", "PDPD_IDLE=3" in words, True)
+    checks.expect("once it is applied", "PDPD_READING=15000000" in words, True)
     SETTINGS.write_text(held)
     shards("restart")
 
@@ -214,9 +215,10 @@ def other_program(machine, checks, ask):
 
 def no_proxy(machine, checks, ask):
     """HAProxy is away: each tool says so."""
+    place = int(shards("where", "ward"))
     sh("sv down /etc/service/haproxy")
     wait_until(lambda: asked("reload")[0] == 1, "HAProxy stays")
-    for words in (("status",), ("restart", 0), ("move", "ward", 0, 1), ("reload",), ("remap",)):
+    for words in (("status",), ("restart", 0), ("move", "ward", place, (place + 1) % 4), ("reload",), ("remap",)):
         found, said = asked(*words)
         checks.expect(f"{words} without HAProxy: {said}", (found, "HAProxy doesn't answer at" in said, "Errno" in said),
                       (1, True, False))
@@ -237,19 +239,23 @@ def monitored(machine, checks, ask):
 
 
 def removed(machine, checks):
-    """A store's file is removed under its program: status tells it, and a backup and its put-back save all that was
-    acknowledged, also behind the removal."""
+    """A store's files, or the whole folder, are removed under its program: status tells it, and a backup and its
+    put-back save all that was acknowledged, also behind the removal."""
     machine.operator.clear()
     machine.operator.makes("ward")
     place = int(shards("where", "ward"))
-    name = next(name for name in map("after{}".format, range(100)) if int(shards("where", name)) == place)
-    sh(f"rm /var/lib/pdpd/{place}/pdpd.db /var/lib/pdpd/{place}/pdpd.db-wal")
-    behind = machine.operator.makes(name)
-    tells(checks, "a removed file", f"/{place}/pdpd.db was removed while the program of shard {place} has it")
-    backup = re.search(rf"/{place}/([^,]+), ", backs_up(place))[1]
-    shards("put-back", place, backup, "--yes")
-    checks.expect("what was acknowledged", (decision(once(behind)), sorted(machine.operator.names())),
-                  ("Permit", sorted(["ward", name])))
+    folder, made = f"/var/lib/pdpd/{place}", ["ward"]
+    names = (name for name in map("after{}".format, range(100)) if int(shards("where", name)) == place)
+    for command in (f"rm {folder}/pdpd.db {folder}/pdpd.db-wal", f"rm -r {folder}"):
+        sh(command)
+        made.append(next(names))
+        behind = machine.operator.makes(made[-1])
+        tells(checks, command, f"/{place}/pdpd.db was removed while the program of shard {place} has it")
+        backup = re.search(rf"/{place}/([^,]+), ", backs_up(place))[1]
+        shards("put-back", place, backup, "--yes")
+        checks.expect(f"what was acknowledged, behind {command}", (decision(once(behind)), machine.operator.names()),
+                      ("Permit", sorted(made)))
+    shards("reserve", place)
 
 
 # What a person may write into a file, and a word of what is told. The tools that read it are asked then.
@@ -258,6 +264,10 @@ WRITTEN = (
     (SETTINGS, b"DATA=/caf\xe9\n", "isn't UTF-8"),
     (SETTINGS, b"DATA=$HOME/x\n", "a shell reads them otherwise"),
     (SETTINGS, b"SHARDS\n", "it is no NAME=VALUE"),
+    # (what a shell would read as another value, or as another number)
+    (SETTINGS, b"KEEP_BACKUPS=40\r\n", "has carriage returns"),
+    (SETTINGS, b"DATA=/var/lib/pdpd#2\n", "nor # without quotes"),
+    (SETTINGS, b"FIRST_PORT=0388\n", "without a zero before it"),
     (TOKEN, b"\n", "is no token"),
     (TOKEN, b"abc\n", "is no token"),
     (TOKEN, b"my secret pass phrase\n", "is no token"),
@@ -358,19 +368,25 @@ def put_backs(checks, machine, place, other):
 
 
 def undone(machine, checks, ask, place):
-    """What goes and comes by a put-back is told, and its undo is a command."""
+    """What goes and comes by a put-back is told, tokens too, and its undo is a command."""
+    names = (name for name in map("put{}".format, range(100)) if int(shards("where", name)) == place)
+    revoked, later = next(names), next(names)
+    by_token = machine.operator.makes(revoked)
     name = re.search(rf"/{place}/([^,]+), ", backs_up(place))[1]
-    later = next(it for it in map("later{}".format, range(100)) if int(shards("where", it)) == place)
     machine.operator.makes(later)
-    once(machine.operator.message("DELETE", "/ward"))
+    for path, body in (("/ward", None), (f"/{revoked}/tokens", json.dumps({"Token": f"{revoked}-token-1"}))):
+        once(machine.operator.message("DELETE", path, body))
+    checks.expect("the token is revoked", status_of(once(by_token)), 401)
     said = shards("put-back", place, name, "--yes")
-    checks.expect(f"what is told: {said}", (f"away then: 1 ({later})" in said, "there again: 1 (ward)" in said),
-                  (True, True))
+    told = (f"away then: 1 ({later})", "there again: 1 (ward)", f"as they were then: 1 ({revoked}). Policies and "
+            "attributes are those of then, and tokens that were revoked since are valid again")
+    checks.expect(f"what is told: {said}", [words in said for words in told], [True] * 3)
+    checks.expect("the token, then", decision(once(by_token)), "Permit")
     checks.expect("ward is there again", decision(once(ask)), "Permit")
     words = re.search(r"`pdpd-shards (put-back \S+ before-\S+)` undoes it", said)[1].split()
     checks.expect("it is listed", " ".join(words[1:]) in shards("backups"), True)
     shards(*words, "--yes")
-    checks.expect("and as before", machine.operator.names(), [later])
+    checks.expect("as before", (machine.operator.names(), status_of(once(by_token))), (sorted([revoked, later]), 401))
 
 
 STATES = (broken, removed, written, refused)

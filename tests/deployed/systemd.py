@@ -39,6 +39,7 @@ writes() {{ (: > "$1"); }}
 can "own store" head -c 1 /var/lib/pdpd/0/pdpd.db
 can "another's store" head -c 1 /var/lib/pdpd/1/pdpd.db
 can "another's store by its process" head -c 1 /proc/{0}/root/var/lib/pdpd/1/pdpd.db
+can "another's socket" ls /run/pdpd-shards/1/socket
 can "another's memory" head -c 0 /proc/{0}/mem
 can "another's memory by a call" python3 -c "import ctypes; ctypes.CDLL(None).syscall({1}, {0}, 0, 0, 0, 0, 0)"
 can "another's token" ls /run/credentials/pdpd@1.service
@@ -87,9 +88,17 @@ def walk(machine, checks, archive):
                "pdpd-shards config --write; pdpd-shards reload")
 
 
-def pid(machine, unit):
+def main_pid(machine, unit):
     """The process of a unit, as the machine counts them; 0 where there is none."""
     return int(machine.show(unit, "MainPID"))
+
+
+def pid(machine, unit):
+    """The process of a unit's program: of a shard the one whose input's pipe the unit's holds."""
+    process = main_pid(machine, unit)
+    if not unit.startswith("pdpd@"):
+        return process
+    return int(machine.sh(f"cat /proc/{process}/task/{process}/children").split()[0])
 
 
 def confinement(machine, checks, operator):
@@ -106,6 +115,8 @@ def confinement(machine, checks, operator):
     machine.wait_for("journalctl --no-pager -o cat -t probe | grep -qx end", "the probe doesn't end")
     seen = machine.sh("journalctl --no-pager -o cat -t probe").splitlines()
     checks.expect("what the unit lets a program in its place read and write", seen, ["own store", "end"])
+    said = machine.run("pdpd-shards status").stdout
+    checks.expect(f"what its log ends with: {said}", "(journalctl -u pdpd@0). Its log ends with: end\n" in said, True)
     machine.sh(AS_BEFORE.format("pdpd@0.service") + "; systemctl restart pdpd@0")
     wait_until(operator.is_answered, machine.tail)
     # (the same as the user, without the unit: the question would show it)
@@ -118,9 +129,10 @@ def kills(machine, checks, operator):
     before = {unit: pid(machine, unit) for unit in SERVICES}
     with Makers(operator, "k", also=(503,), pause=0.05) as makers:
         for unit in SERVICES:
+            main = main_pid(machine, unit)
             machine.sh(f"kill -KILL {before[unit]}")
             machine.wait_for(f'new=$(systemctl show --property=MainPID --value {unit}); '
-                             f'[ "$new" != 0 ] && [ "$new" != {before[unit]} ]', f"{unit} isn't started again")
+                             f'[ "$new" != 0 ] && [ "$new" != {main} ]', f"{unit} isn't started again")
             wait_until(operator.is_answered, machine.tail)
     checks.expect("other answers", makers.wrong, [])
     checks.within("domains that were made meanwhile", len(makers.acknowledged), Between(1))
@@ -131,11 +143,11 @@ def kills(machine, checks, operator):
 
 def stuck(machine, checks, operator):
     """A shard that is stopped (SIGSTOP) is killed by the watchdog, and started again."""
-    before = pid(machine, "pdpd@2")
+    before, main = pid(machine, "pdpd@2"), main_pid(machine, "pdpd@2")
     machine.sh(f"kill -STOP {before}")
     machine.wait_for("journalctl --no-pager -u pdpd-watchdog | grep -q 'shard 2 is stuck'", "no watchdog tells of it")
     machine.wait_for(f'new=$(systemctl show --property=MainPID --value pdpd@2); [ "$new" != 0 ] && '
-                     f'[ "$new" != {before} ]', "it isn't started again")
+                     f'[ "$new" != {main} ]', "it isn't started again")
     wait_until(operator.is_answered, machine.tail)
 
 

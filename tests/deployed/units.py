@@ -14,18 +14,20 @@ from .clients import Deciders, Makers, Operator, making, many, message, once
 from .clients import status as status_of
 from .machine import LIBRARY, PAGE, PLAIN, SETTINGS, TOP, as_user, backs_up, pid, sh, shards, wait_until
 
-SWITCHES = ("KEEP=1", "RETRY=1", "THREADS=4", "MAXCONN=4", "RATE=100", "PLAIN_BIND=127.0.0.1:8081",
+SWITCHES = ("FIRST_PORT=288", "CONNECTIONS=1000000;IDLE=4;KEEP=0;RETRY=0;MAXCONN=1;FIRST_PORT=288", "THREADS=4",
+            "MAXCONN=4", "RATE=100", "PLAIN_BIND=127.0.0.1:8081",
             "TLS_BIND=;PLAIN_BIND=127.0.0.1:8081", "TLS_BIND=[::]:443 v4v6", "HAPROXY_USER=", "LOG=/dev/log local0",
-            "LOG=/dev/log local0;LOG_DECISIONS=0", "RETRY=1;THREADS=4;RATE=5;LOG_DECISIONS=0",
-            "CLIENTS=10;UNDER_WAY=10;OF_SOURCE=0;REFUSALS=0", "AUDIT=1", "AUDIT=1;RETRY=1",
+            "LOG=/dev/log local0;LOG_DECISIONS=0", "THREADS=4;RATE=5;LOG_DECISIONS=0",
+            "CLIENTS=10;UNDER_WAY=10;OF_SOURCE=0;REFUSALS=0", "AUDIT=1",
             *(f"DECISIONS=1;DECISION_REQUESTS={words}" for words in ("whole", "digest", "none")),
-            "DECISIONS=1;LOG_DECISIONS=0", "AUDIT=1;METRICS=127.0.0.1:405", "METRICS=127.0.0.1:405")
+            "DECISIONS=1;LOG_DECISIONS=0", "AUDIT=1;METRICS=127.0.0.1:405", "METRICS=127.0.0.1:405",
+            "AUDIT=1;SELF=a;REPLICAS=a=10.0.0.1 b=10.0.0.2 c=10.0.0.3")
 CURL = "curl --silent --show-error --cacert /etc/haproxy/pdpd.crt"
 DOMAINS = "https://localhost/operator/domains"
-TRACED = 7198
 C_LIBRARY = {"linux-vdso.so.1", "libc.so.6", "ld-linux-x86-64.so.2"}
-WRONG = ("SHARDS=0", "SHARDS=65", "SHARDS=four", "KEEP=2", "NO_SUCH=1", "a line", "SUPERVISOR=cron",
-         "TLS_BIND=", "LOG_DECISIONS=2", "DECISION_REQUESTS=some")
+WRONG = ("SHARDS=0", "SHARDS=65", "SHARDS=four", "MAXCONN=61", "FIRST_PORT=no", f"SOCKETS=/{'x' * 100}", "SOCKETS=run",
+         "NO_SUCH=1", "a line", "SUPERVISOR=cron", "AUDIT=1\nREPLICAS=a=10.0.0.1", "SELF=a\nREPLICAS=a=10.0.0.1",
+         "AUDIT=1\nSELF=a\nREPLICAS=a", "ACK=some", "TLS_BIND=", "LOG_DECISIONS=2", "DECISION_REQUESTS=some")
 
 
 def walk(machine, checks):
@@ -96,21 +98,25 @@ def configurations(machine, checks):
     checks.expect("no word", "pdpd-shards: several pdpd" in shards(status=2), True)
     found, said = made_with(machine.folder, "CERTIFICATE=/no/such.pem")
     checks.expect(f"a certificate that isn't there: {said}", (found, "'/no/such.pem'" in said), (1, True))
+    leases = machine.folder / "settings" / "leases.map"
+    leases.unlink()
+    found, _ = made_with(machine.folder, "AUDIT=1\nSELF=a\nREPLICAS=a=10.0.0.1\nCERTIFICATE=/no/such.pem")
+    checks.expect("a map that a refused configuration leaves", (found, leases.exists()), (1, False))
     said = [shards("--help"), shards("status", "--xml", status=2)]
     checks.expect("its help", [text.strip() for text in said], [shards(status=2).strip()] * 2)
     containers = TOP / "deploy" / "container"
     checks.expect("the sidecar", sh(f"haproxy -c -q -f {containers}/haproxy-sidecar.cfg"), "")
-    scripts = f"{LIBRARY}/pdpd-run {LIBRARY}/pdpd-replica-run {LIBRARY}/runit/* {containers}/pdpd-loop"
-    scripts += f" {TOP}/deploy/debian/p*"
+    scripts = f"{LIBRARY}/pdpd-run {LIBRARY}/pdpd-hold {LIBRARY}/pdpd-replica-run {LIBRARY}/runit/*"
+    scripts += f" {containers}/pdpd-contained {TOP}/deploy/debian/p*"
     sh(f"for script in {scripts}; do sh -n $script; done")
 
 
 def installed(machine, checks):
     """The units, the checksums, a second installation elsewhere, and that the drawing is that of its text."""
     packed_again(machine, checks)
-    units = "./pdpd@0.service ./pdpd-watchdog.service ./pdpd-backup@0.service ./pdpd-backup@0.timer"
+    units = "./pdpd@0.service ./pdpd-place@0.service ./pdpd-watchdog.service ./pdpd-backup@0.service ./pdpd-backup@0.timer"
     units += " ./pdpd-replica@0.service ./pdpd-decisions.service ./pdpd-verify.service ./pdpd-verify.timer"
-    units += " ./pdpd-figures.service"
+    units += " ./pdpd-figures.service ./pdpd-rows.service ./pdpd-rows.timer"
     said = sh(f"cd /etc/systemd/system && systemd-analyze verify {units} 2>&1 || true")
     checks.expect("the units", said, "")
     there = machine.folder / "elsewhere"
@@ -165,16 +171,24 @@ def calls(machine, checks):
     """The system calls of a shard, from the shell on, are those that its unit allows."""
     at, unit = machine.folder / "calls", pathlib.Path("/etc/systemd/system/pdpd@.service").read_text()
     (at / "0").mkdir(parents=True)
-    (at / "shards.conf").write_text(f"DATA={at}\nFIRST_PORT={TRACED}\n")
+    (at / "shards.conf").write_text(f"DATA={at}\nSOCKETS={at}\n")
     surroundings = {**os.environ, "PDPD_SETTINGS": str(at / "shards.conf"), "LC_ALL": "C"}
-    words = ["strace", "-f", "-o", at / "trace", LIBRARY / "pdpd-run", "0"]
+    run = LIBRARY / "pdpd-run", "0"
+    words = ["strace", "-f", "-o", at / "trace", *run]
     messages = making("acme", "acme-token-1", operator=pathlib.Path("/etc/pdpd/token").read_text().strip())
-    with subprocess.Popen(words, env=surroundings, stdout=subprocess.PIPE) as traced:
-        traced.stdout.readline()
+    with subprocess.Popen(words, env=surroundings, stdout=subprocess.PIPE, stderr=subprocess.STDOUT) as traced:
+        said = [traced.stdout.readline()]
+        while not said[-1].startswith((b"listening ", b"pdpd-run: ")) and said[-1]:
+            said.append(traced.stdout.readline())
+        checks.expect(f"what it says of variables: {said}", [line for line in said if b"PDPD_" in line], [])
+        again = subprocess.run(run, env=surroundings, capture_output=True, text=True, check=False)
+        checks.expect(f"a second one: {again.stderr}", (again.returncode, "has it open" in again.stderr), (4, True))
         try:
-            answers = [status_of(once(data, TRACED)) for data, _ in messages]
+            answers = [status_of(once(data, f"{at}/0/socket")) for data, _ in messages]
         finally:
+            # (it is told to end, and answers what is under way)
             sh(f"kill $(cat /proc/{traced.pid}/task/{traced.pid}/children)")
+            checks.expect("its end", traced.wait(30), 0)
     checks.expect("its answers", answers, [201, 200, 201, 200, 200])
     made = set(re.findall(r"(?m)^\d+ +(\w+)\(", (at / "trace").read_text()))
     checks.expect("it makes system calls: those that it doesn't", {"execve", "fdatasync", "accept4"} - made, set())
@@ -218,7 +232,7 @@ def want_of_memory(machine, checks):
     checks.expect("how the unit starts it again", settings, wanted)
     checks.expect("the ends behind which it doesn't, of statuses and signals", prevented,
                   {str(MISTAKE), str(CREDENTIALS)})
-    log, reason = pathlib.Path("/var/log/pdpd/pdpd-3/current"), "pdpd serve: out of memory"
+    log, reason = pathlib.Path("/var/log/pdpd/pdpd-3/current"), "pdpd listen: out of memory"
     supervisor = int(sh("pgrep -f -x 'runsv pdpd-3'"))
     before = log.read_text().count(reason)
     # (what it may be at the most stays, so that it can be set back)
@@ -288,7 +302,7 @@ def another_schema(machine, checks):
     with carrying.open_store(folder / "pdpd.db") as base:
         base.execute("UPDATE meta SET schema_no = schema_no + 1")
     before = (folder / "pdpd.db").read_bytes()
-    words = ["pdpd", "serve", folder / "pdpd.db", "127.0.0.1:7199", "/etc/pdpd/token", "1"]
+    words = ["pdpd", "listen", folder / "pdpd.db", "127.0.0.1:7199", "/etc/pdpd/token"]
     ran = subprocess.run(words, capture_output=True, text=True, check=False, timeout=20)
     found = ran.returncode, "not a store of this program (schema)" in ran.stderr
     checks.expect(f"another schema: {ran.stderr}", found, (4, True))
