@@ -221,14 +221,22 @@ function refuse(r, fault) {
     r.return(fault.status || 503);
 }
 
-// By `then`, since njs 0.7.9 ends its worker at an `await` among the arguments of a call.
+function ask(r, body) {
+    return r.subrequest('/pdp-decision', {method: 'POST', body: body, args: ''});
+}
+
+// A decision changes nothing: it is asked for once more if its connection ended before a byte of a reply, as one does
+// that `pdpd listen` lets give way. By `then`, since njs 0.7.9 ends its worker at an `await` among the arguments of a
+// call.
 function guard(r) {
     try {
         refuse_odd_names(r);
         const subject = subject_of(r);
         const body = question(r, subject);
         refuse_form(r);
-        r.subrequest('/pdp-decision', {method: 'POST', body: body, args: ''})
+        ask(r, body)
+            .then(reply => reply.status === 502 && reply.variables.upstream_bytes_received === '0'
+                ? ask(r, body) : reply)
             .then(reply => let_through(r, subject, permitted(reply)))
             .catch(fault => refuse(r, fault));
     } catch (fault) {

@@ -198,14 +198,13 @@ def faulty():
 
 
 def ended_meanwhile(point):
-    """If a connection that was kept ends before a byte of a reply, HAProxy asks once more, and nginx refuses."""
+    """If a connection that was kept ends before a byte of a reply, the decision is asked for once more."""
     def once(connection, server):
         if len(server.messages) > 1:
             reset(connection)
         else:
             connection.sendall(PERMIT)
-    for more, wanted in ((keeps(PERMIT), (200, 3)), (b"", (503, 3))) if point is Haproxy else (
-            (keeps(PERMIT), (503, 2)), ):
+    for more, wanted in ((keeps(PERMIT), (200, 3)), (b"", (503, 3))):
         with tempfile.TemporaryDirectory() as made, Scripted(once, more) as pdp, Scripted(told) as echo:
             with point(pdp.url, echo, made, KeptConnections=1) as guarded:
                 expect(f"{point.name}: the first", guarded.sent("/open/x")[0], 200)

@@ -189,8 +189,9 @@ def orphaned(machine, checks):
     wait_until(lambda: pid(1) != process, "no other one begins")
     time.sleep(2)
     _, said = asked("status")
-    heals = re.search(r"WRONG: shard 1 takes no connections: process \d+, .*: (kill \d+)", said)
-    checks.expect(f"without its supervisor: {said}", (heals or [""])[0].endswith(f": kill {process}"), True)
+    # (it may have its socket still, or only its file)
+    is_told = re.search(rf"WRONG: .*shard 1.*( process {process}\. End it|: kill {process}\b)", said) is not None
+    checks.expect(f"without its supervisor: {said}", is_told, True)
     sh(f"kill {process}")
     wait_until(machine.operator.is_answered, "the shard stays away")
 

@@ -4,6 +4,7 @@ import os
 import resource
 import signal
 import subprocess
+import time
 
 from checks import Between
 from growths import FAILING, compiled
@@ -83,6 +84,16 @@ def refused_at_start():
 CONNECTIONS = 60
 
 
+def files_open(process):
+    """How many files it has open once those of connections that have ended are closed: the fewest within a second."""
+    counts = []
+    until = time.monotonic() + 1
+    while time.monotonic() < until:
+        counts.append(len(os.listdir(f"/proc/{process.pid}/fd")))
+        time.sleep(0.05)
+    return min(counts)
+
+
 def served_by(library, connections):
     """What a run holds that serves so many connections, which end in different ways; and how many files it has open
     before its last connection."""
@@ -92,7 +103,7 @@ def served_by(library, connections):
                 client.send((ASK, LIST, ASK[:-5], ASK + LIST[:20], b"\x80", b"")[number % 6])
                 client.ends_writing()
                 client.all()
-        files = len(os.listdir(f"/proc/{served.process.pid}/fd"))
+        files = files_open(served.process)
         expect("the last connection", served.once(ASK), [PERMIT])
         said = served.ended()[1]
     return Held(*map(int, said.split()[-4:])), files
