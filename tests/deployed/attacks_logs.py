@@ -3,8 +3,10 @@ user that keeps them."""
 import collections
 import contextlib
 import json
+import os
 import pathlib
 import re
+import signal
 import socket
 import struct
 import sys
@@ -111,13 +113,14 @@ def left_by_tenant(checks):
     # (HAProxy 3.0 says 400)
     lost = r'lost .* PUT "/domains/acme/pip" (-1|400) '
     end = sum(bool(re.match(lost, line)) for line in lines_in("refused"))
-    service = f"/etc/service/pdpd-{shards('where', 'acme').strip()}"
-    sh(f"sv pause {service}")
+    # (the program itself: the supervisor would stop what holds its input)
+    program = pid(int(shards("where", "acme")))
+    os.kill(program, signal.SIGSTOP)
     client = Outsider(1)
     client.send(message("PUT", "/domains/acme/pip", "acme-token-1", '{"Row":[]}'))
     checks.expect("its change waits", client.is_silent(1), True)
     goes(client)
-    sh(f"sv cont {service}")
+    os.kill(program, signal.SIGCONT)
     wait_until(lambda: sum(bool(re.match(lost, line)) for line in lines_in("refused")) > end, "it isn't logged")
 
 
