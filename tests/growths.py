@@ -160,10 +160,14 @@ class Replay(Program):
 
 
 class Rows(Program):
-    """A row of xa_trials, over a keeper in memory, that tells at its end what the server has counted."""
+    """A row of xa_trials, over one keeper alone, that tells at its end what the server has counted."""
+
+    def __init__(self, path, library, kind="server_in_memory"):
+        super().__init__(path, library)
+        self.kind = kind
 
     def run(self, messages, place):
-        fields, at = ["server_in_memory"], 0
+        fields, at = [self.kind], 0
         for moment, held in messages:
             if moment != at:
                 fields.append(f"moment:{moment}")

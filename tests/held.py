@@ -5,6 +5,7 @@ import collections
 import json
 import os
 import subprocess
+import tempfile
 
 from growths import encoded, line
 from sent import OPERATOR, UNAVAILABLE, making, message, policy, rows_body
@@ -76,7 +77,10 @@ Held = collections.namedtuple("Held", "most left allocations taken")
 def counted(words, library, given):
     """What a run holds, and what it writes."""
     surroundings = {**os.environ, "LD_PRELOAD": library}
-    ran = subprocess.run(words, input=given, capture_output=True, env=surroundings, check=True)
+    with tempfile.TemporaryFile() as input_file:  # (of a pipe a read may give less, which takes other room)
+        input_file.write(given)
+        input_file.seek(0)
+        ran = subprocess.run(words, stdin=input_file, capture_output=True, env=surroundings, check=True)
     return Held(*map(int, ran.stderr.split()[-4:])), ran.stdout
 
 

@@ -5,11 +5,11 @@ usage: tests/memory.py [PDPD XA_TRIALS]      the programs; if none are named, th
                                              very sources, or else compiled of them without proof
 
 The scripts of tests/rows/tripped.rows, one behind another, ask for all that is served. They go through `pdpd replay`,
-over tables in memory, and through a row of xa_trials, over a keeper in memory. In each run one allocation fails, every
-one in turn, until fifty in a row touch nothing. A run may end early, for want of memory, behind any reply; but for that
-each message has its reply, one at the most is answered with the fixed 503, and the others are answered as if that one
-had never come: by the model of the server in tests/model. Where a decision finds no memory to be held the reply stands,
-`unkept` is 1, and the same ask again is worked out once more and answered by the same bytes.
+over tables in memory, and through rows of xa_trials, over tables alone and over a keeper in memory. In each run one
+allocation fails, every one in turn, until fifty in a row touch nothing. A run may end early, for want of memory, behind
+any reply; but for that each message has its reply, one at the most is answered with the fixed 503, and the others are
+answered as if that one had never come: by the model of the server in tests/model. Where a decision finds no memory to
+be held the reply stands, `unkept` is 1, and the same ask again is worked out once more and answered by the same bytes.
 """
 import collections
 import os
@@ -142,10 +142,12 @@ def main():
         faults += faults_of_refusals(xa_trials, counting)
         faults += [f"the script doesn't ask for: {command}" for command in not_asked(script())]
         tables = Refusing("the script over tables", Replay(pdpd, library), script())
+        rows = Refusing("the script over tables, as a row", Rows(xa_trials, library, "server_in_tables"), script())
         vectors = Refusing("the script over a keeper in memory", Rows(xa_trials, library), script())
         asked = Asking("the same ask twice over a keeper in memory", Rows(xa_trials, library), asks)
-        runs = sum(each.all() for each in (tables, vectors, asked))
+        runs = sum(each.all() for each in (tables, rows, vectors, asked))
     faults += tables.wants("one message refused", "ended early", "answered")
+    faults += rows.wants("one message refused", "ended early", "answered", "one decision unkept")
     faults += vectors.wants("one message refused", "ended early", "answered", "one decision unkept")
     faults += asked.wants("one message refused", "ended early", "answered", "asked again")
     for fault in faults[:20]:

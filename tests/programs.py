@@ -28,7 +28,7 @@ import time
 TOP = pathlib.Path(__file__).resolve().parent.parent
 UNPROVED = TOP / "build" / "unproved"
 # How a program is compiled without proof. Without optimisation each call clears its locals: the program is
-# there sooner, and a run takes thirty times as long.
+# there sooner, and a decision takes many times as long.
 OPTIMISED, QUICKLY = "-O1", "-O0"
 # How long a compilation may take, in seconds, and how often is looked how far it is.
 PATIENCE, PAUSE = 3600, 0.2
@@ -263,7 +263,7 @@ def shortcoming(name, program):
         return "it was compiled without proof: nothing that it does is proved"
     if program == unproved_path(name, QUICKLY):
         return ("it was compiled without proof and without optimisation: nothing that it does is proved, "
-                "and a decision takes some thirty times as long as it should")
+                "and a decision takes many times as long as it should")
     return f"it is {program}: whether that is proved isn't known here"
 
 

@@ -4,7 +4,7 @@ drawn, as the program xa_schedules answers them and as tests/model/reactors.py d
 
 usage: tests/schedules.py PROGRAM [COUNT [SEED]]    so many drawn schedules, 10,000 if none is said
        tests/schedules.py --write                   writes the worked ones and their answers, by the model, to where the
-                                                    CI gate runs the program on them
+                                                    CI gate runs the program on them; those of long replies aren't
 """
 import pathlib
 import random
@@ -16,8 +16,10 @@ sys.dont_write_bytecode = True
 sys.path[:0] = [str(TESTS / "model"), str(TESTS)]
 from counting import CountingServer  # noqa: E402
 from reactors import schedule  # noqa: E402
-from sent import OPERATOR, message  # noqa: E402
+from sent import OPERATOR, growing_policy, making, message  # noqa: E402
 
+TOKEN = "acme-token-1"
+ASK, LONG = message("POST", "/domains/acme/pdp", TOKEN, '{"Request":{}}'), 15_360_665  # bytes of the longest reply
 ROWS = TESTS.parent / "crates" / "xa_schedules"
 COUNT, AT_ONCE = 10_000, 500
 LIST, LAST = message("GET", "/operator/domains", OPERATOR), message("GET", "/", OPERATOR).replace(b"1.1", b"1.0")
@@ -67,8 +69,60 @@ def crowded_rows():
     yield ["arrive:64", "turn", "time:500", "turn", "arrive:3", f"comes:64:{LIST.hex()}", "turn", "turn", "got:64"]
 
 
+def busy_rows():
+    """Time passes while others have their shares: nobody's is counted from before what happened to it."""
+    deaf, asks = "takes:0:0", f"comes:0:{LIST.hex()}"
+    for passes in (4_000, 5_001, 12_000):  # a reply that isn't taken, behind an answer that took so long
+        yield [f"passes:{passes}", "arrive:1", asks, deaf, *["turn"] * 4, "got:0"]
+    for held in (LIST[:9], b""):  # half a message and silence, on the second, behind an answer on the first
+        yield ["limits:3000:3000", "passes:1000", "arrive:2", asks, f"comes:1:{held.hex()}", *["turn"] * 4]
+    # all places are taken, and the last reply was sent just now; another comes
+    yield ["arrive:64", "turn", "passes:60", asks, *["turn"] * 2, "passes:0", "arrive:1", "ready:0:", *["turn"] * 3]
+    # one that was parted with sends on, and is told to end, so that a read never tells that nothing is left
+    for now in (1_999, 2_000):
+        yield ["arrive:1", f"comes:0:{LAST.hex()}", "turn", f"time:{now}", "comes:0:00", "ready:0:re", "turn"]
+
+
+def door_rows():
+    """The program is told to end, and some wait at the door: they are served; where all places are taken, for a second,
+    or until one is free."""
+    halves = [f"comes:{peer}:{LIST[:5].hex()}" for peer in range(64)]
+    yield ["arrive:1", "turn", "arrive:2", *(f"comes:{peer}:{LIST.hex()}" for peer in (1, 2)), "end", "turn",
+           "arrive:1", "turn", "time:1000", "turn", "got:1", "got:2"]
+    for now in (999, 1_000):
+        yield ["arrive:64", *halves, "turn", "arrive:1", f"comes:64:{LIST.hex()}", "end", "turn", f"time:{now}",
+               f"comes:7:{LIST[5:].hex()}", "turn", "ends:9:", "turn", "turn", "turn", "got:64"]
+
+
+def asking(policy, peers):
+    """The first fields of a row: so many peers come, the first of whom makes a domain with that policy."""
+    makes = b"".join(sent for sent, _ in making("acme", TOKEN, policy))
+    return [f"arrive:{peers}", f"comes:0:{makes.hex()}", *["turn"] * 6]
+
+
+def marked_rows():
+    """When the ten seconds of a reply begin anew: by 65,536 bytes of it, taken in two turns."""
+    begins = asking(growing_policy(1, doublings=5).replace("urn:p1", "urn:p"), 2)
+    for takes in (32_767, 32_768, 65_536):
+        yield [*begins, f"takes:1:{takes}", f"comes:1:{ASK.hex()}", "turn", "time:9000", "ready:1:w", "turn",
+               "takes:1:0", "time:10000", "turn", "time:18999", "turn", "time:19000", "turn"]
+
+
+def held_rows():
+    """How many bytes of replies are held, whatever is left of them to be sent: three peers take nearly all of theirs,
+    and a fourth lists; it is answered once one of them has taken all."""
+    begins = asking(growing_policy(5).replace("urn:p5", "urn:p"), 5)
+    for left in (0, 1):
+        yield [*begins, *(f"takes:{peer}:{LONG - left}" for peer in (1, 2, 3)),
+               *(f"comes:{peer}:{ASK.hex()}" for peer in (1, 2, 3)), "turn", f"comes:4:{LIST.hex()}",
+               *(f"takes:{peer}:0" for peer in (1, 2, 3)), "turn", "turn", "takes:1:1", "turn", "turn", "got:4"]
+
+
 def ending_rows():
     """The program is told to end: with nobody there, with one that is quiet, and with a message under way."""
+    for began in (0, 1):  # half a message, for which no limit is set
+        yield ["limits:1000:0", "arrive:1", "turn", f"time:{began}", f"comes:0:{LIST[:9].hex()}", "turn", "time:10000",
+               "turn", "end", "turn", "time:10001", "turn"]
     for held in (b"", LIST, LIST[:-1]):
         yield ["arrive:1", f"comes:0:{held.hex()}", "turn", "turn", "end", "turn", "time:999", "turn",
                f"comes:0:{LIST[-1:].hex()}", "turn", "time:1000", "turn", "turn", "got:0"]
@@ -77,7 +131,7 @@ def ending_rows():
 
 def worked():
     """All of them."""
-    for rows in (mixed_rows, failing_rows, late_rows, crowded_rows, ending_rows):
+    for rows in (mixed_rows, failing_rows, late_rows, crowded_rows, busy_rows, door_rows, marked_rows, ending_rows):
         for row in rows():
             yield "\t".join(row)
 
@@ -110,6 +164,8 @@ class Drawn:
                        if chance.random() < 0.15]
         if chance.random() < 0.3:
             self.fields.insert(0, f"limits:{chance.choice((0, 500, 3000))}:{chance.choice((0, 400, 2000))}")
+        if chance.random() < 0.3:
+            self.fields.append(f"passes:{chance.choice((1, 30, 400))}")
 
     def arrive(self):
         count = self.chance.choice((1, 2, 3, 60, 70)) if self.count < 130 else 1
@@ -143,7 +199,7 @@ class Drawn:
         elif kind < 0.65:
             self.now += self.chance.choice((1, 50, 100, 399, 1_000, 10_000))
             self.fields.append(f"time:{self.now}")
-        elif kind < 0.655:
+        elif kind < 0.66:
             self.fields.append("end")
         else:
             self.fields.append("turn")
@@ -182,7 +238,7 @@ def write():
 
 def compare(program, count, seed):
     """The first schedules that are answered otherwise; the number of those that are."""
-    rows, differ = [*worked(), *drawn(count, seed)], 0
+    rows, differ = [*worked(), *("\t".join(row) for row in held_rows()), *drawn(count, seed)], 0
     for at in range(0, len(rows), AT_ONCE):
         part = rows[at:at + AT_ONCE]
         for row, found, wanted in zip(part, answered(program, part), modelled(part), strict=True):

@@ -1,6 +1,9 @@
 """Messages and replies as bytes, and what makes a domain of one policy: what tests and benchmarks send and expect."""
+import json
+
 
 OPERATOR = "operator-token-1"
+JOIN = "urn:oasis:names:tc:xacml:2.0:function:string-concatenate"
 
 
 def message(method, path, token, body=None, more=""):
@@ -42,6 +45,27 @@ def policy_of(rules, policy_id="urn:p", version="1.0", description=None):
 def policy(effect="Permit", policy_id="urn:p", version="1.0", description=None):
     """A policy of one rule, with that effect."""
     return policy_of(f'{{"RuleId":"r","Effect":"{effect}"}}', policy_id, version, description)
+
+
+def written(value):
+    return json.dumps(value, separators=(",", ":"))
+
+
+def growing_policy(assignments, first="\x01" * 1_000, doublings=9):
+    """The text of a policy that permits, with so many assignments of a text that is doubled so often: of one of
+    512,000 bytes, each of which is six in a response."""
+    def variable(number):
+        return {"VariableReference": {"VariableId": f"v{number}"}}
+
+    steps = [{"AttributeValue": {"DataType": "string", "Value": first}}]
+    steps += [{"Apply": {"FunctionId": JOIN, "Expression": [variable(number)] * 2}} for number in range(doublings)]
+    assigned = {"AttributeId": "a", "Expression": variable(doublings)}
+    duty = {"ObligationId": "o", "FulfillOn": "Permit", "AttributeAssignmentExpression": [assigned] * assignments}
+    held = json.loads(policy("Permit", f"urn:p{assignments}"))
+    held["Policy"] |= {"VariableDefinition": [{"VariableId": f"v{number}", "Expression": expression}
+                                              for number, expression in enumerate(steps)],
+                       "ObligationExpressions": [duty]}
+    return written(held)
 
 
 def making(name, token, text=None, operator=OPERATOR):

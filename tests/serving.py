@@ -144,11 +144,13 @@ class Served:
             return [client.ask(one) for one in messages]
 
     def ended(self):
-        """What the program writes after its first line, what it says but of connections, and its exit status, once it
-        has ended by itself; `listen` ends as its input does, and says when it begins and ends and whom it drops."""
+        """What the program writes after its first line, what it says but of connections and of messages that it
+        refuses, and its exit status, once it has ended by itself; `listen` ends as its input does, and says when it
+        begins and ends and whom it drops."""
         out, said = self.process.communicate(timeout=PATIENCE)
-        of_connections = rb"(?m)^pdpd listen: 127\.0\.0\.1:%d: (begins|ends: |dropped ).*\n" % self.port
-        return out, re.sub(of_connections, b"", said), self.process.returncode
+        of_connections = rb" listen: 127\.0\.0\.1:%d: (begins|ends: |dropped ).*\n" % self.port
+        said = re.sub(rb"(?m)^pdpd(%b|: refused a message .*\n)" % of_connections, b"", said)
+        return out, said, self.process.returncode
 
     def failed(self):
         """The same of a program that ends by a fault, whatever becomes of its input."""

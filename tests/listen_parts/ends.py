@@ -10,9 +10,10 @@ from serve_parts.shared import (
     ASK, LIST, PERMIT, PROGRAM, TOKEN_FILE, creates, environment, expect_refusal, folder, listing, serving)
 from serving import CREATED, free_port
 
-from .shared import clients_of, expect, listening, timed, within
+from .shared import PLACES, clients_of, expect, listening, timed, within
 
 LEFT = 41  # bytes: the header of a log, and none of a commit
+WAITING = 6  # connections that wait beside those that have a place
 
 
 def by_input():
@@ -41,6 +42,34 @@ def by_input():
         expect("the log is written back", (folder / "by-input.db-wal").stat().st_size, LEFT)
     with serving("by-input.db") as served:
         expect("what was answered is there", served.once(LIST), [listing(["acme", "beta"])])
+
+
+def at_the_door():
+    """Those that wait at the door when its input ends, more than there are places, are served."""
+    with listening("at-the-door") as served:
+        served.process.send_signal(signal.SIGSTOP)
+        with clients_of(served, PLACES + WAITING) as clients:
+            for client in clients:
+                client.send(ASK)
+            served.process.stdin.close()
+            served.process.send_signal(signal.SIGCONT)
+            expect("asks of those that waited", [client.reply() for client in clients], [PERMIT] * (PLACES + WAITING))
+            expect("nothing more", [client.all() for client in clients], [b""] * (PLACES + WAITING))
+        served.process.stdin = None
+        expect("the end", served.ended(), (b"", b"", 0))
+
+
+def half_a_message():
+    """Half a message, for whose rest no limit is set, doesn't keep the program from ending."""
+    with listening("half-a-message", PDPD_MESSAGE="0") as served, served.client() as client:
+        client.send(ASK[:-1])
+        time.sleep(0.3)
+        served.process.stdin.close()
+        expect("it is waited for", client.is_silent(8), True)
+        expect("and not for ever", client.is_silent(6), False)
+        client.close()
+        served.process.stdin = None
+        expect("the end", served.ended()[2], 0)
 
 
 def by_terminal():

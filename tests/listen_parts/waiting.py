@@ -3,7 +3,9 @@ import selectors
 import time
 
 from checks import Between
+from serve_parts.limits import refusals_in
 from serve_parts.shared import ASK, LIST, PERMIT
+from serving import UNAVAILABLE
 
 from .shared import PLACES, clients_of, expect, listening, timed, within
 
@@ -79,12 +81,31 @@ def told():
             for client in clients:
                 expect("one of forty that are late", client.all(), b"")
         time.sleep(1.2)
-        with served.client() as last:
-            last.send(LIST[:-2])
-            expect("one more", last.all(), b"")
+        with served.client() as last, served.client() as idle:
+            last.send(ASK + LIST[:-2])
+            expect("a message of one that is idle then", idle.ask(ASK), PERMIT)
+            expect("one more, whose first message was whole", last.all(), PERMIT)
+            expect("the idle one", idle.all(), b"")
         served.kill()
         said = served.said.decode()
         lines = [line for line in said.splitlines() if "dropped" in line]
         within("lines about 41 drops", len(lines), Between(11, 31))
         expect("the last tells of those that were left out", "others before" in lines[-1], True)
         expect("the operator's token in them", "operator-token" in said, False)
+
+
+def refusals():
+    """Of messages that are refused a line is said, of at most ten in a second, and each is told once."""
+    with listening("refusals", PDPD_WORK="319") as served:
+        with clients_of(served, 40) as clients:
+            for client in clients:
+                client.send(ASK)
+            for client in clients:
+                expect("one of forty that are refused", client.reply(), UNAVAILABLE)
+        time.sleep(1.2)
+        expect("one more", served.once(ASK, LIST)[0], UNAVAILABLE)
+        served.kill()
+        lines = served.said.decode().splitlines()
+        expect("what they name", {"acme: more work than the limit" in line for line in lines}, {True})
+        within("lines about 41 refusals", len(lines), Between(2, 31))
+        expect("refusals of which they tell", refusals_in(lines), 41)

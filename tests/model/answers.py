@@ -236,6 +236,7 @@ KINDS = {
     "driven": drives.driven,
     "decide": decisions.decide,
     "server": servers.server,
+    "run": servers.run,
     "stored": stores.stored,
     "keeper": records.keeper,
     "keeper_with": records.keeper_with,

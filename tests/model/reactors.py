@@ -1,15 +1,16 @@
 """What a reactor does: connections come to 64 places, and are served in turns, in each of which every one has a share.
 
 Peers say what they send and how many bytes they take at a write; every so many reads, writes and arrivals fail. Times
-are milliseconds of a clock that may stand.
+are milliseconds of a timer that may stand, or go on each time that it is asked.
 """
 from fronts import MOST_OPEN, Front
 from messages import Fault, Message
 
 PIECE = 65_536
 # for how long a reply may be under way, in all and with fewer than LEAST_BYTES of it taken; what comes behind the last
-# one is dropped; one that owes nothing stays where all places are taken; and a reactor that ends waits for a message
-REPLY, SLOW, PARTING, GRACE, LEAVING = 120_000, 10_000, 2_000, 100, 1_000
+# one is dropped; one that owes nothing stays where all places are taken; a reactor that ends waits for the first byte
+# of a message; and for the rest of it, if no limit is set
+REPLY, SLOW, PARTING, GRACE, LEAVING, LAST = 120_000, 10_000, 2_000, 100, 1_000, 10_000
 LEAST_BYTES, MOST_DROPPED, MOST_UNDER_WAY, MOST_FAILURES = 65_536, 67_108_864, 33_554_432, 1_000
 
 
@@ -84,6 +85,7 @@ class Lane:
 
     def __init__(self, now):
         self.rest, self.is_last, self.holding, self.ready = b"", False, "Nothing", [True, True, False]
+        self.size = 0
         self.enter("Quiet", now)
 
     def enter(self, stage, now):
@@ -92,6 +94,10 @@ class Lane:
     def wants_room(self):
         """Whether it holds a whole message, the last reply was sent, and it wasn't parted with."""
         return self.holding == "Whole" and not self.rest and self.stage != "Parting"
+
+    def can_go(self, has_room):
+        """Whether something can be done for it at once."""
+        return self.ready[1] if self.rest else has_room if self.holding == "Whole" else self.ready[0]
 
     def time_left(self, limits, now):
         """How long it is still waited for; None for ever."""
@@ -102,23 +108,40 @@ class Lane:
         return min(found, max(0, SLOW - max(0, now - self.mark))) if self.stage == "Outgoing" else found
 
 
+class Timer:
+    """What tells the time, and each time so much more."""
+
+    def __init__(self):
+        self.now, self.step = 0, 0
+
+    def tell(self):
+        told, self.now = self.now, self.now + self.step
+        return told
+
+
 class Reactor:
     """Turns over a front and a network."""
 
-    def __init__(self, server, network, idle=30_000, message=10_000):
+    def __init__(self, server, network, timer, idle=30_000, message=10_000):
         self.front, self.network, self.lanes = Front(server), network, [None] * MOST_OPEN
         self.limits, self.first, self.leaving = {"Quiet": idle, "Incoming": message}, 0, None
-        self.door, self.end, self.failures, self.again, self.deeds, self.moment = True, False, 0, None, [], 0
+        self.door, self.end, self.failures, self.deeds, self.moment, self.timer = True, False, 0, [], 0, timer
+        self.began = 0
 
     # ---- what is known
 
     def limits_now(self):
-        idle = self.limits["Quiet"]
+        idle, message = self.limits.values()
         return self.limits if self.leaving is None else {
-            **self.limits, "Quiet": LEAVING if idle is None else min(idle, LEAVING)}
+            "Quiet": LEAVING if idle is None else min(idle, LEAVING), "Incoming": LAST if message is None else message}
+
+    def has_left(self, now):
+        """Whether the reactor was told to end, and has waited since."""
+        return self.leaving is not None and now - self.leaving >= LEAVING
 
     def has_room(self):
-        return sum(len(lane.rest) for lane in self.lanes if lane) <= MOST_UNDER_WAY
+        """Whether another reply may be held: each is, whole, until all of it is sent."""
+        return sum(lane.size for lane in self.lanes if lane) <= MOST_UNDER_WAY
 
     def idlest(self):
         """The place and the time of the one that has owed nothing for the longest time."""
@@ -170,7 +193,7 @@ class Reactor:
 
     def take_some(self, now):
         for _ in range(MOST_OPEN):
-            if self.leaving is not None or not self.door or not self.take_one(now):
+            if self.network.is_shut or not self.door or not self.take_one(now):
                 return
 
     # ---- a share
@@ -179,8 +202,8 @@ class Reactor:
         """What comes behind a reply that was sent whole: it is parted with behind the last one, or if its stream has
         ended."""
         lane = self.lanes[place]
-        parts = lane.is_last or self.leaving is not None and now - self.leaving >= LEAVING
-        lane.holding = "Ended" if parts else self.held(place)
+        lane.size = 0
+        lane.holding = "Ended" if lane.is_last or self.has_left(self.began) else self.held(place)
         if lane.holding == "Ended":
             self.network.seats[place].is_parted = True
             self.deeds.append(f"{place}|")
@@ -233,36 +256,43 @@ class Reactor:
         return "Goes"
 
     def answer(self, place, now):
-        if self.moment is None:
-            raise Halt("NoClock")
         lane, answer = self.lanes[place], self.front.answer(place, self.moment)
         lane.rest, lane.is_last, lane.holding = answer.reply, answer.is_last, "Part"
+        lane.size = len(lane.rest)
         lane.enter("Outgoing", now)
 
-    def go(self, place, now, has_room):
-        """How far the connection is behind its share."""
+    def go(self, place, has_room):
+        """How far the connection is behind its share. Its times are those when something happens in it, and not when
+        the turn began: others may have had long shares before, and an answer may take long."""
         lane = self.lanes[place]
+        if not lane.can_go(has_room):
+            return "Waits"
+        now = max(self.began, self.timer.tell())
         went = self.send_some(place, now)
         if went == "Goes" and not lane.rest and lane.holding != "Whole":
             went = self.read_some(place, now)
         if went in ("Goes", "Waits") and lane.wants_room() and has_room:
+            if self.moment is None:
+                raise Halt("NoClock")
+            now = max(now, self.timer.tell())
             self.answer(place, now)
             went = self.send_some(place, now)
         if went not in ("Goes", "Waits"):
             return went
-        can_go = lane.ready[1] if lane.rest else has_room if lane.holding == "Whole" else lane.ready[0]
-        return "Goes" if can_go else "Waits"
+        return "Goes" if lane.can_go(has_room) else "Waits"
 
-    def share(self, place, now):
-        """Whether the connection at a place can go on at once."""
+    def share(self, place):
+        """Whether the connection at a place can go on at once. It is late by the time at which what is ready was told:
+        one that waits for its peer, and one of which all is dropped also if more comes."""
         lane = self.lanes[place]
         if lane is None:
             return False
         has_room = (lane.holding == "Whole" or lane.ready[0]) and self.has_room()
-        went = self.go(place, now, has_room)
-        if went == "Waits" and not lane.wants_room() and lane.time_left(self.limits_now(), now) == 0:
-            self.close(place, "Ended" if lane.stage == "Parting" else "Late")
-        elif went not in ("Goes", "Waits"):
+        went = self.go(place, has_room)
+        waits = went == "Waits" and not lane.wants_room() or went == "Goes" and lane.stage == "Parting"
+        if waits and lane.time_left(self.limits_now(), self.began) == 0:
+            went = {"Quiet": "Idle", "Parting": "Ended"}.get(lane.stage, "Late")
+        if went not in ("Goes", "Waits"):
             self.close(place, went)
         return went == "Goes"
 
@@ -280,24 +310,31 @@ class Reactor:
         if self.has_room() and any(lane and lane.wants_room() for lane in self.lanes):
             return 0
         found = [left for lane in waits if (left := lane.time_left(self.limits_now(), now)) is not None]
-        if self.door and self.leaving is None:
-            idlest = self.idlest()
-            found += [0] if None in self.lanes else [max(0, GRACE - (now - idlest[0]))] if idlest else []
-        return min(found, default=None)
+        return min(found + self.rest_at_door(now), default=None)
 
-    def turn(self, now):
+    def rest_at_door(self, now):
+        """The same, for those that wait at the door, and for the door."""
+        if self.network.is_shut or not self.door and self.leaving is None:
+            return []
+        if not self.door or None in self.lanes:
+            return [0]
+        idlest = self.idlest()
+        found = [max(0, GRACE - max(0, now - idlest[0]))] if idlest else []
+        return found + ([] if self.leaving is None else [max(0, LEAVING - max(0, now - self.leaving))])
+
+    def turn(self):
         """What is done in a turn; gives for how long nothing is to be done then, None for ever."""
+        self.began = now = self.timer.tell()
         if self.end and self.leaving is None:
-            self.network.is_shut, self.leaving = True, now
+            self.leaving = now
+        if self.leaving is not None and (not self.door or self.has_left(now)):
+            self.network.is_shut = True
         self.take_some(now)
         goes = False
         for offset in range(MOST_OPEN):
-            goes |= self.share((self.first + offset) % MOST_OPEN, now)
+            goes |= self.share((self.first + offset) % MOST_OPEN)
         self.first = (self.first + 1) % MOST_OPEN
-        return 0 if goes else self.rest(now)
-
-    def is_over(self):
-        return self.leaving is not None and not any(self.lanes)
+        return 0 if goes else self.rest(max(now, self.timer.tell()))
 
 
 # ---- rows
@@ -306,13 +343,13 @@ class Schedule:
     """What the fields of a row do, and what they answer."""
 
     def __init__(self, server):
-        self.network, self.now, self.told = Network(), 0, None
+        self.network, self.timer, self.told = Network(), Timer(), None
         self.server, self.found = server, []
-        self.reactor = Reactor(server, self.network)
+        self.reactor = Reactor(server, self.network, self.timer)
 
     def limits(self, text):
         idle, message = (int(word) or None for word in text.split(":"))
-        self.reactor = Reactor(self.server, self.network, idle, message)
+        self.reactor = Reactor(self.server, self.network, self.timer, idle, message)
 
     def arrive(self, text):
         for _ in range(int(text)):
@@ -343,7 +380,10 @@ class Schedule:
         self.told[int(place)] = [letter in letters for letter in "rwe"]
 
     def time(self, text):
-        self.now = int(text)
+        self.timer.now = int(text)
+
+    def passes(self, text):
+        self.timer.step = int(text)
 
     def clock(self, text):
         self.reactor.moment = int(text)
@@ -371,7 +411,7 @@ class Schedule:
         self.waits()
         self.reactor.deeds, halted = [], None
         try:
-            rest = self.reactor.turn(self.now)
+            rest = self.reactor.turn()
             how = "rests" if rest is None else f"rests {rest}"
         except Halt as halt:
             how = halted = f"halts {halt}"

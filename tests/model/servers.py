@@ -251,3 +251,24 @@ def answered_by(made, events):
         else:
             return shown + ["!Malformed"]
     return shown
+
+
+def run(*fields):
+    """The answer to a row of messages, all of which are answered in one run: a field for each reply."""
+    try:
+        made = set_up(fields)
+    except TurnedAway as reply:
+        return [encoded(reply.args[0])]
+    stream, moment, shown = Stream(), 0, []
+    for field in setup_and_events(fields)[1]:
+        word, _, text = field.partition(":")
+        if word == "moment":
+            moment = int(text)
+        elif word == "piece":
+            replies, _, found = replied(stream, made, moment, decoded(text))
+            shown += map(encoded, replies)
+            if found != "More":
+                return ["!Malformed"]
+        else:
+            return ["!Malformed"]
+    return shown

@@ -2,17 +2,13 @@
 import json
 
 from checks import Between
+from sent import growing_policy, written
 from serving import CREATED, DONE, UNAVAILABLE, policy, reply
 
 from .shared import ASK, LIST, PERMIT, environment, expect, in_acme, listing, make_domain, serving, within
 
 OK = {"StatusCode": {"Value": "urn:oasis:names:tc:xacml:1.0:status:ok"}}
-JOIN = "urn:oasis:names:tc:xacml:2.0:function:string-concatenate"
 ALGORITHM = "urn:oasis:names:tc:xacml:3.0:policy-combining-algorithm:deny-overrides"
-
-
-def written(value):
-    return json.dumps(value, separators=(",", ":"))
 
 
 def response(results):
@@ -20,28 +16,6 @@ def response(results):
 
 
 # ---- replies that are long
-
-def text(value):
-    return {"AttributeValue": {"DataType": "string", "Value": value}}
-
-
-def variable(name):
-    return {"VariableReference": {"VariableId": name}}
-
-
-def growing_policy(assignments, first="\x01" * 1_000, doublings=9):
-    """The text of a policy that permits, with so many assignments of a text that is doubled so often: of one of
-    512,000 bytes, each of which is six in a response."""
-    steps = [("v0", text(first))]
-    steps += [(f"v{place}", {"Apply": {"FunctionId": JOIN, "Expression": [variable(f"v{place - 1}")] * 2}})
-              for place in range(1, doublings + 1)]
-    assigned = {"AttributeId": "a", "Expression": variable(f"v{doublings}")}
-    duty = {"ObligationId": "o", "FulfillOn": "Permit", "AttributeAssignmentExpression": [assigned] * assignments}
-    held = json.loads(policy("Permit", f"urn:p{assignments}"))
-    held["Policy"] |= {"VariableDefinition": [{"VariableId": name, "Expression": expression}
-                                              for name, expression in steps], "ObligationExpressions": [duty]}
-    return written(held)
-
 
 def grown_reply(assignments):
     """The reply by that policy."""
@@ -111,6 +85,37 @@ def limits():
                 make_domain(served)
                 expect(f"an ask that takes {takes} under {name}={value}", served.once(ASK, LIST),
                        [wanted, listing(["acme"])])
+
+
+# Each limit with one that is a unit too low for an ask, and how a line names it.
+TOO_LOW = (("PDPD_WORK", 319, "more work than the limit"), ("PDPD_REPLY", 110, "a longer response than the limit"),
+           ("PDPD_READING", len(policy()) - 1, "more policies to read than the limit"))
+
+
+def refusals_in(lines):
+    """Of how many messages that were refused the lines tell, themselves or as others before."""
+    return len(lines) + sum(int(line.partition("; and ")[2].partition(" ")[0] or 0) for line in lines)
+
+
+def refusals_told(served, reason):
+    """The lines of a program that refuses each ask, about three on one connection: the domain, the reason and no
+    token, and each refused message once."""
+    make_domain(served)
+    expect(f"asks with {reason}", served.once(ASK, ASK, LIST, ASK), [UNAVAILABLE, UNAVAILABLE, listing(["acme"]),
+                                                                     UNAVAILABLE])
+    expect("another connection", served.once(LIST), [listing(["acme"])])
+    served.kill()
+    lines = served.said.decode().splitlines()
+    line = f"pdpd: refused a message of acme: {reason}"
+    expect(f"lines about {reason}", {told.partition("; and ")[0] for told in lines}, {line})
+    expect(f"messages refused by {reason}", refusals_in(lines), 3)
+
+
+def limits_told():
+    """A line on standard error tells of a message that is refused its domain, and by which limit it was."""
+    for name, value, reason in TOO_LOW:
+        with serving(f"told-{name}.db", env=environment(**{name: str(value)})) as served:
+            refusals_told(served, reason)
 
 
 def much_asked(served, rules):

@@ -1,5 +1,5 @@
 -- What is kept as serving begins, and what the files hold as it ends.
-use Rattle.std.proofs.Common.{◌≡◌, ℕ, ℤ, List, Bool, false, Option, Result, Ok, Err, IsTrue, inl, inr, sym, ap, subst, ◌∙◌}
+use Rattle.std.proofs.Common.{◌≡◌, ℕ, ℤ, List, Bool, false, Option, Result, Ok, Err, IsTrue, inl, inr, sym, ap, subst, ◌∙◌, ◌⊎◌}
 use Rattle.std.specs.Prelude.{IfOk, MatchResult}
 use Rattle.sqlite.proofs.StateLemmas.{clean_if_open}
 use Rattle.sqlite.specs.Closing.{IsCopied}
@@ -27,7 +27,7 @@ use Rattle.xa_server.specs.Lines.{none_open}
 use Rattle.xa_store.specs.Keeper.{Keeper, IsSound}
 use Rattle.xa_store.specs.KeeperReading.{custody_by, kept_by}
 use Rattle.xa_store.specs.Meaning.{kept_in}
-use Rattle.xa_store.specs.Opening.{IsBlank, IsKnown, no_tables}
+use Rattle.xa_store.specs.Opening.{IsBlank, IsKnown, IsKnownSchema, no_tables}
 use Rattle.xa_store.specs.Sound.{IsOurDatabase, OpensSoundly, RestsIn}
 use Rattle.xa_store.specs.Tables.{schema_1, schema_2}
 use Rattle.xa_store.specs.keeping.Migration.{IsSoundSchema1}
@@ -57,6 +57,16 @@ module _ (s : State) (fresh : IsJustOpened s) (live : IsLive s) where
   rests_in : (schema : Schema) → ObeysRules schema found → RestsIn schema s
   rests_in schema are = record { schema = schema_is schema are; settled = fresh.clean; idle = fresh.autocommit }
 
+  -- and the trees list the tables of its schema
+  lists : (schema : Schema) → s.now.schema ≡ schema → ObeysRules schema found
+  lists schema same =
+      subst (λ (of : Schema). ObeysRules of found) (sym (ap (λ (d : Database). d.schema) fresh.clean) ∙ same) (live fresh.is_open).1
+
+  is_one_of : IsKnownSchema s.now.schema → IsOurDatabase found ⊎ (ObeysRules schema_1 found ⊎ ObeysRules no_tables found)
+  is_one_of (inl same) = inl (lists schema_2 same)
+  is_one_of (inr (inl same)) = inr (inl (lists schema_1 same))
+  is_one_of (inr (inr same)) = inr (inr (lists no_tables same))
+
   is_blank : ObeysRules no_tables found → IsBlank s
   is_blank are = record { schema = schema_is no_tables are; settled = fresh.clean; idle = fresh.autocommit }
 
@@ -80,6 +90,7 @@ module _ (s : State) (fresh : IsJustOpened s) (live : IsLive s) where
             } in
             (subst (λ (d : Database). IsSoundSchema1 d.trees) fresh.clean sound, given.2.kept, sound_if (inr (inl (rests_in schema_1 are))));
         none = λ are. ((is.makes (is_blank are) clean).2, sound_if (inr (inr (is_blank are))));
+        is_one = is_one_of is.known;
       }
 
 -- ---- a keeper that is opened

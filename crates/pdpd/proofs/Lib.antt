@@ -7,6 +7,7 @@ pub mod PieceLemmas
 pub mod ReadingLemmas
 pub mod ReadyLemmas
 pub mod ReplayLemmas
+pub mod RunLemmas
 pub mod ServingLemmas
 pub mod StoreLemmas
 pub mod TakingLemmas

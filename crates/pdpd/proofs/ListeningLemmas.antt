@@ -1,7 +1,7 @@
 -- Connections that are served at once.
 use Rattle.std.proofs.Common.{◌≡◌, ◌≢◌, List, [], Option, Some, None, Result, Ok, Err, IsTrue, false, inl, inr, ap, refl, subst, sym}
 use Rattle.std.proofs.lemmas.Result.{IfErr-at_err}
-use Rattle.std.specs.Prelude.{◌↔◌, IfErr, IfOk, IfSome, MatchOption, OnOk, ℕ}
+use Rattle.std.specs.Prelude.{◌↔◌, IfErr, IfOk, OnOk, ℕ}
 use Rattle.sqlite.specs.Files.{over_files}
 use Rattle.sqlite.specs.Recovery.{Image}
 use Rattle.sqlite_disk.specs.declared.Disk as disk
@@ -12,7 +12,6 @@ use Rattle.xa_reactor.specs.Traffic.{Traffic}
 use Rattle.xa_reactor.specs.Turn.{no_lanes}
 use Rattle.xa_records.specs.Keeper.{Custody}
 use Rattle.xa_server.proofs.PlayLemmas.{none_played}
-use Rattle.xa_server.proofs.PlayedLemmas.{none_played_served, played_of}
 use Rattle.xa_server.specs.declared.front.Front.{Front}
 use Rattle.xa_server.specs.Front.{front_is_clean, front_is_open, front_is_sound, front_state}
 use Rattle.xa_server.specs.Lines.{none_open}
@@ -21,21 +20,14 @@ use Rattle.xa_store.specs.KeeperReading.{custody_by, kept_by}
 use Rattle.pdpd.proofs.BeginningLemmas.{sound_clean}
 use Rattle.pdpd.proofs.ServingLemmas.{setting_before, settings_before}
 use Rattle.pdpd.specs.Beginning.{Begins, HasCleanFiles, IsLeftIn}
-use Rattle.pdpd.specs.declared.command_line.ListenCommand.{ListenCommand}
-use Rattle.pdpd.specs.declared.exit.Exit.{Exit}
-use Rattle.pdpd.specs.declared.exit.Exit.TheVariants.{Done, Usage}
 use Rattle.pdpd.specs.declared.fault.Fault.{Fault}
 use Rattle.pdpd.specs.declared.fault.Fault.TheVariants.{Place}
 use Rattle.pdpd.specs.declared.listen.place.Place.TheVariants.{Ip, Unix}
 use Rattle.pdpd.specs.declared.listen.place.Place as place
-use Rattle.pdpd.specs.declared.serve.served.Served.{Served}
-use Rattle.pdpd.specs.declared.serve.served.Serving.{Serving}
 use Rattle.pdpd.specs.declared.serve.setting.Setting.{Setting}
 use Rattle.pdpd.specs.declared.serve.setting.Setting.TheVariants as set
 use Rattle.pdpd.specs.declared.store.closed.ClosedStore.{ClosedStore}
-use Rattle.pdpd.specs.Ending.{EndsListening}
-use Rattle.pdpd.specs.Exit.{ends_serving}
-use Rattle.pdpd.specs.Fault.{EndsBy, exit_of_fault, IsOfFiles, IsOfSetting, IsOfStore, IsOfToken, comes_of_serving}
+use Rattle.pdpd.specs.Fault.{IsOfFiles, IsOfSetting, IsOfStore, IsOfToken, comes_of_serving}
 use Rattle.pdpd.specs.Listening.{IsNoPlace, NamesPlace, ServesAtOnce, ServesAtOnceOver, ServesAtOnceFrom, ServesFilesAtOnce}
 use Rattle.pdpd.specs.running.Listening.{IsOfEnd, IsOfListenSettings}
 use Rattle.pdpd.specs.running.Serving.{IsOfSettings}
@@ -53,7 +45,7 @@ served_at_once custody done result old new before now over = record {
     left = over.served.left;
     are_turns = over.served.are_turns;
     are_done = over.served.are_done;
-    works = record { played = over.served.works.played; served = over.served.works.served; keeps = over.served.works.keeps; grows = tt };
+    works = record { played = over.served.works.played; keeps = over.served.works.keeps; grows = tt };
   };
   sound = over.sound;
   clean = over.clean;
@@ -81,8 +73,7 @@ unserved_at_once custody is_open fault front = record {
     are_turns = refl;
     are_done = refl;
     works = record {
-      played = none_played (front_is_sound custody front) (front_state custody front);
-      served = played_of custody is_open front front [] [] (none_played_served custody front);
+      played = none_played custody is_open front;
       keeps = record { sound = λ is. is; clean = λ is. is; was_open = λ is. is; stays = λ clean sound opens. sound };
       grows = tt;
     };
@@ -104,8 +95,7 @@ unserved_over custody done is_open fault front network = record {
     are_turns = refl;
     are_done = refl;
     works = record {
-      played = none_played (front_is_sound custody front) (front_state custody front);
-      served = played_of custody is_open front front [] [] (none_played_served custody front);
+      played = none_played custody is_open front;
       keeps = record { sound = λ is. is; clean = λ is. is; was_open = λ is. is; stays = λ clean sound opens. sound };
       grows = grows_none (done network);
     };
@@ -143,28 +133,6 @@ serves_files_at_once image token front records (Err e) same is left = tt
 pub serves_at_once_as : {D : Type 0} {g : disk.Ghosts D} (image : Image) (token : Option (List ℕ)) (a b : Result (Unit {0}) Fault) (new : Front (Keeper (FileStore D g))) → a ≡ b
     → ServesAtOnceFrom image token a new → ServesAtOnceFrom image token b new
 serves_at_once_as image token a b new same serves = subst (λ (r : Result (Unit {0}) Fault). ServesAtOnceFrom image token r new) same serves
-
--- the fault by which the program ends is that of the front that is left
-pub left_at_once : {D : Type 0} {g : disk.Ghosts D} (image : Image) (token : Option (List ℕ)) (end : Exit) (fault : Fault) (left : Option (Serving (Keeper (FileStore D g))))
-    → end ≡ exit_of_fault fault → IfSome left (λ l. (l.result ≡ Err fault) × ServesAtOnceFrom image token (Err fault) l.front)
-    → IfSome left (λ l. EndsBy end l.result × ServesAtOnceFrom image token l.result l.front)
-left_at_once image token end fault (Some l) ends (same, serves) = (
-  subst (λ (r : Result (Unit {0}) Fault). EndsBy end r) (sym same) ends,
-  subst (λ (r : Result (Unit {0}) Fault). ServesAtOnceFrom image token r l.front) (sym same) serves,
-)
-left_at_once image token end fault None ends left = tt
-
--- what is said of any token file is said of one of which nothing is known
-pub ends_listening_as : {D : Type 0} {g : disk.Ghosts D} (image : Image) (token : Option (List ℕ)) (listening : ListenCommand) (end : Served D (Keeper (FileStore D g)) g) → token ≡ None
-    → IsTrue (ends_serving end.exit) → (IsNoPlace listening.address → end.exit ≡ Usage)
-    → MatchOption end.closed (end.exit ≢ Done) (λ closed. HasCleanFiles closed → ServesFilesAtOnce image token closed)
-    → IfSome end.left (λ left. EndsBy end.exit left.result × ServesAtOnceFrom image token left.result left.front) → EndsListening image listening end
-ends_listening_as image token listening end none exit place done left = record {
-  exit = exit;
-  place = place;
-  done = subst (λ (t : Option (List ℕ)). MatchOption end.closed (end.exit ≢ Done) (λ closed. HasCleanFiles closed → ServesFilesAtOnce image t closed)) none done;
-  left = subst (λ (t : Option (List ℕ)). IfSome end.left (λ left. EndsBy end.exit left.result × ServesAtOnceFrom image t left.result left.front)) none left;
-}
 
 -- ---- faults that are no fault of the place
 

@@ -4,9 +4,10 @@ use Rattle.std.specs.Prelude.{eqb}
 use Rattle.std.proofs.lemmas.Bool.Decides.{eqb_tells}
 use Rattle.std.proofs.lemmas.List.{get_or-set_same, get_or-set_other}
 use Rattle.xa_http.specs.Stream.{Stream}
+use Rattle.xa_records.specs.Keeper.{Custody}
+use Rattle.xa_server.specs.declared.front.Front.{Front}
 use Rattle.xa_server.specs.declared.lines.Conn.{Conn}
 use Rattle.xa_server.specs.Connection.{empty_stream}
-use Rattle.xa_server.specs.Front.{FrontState}
 use Rattle.xa_server.specs.Lines.{IsOpen, Lines, all_open, line_at, with_line}
 use Rattle.pdpd.specs.declared.replay.heading.Heading.{Heading}
 use Rattle.pdpd.specs.Replay.{ConnectionTakes, IsEntryReplied}
@@ -84,7 +85,7 @@ ready_put number old new t ready put room = λ other within.
 
 -- ---- an entry
 
-pub entry_replied : (heading : Heading) (bytes : List ℕ) (old new : FrontState) (s t : Stream) (before now : Option (List ℕ))
+pub entry_replied : {R : Type 0} (custody : R → Custody) (heading : Heading) (bytes : List ℕ) (old new : Front R) (s t : Stream) (before now : Option (List ℕ))
     → line_at (record { number = heading.connection }) old.lines ≡ Some s → new.lines ≡ with_line (record { number = heading.connection }) (Some t) old.lines
-    → Writes before now (ConnectionTakes heading bytes s t old.server new.server) → Writes before now (IsEntryReplied heading bytes old new)
-entry_replied heading bytes old new s t before now opens put takes = (takes.0, takes.1, (s, t, opens, takes.2, put))
+    → Writes before now (ConnectionTakes custody heading bytes s t old.server new.server) → Writes before now (IsEntryReplied custody heading bytes old new)
+entry_replied custody heading bytes old new s t before now opens put takes = (takes.0, takes.1, (s, t, opens, takes.2, put))

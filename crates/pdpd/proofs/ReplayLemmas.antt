@@ -1,51 +1,59 @@
 -- The entries of a transcript, read and answered one after another.
-use Rattle.std.proofs.Common.{◌≡◌, ℕ, ◌+◌, Bool, true, false, List, [], ◌∷◌, ◌++◌, length, Option, Some, None, Err, refl, sym, ap, subst, ◌∙◌, append_assoc, append-nil, length-append, arith, ◌⊎◌, inl, inr}
+use Rattle.std.proofs.Common.{◌≡◌, ℕ, ◌+◌, Bool, true, false, List, [], ◌∷◌, ◌++◌, length, Option, Some, None, Err, IsTrue, refl, sym, ap, subst, ◌∙◌, append_assoc, append-nil, length-append, arith, ◌⊎◌, inl, inr}
 use Rattle.std.proofs.KnownBytes.{Appends-nil, Appends-trans, Consumes-nil, Consumes-trans}
-use Rattle.std.specs.Prelude.{⊤, IsFalse, IsTrue}
+use Rattle.std.specs.Prelude.{⊤, IsFalse, MatchOption}
 use Rattle.std.specs.Io.KnownBytes.{Appends, Consumes, Keeps, append_known}
 use Rattle.std.proofs.lemmas.Bool.{false≢true}
+use Rattle.sqlite.specs.Held.{Held, state}
+use Rattle.sqlite.specs.State.{HasCleanDisk}
+use Rattle.sqlite.specs.Store.{Ghosts}
 use Rattle.xa_http.specs.Stream.{Stream}
 use Rattle.xa_server.specs.declared.replies.Reply.{Reply}
 use Rattle.xa_server.specs.Alone.{Event}
 use Rattle.xa_records.specs.Keeper.{Custody}
+use Rattle.xa_records.specs.Kept.{nothing_kept}
 use Rattle.xa_server.specs.Decisions.{nothing_cached}
 use Rattle.xa_server.specs.declared.front.Front.{Front}
-use Rattle.xa_server.specs.Front.{FrontState, front_state}
 use Rattle.xa_server.specs.Lines.{all_open}
-use Rattle.xa_server.specs.Served.{IsRun}
-use Rattle.xa_server.specs.World.{ServerState, World, server_state}
-use Rattle.xa_server.proofs.ConnectionLemmas.{run_trans}
-use Rattle.xa_server.proofs.IsolationLemmas.{isolated}
+use Rattle.xa_server.specs.World.{ServerModel}
+use Rattle.xa_store.specs.Keeper.{IsSound, Keeper}
+use Rattle.xa_store.specs.KeeperReading.{custody_by, kept_by}
 use Rattle.pdpd.specs.declared.exit.Exit.{Exit}
 use Rattle.pdpd.specs.declared.exit.Exit.TheVariants as exit
 use Rattle.pdpd.specs.declared.replay.heading.Heading.{Heading}
 use Rattle.pdpd.specs.declared.replay.transcript.EntryFault.{EntryFault}
 use Rattle.pdpd.specs.declared.replay.transcript.EntryFault.TheVariants as read
 use Rattle.pdpd.specs.Exit.{breaks_off, exit_of_read, tells_of_entries}
-use Rattle.pdpd.specs.Replay.{AreEntries, AreReplied, ConnectionTakes, Entry, Exchange, Gave, IsEntryReplied, IsReplayed, IsTranscriptRead, OpenTakes, Replays, StreamTakes, beginning, followed, no_exchange}
+use Rattle.pdpd.specs.OneRun.{AreOneRun, IsSomeRun}
+use Rattle.pdpd.specs.Replay.{AreEntries, AreReplied, ConnectionTakes, Entry, Exchange, Gave, IsEntryReplied, IsReplayed, IsReplayedFromNothing, IsTranscriptRead, OpenTakes, Replays, StreamTakes, followed, no_exchange}
 use Rattle.pdpd.specs.running.Replaying.{Writes}
 use Rattle.pdpd.specs.Transcript.{IsEntry, IsNoEntry, Rejects, TakesEntry, TakesOrRejects}
+use Rattle.pdpd.proofs.RunLemmas.{none_run, run_on}
 
 -- ---- what an entry takes is a run
 
-stream_run : (heading : Heading) (bytes : List ℕ) (was is : Stream) (old new : World) (exchange : Exchange)
-    → StreamTakes heading bytes was is old new exchange → IsRun old exchange.events exchange.replies new
-stream_run heading bytes was is old new exchange (after, replies, answered, kept, same) =
-    subst (λ (e : Exchange). IsRun old e.events e.replies new) (sym same) answered.is_run
+module _ {R : Type 0} (custody : R → Custody) (is_open : (s : R) → (custody s).sound → IsTrue (custody s).is_open) where
+  -- an exchange is a run
+  abbrev IsRun : ServerModel R → ServerModel R → Exchange → Type 0
+  IsRun old new exchange = AreOneRun custody old new exchange.events exchange.replies
 
-none_run : (old new : ServerState) (exchange : Exchange) → new ≡ old → exchange ≡ no_exchange → IsRun old.world exchange.events exchange.replies new.world
-none_run old new exchange same none =
-    subst (λ (e : Exchange). IsRun old.world e.events e.replies new.world) (sym none) (ap (λ (s : ServerState). s.world) same)
+  stream_run : (heading : Heading) (bytes : List ℕ) (was is : Stream) (old new : ServerModel R) (exchange : Exchange)
+      → StreamTakes custody heading bytes was is old new exchange → IsRun old new exchange
+  stream_run heading bytes was is old new exchange (after, replies, answered, kept, same) =
+      subst (λ (e : Exchange). IsRun old new e) (sym same) answered.are_one
 
-open_run : (ended : Bool) (heading : Heading) (bytes : List ℕ) (was is : Stream) (old new : ServerState) (exchange : Exchange)
-    → OpenTakes ended heading bytes was is old new exchange → IsRun old.world exchange.events exchange.replies new.world
-open_run true heading bytes was is old new exchange takes = none_run old new exchange takes.1 takes.2
-open_run false heading bytes was is old new exchange takes = stream_run heading bytes was is old.world new.world exchange takes
+  idle_run : (old new : ServerModel R) (exchange : Exchange) → new ≡ old → exchange ≡ no_exchange → IsRun old new exchange
+  idle_run old new exchange same none = subst (λ (e : Exchange). IsRun old new e) (sym none) (none_run custody is_open old new same)
 
-takes_run : (heading : Heading) (bytes : List ℕ) (was is : Stream) (old new : ServerState) (exchange : Exchange)
-    → ConnectionTakes heading bytes was is old new exchange → IsRun old.world exchange.events exchange.replies new.world
-takes_run heading [] was is old new exchange takes = none_run old new exchange takes.1 takes.2
-takes_run heading (byte ∷ bytes) was is old new exchange takes = open_run was.ended heading (byte ∷ bytes) was is old new exchange takes
+  open_run : (ended : Bool) (heading : Heading) (bytes : List ℕ) (was is : Stream) (old new : ServerModel R) (exchange : Exchange)
+      → OpenTakes custody ended heading bytes was is old new exchange → IsRun old new exchange
+  open_run true heading bytes was is old new exchange takes = idle_run old new exchange takes.1 takes.2
+  open_run false heading bytes was is old new exchange takes = stream_run heading bytes was is old new exchange takes
+
+  takes_run : (heading : Heading) (bytes : List ℕ) (was is : Stream) (old new : ServerModel R) (exchange : Exchange)
+      → ConnectionTakes custody heading bytes was is old new exchange → IsRun old new exchange
+  takes_run heading [] was is old new exchange takes = idle_run old new exchange takes.1 takes.2
+  takes_run heading (byte ∷ bytes) was is old new exchange takes = open_run was.ended heading (byte ∷ bytes) was is old new exchange takes
 
 -- ---- entries that are answered
 
@@ -67,50 +75,45 @@ followed_assoc a b c =
     (a.replies ++ (b.replies ++ c.replies)) ((a.written ++ b.written) ++ c.written) (a.written ++ (b.written ++ c.written))
     (append_assoc a.events b.events c.events) (append_assoc a.replies b.replies c.replies) (append_assoc a.written b.written c.written)
 
-replied_more : (entries : List Entry) (heading : Heading) (bytes : List ℕ) (old mid new : FrontState) (exchange more : Exchange) → AreReplied entries old mid exchange
-    → IsEntryReplied heading bytes mid new more → AreReplied (entries ++ record { heading = heading; bytes = bytes } ∷ []) old new (followed exchange more)
-replied_more [] heading bytes old mid new exchange more (same, none) is = (
-  new,
-  more,
-  no_exchange,
-  subst (λ (f : FrontState). IsEntryReplied heading bytes f new more) same is,
-  (refl, refl),
-  ap (λ (e : Exchange). followed e more) none ∙ sym (followed_none more),
-)
-replied_more (entry ∷ entries) heading bytes old mid new exchange more (between, first, others, is_first, are_others, same) is = (
-  between,
-  first,
-  followed others more,
-  is_first,
-  replied_more entries heading bytes between mid new others more are_others is,
-  ap (λ (e : Exchange). followed e more) same ∙ followed_assoc first others more,
-)
+module _ {R : Type 0} (custody : R → Custody) (is_open : (s : R) → (custody s).sound → IsTrue (custody s).is_open) where
+  replied_more : (entries : List Entry) (heading : Heading) (bytes : List ℕ) (old mid new : Front R) (exchange more : Exchange) → AreReplied custody entries old mid exchange
+      → IsEntryReplied custody heading bytes mid new more → AreReplied custody (entries ++ record { heading = heading; bytes = bytes } ∷ []) old new (followed exchange more)
+  replied_more [] heading bytes old mid new exchange more (same, none) is = (
+    new,
+    more,
+    no_exchange,
+    subst (λ (f : Front R). IsEntryReplied custody heading bytes f new more) same is,
+    (refl, refl),
+    ap (λ (e : Exchange). followed e more) none ∙ sym (followed_none more),
+  )
+  replied_more (entry ∷ entries) heading bytes old mid new exchange more (between, first, others, is_first, are_others, same) is = (
+    between,
+    first,
+    followed others more,
+    is_first,
+    replied_more entries heading bytes between mid new others more are_others is,
+    ap (λ (e : Exchange). followed e more) same ∙ followed_assoc first others more,
+  )
 
-replays_none : (front : FrontState) (before : Option (List ℕ)) → Replays front front before before []
-replays_none front before = record {
-  exchange = no_exchange;
-  are_replied = (refl, refl);
-  is_run = refl;
-  isolated = λ domain. isolated domain front.server.world front.server.world [] [] refl;
-  wrote = Appends-nil before;
-}
+  replays_none : (front : Front R) (before : Option (List ℕ)) → Replays custody front front before before []
+  replays_none front before = record {
+    exchange = no_exchange;
+    are_replied = (refl, refl);
+    are_one = none_run custody is_open front.server front.server refl;
+    wrote = Appends-nil before;
+  }
 
-replays_more : (entries : List Entry) (heading : Heading) (bytes : List ℕ) (old mid new : FrontState) (before written now : Option (List ℕ))
-    → Replays old mid before written entries → Writes written now (IsEntryReplied heading bytes mid new)
-    → Replays old new before now (entries ++ record { heading = heading; bytes = bytes } ∷ [])
-replays_more entries heading bytes old mid new before written now r (reply, wrote, replied) =
-    let here : IsRun mid.server.world reply.events reply.replies new.server.world
-    = takes_run heading bytes replied.0 replied.1 mid.server new.server reply replied.3 in
-    let run : IsRun old.server.world (r.exchange.events ++ reply.events) (r.exchange.replies ++ reply.replies) new.server.world
-    = run_trans old.server.world mid.server.world new.server.world r.exchange.events reply.events r.exchange.replies reply.replies r.is_run here in
-    record {
-      exchange = followed r.exchange reply;
-      are_replied = replied_more entries heading bytes old mid new r.exchange reply r.are_replied replied;
-      is_run = run;
-      isolated = λ domain.
-          isolated domain old.server.world new.server.world (r.exchange.events ++ reply.events) (r.exchange.replies ++ reply.replies) run;
-      wrote = Appends-trans before written now r.exchange.written reply.written r.wrote wrote;
-    }
+  replays_more : (entries : List Entry) (heading : Heading) (bytes : List ℕ) (old mid new : Front R) (before written now : Option (List ℕ))
+      → Replays custody old mid before written entries → Writes written now (IsEntryReplied custody heading bytes mid new)
+      → Replays custody old new before now (entries ++ record { heading = heading; bytes = bytes } ∷ [])
+  replays_more entries heading bytes old mid new before written now r (reply, wrote, replied) = record {
+    exchange = followed r.exchange reply;
+    are_replied = replied_more entries heading bytes old mid new r.exchange reply r.are_replied replied;
+    are_one =
+        run_on custody is_open old.server mid.server new.server r.exchange.events reply.events r.exchange.replies reply.replies r.are_one
+        (takes_run custody is_open heading bytes replied.0 replied.1 mid.server new.server reply replied.3);
+    wrote = Appends-trans before written now r.exchange.written reply.written r.wrote wrote;
+  }
 
 -- ---- entries that are read
 
@@ -203,10 +206,6 @@ read_as_well done after left rest exit.Memory on is = tt
 unfoldable pub ReadTo : Option (List ℕ) → Option (List ℕ) → ℕ → Type 0
 ReadTo left rest number = SoFar (λ _. ⊤) left rest number
 
--- and answered
-unfoldable pub AnsweredTo : FrontState → FrontState → Option (List ℕ) → Option (List ℕ) → Option (List ℕ) → Option (List ℕ) → ℕ → Type 0
-AnsweredTo old new left rest before now number = SoFar (Replays old new before now) left rest number
-
 pub given_none : (left : Option (List ℕ)) → ReadTo left left 1
 unfolding ReadTo
 given_none left = read_none (λ _. ⊤) left tt
@@ -226,28 +225,34 @@ pub given_badly : (left mid rest : Option (List ℕ)) (number : ℕ) (is : Optio
 unfolding ReadTo
 given_badly left mid rest number is f so_far rejects = read_badly (λ _. ⊤) left mid rest number is f so_far rejects
 
-pub answered_none : (front : FrontState) (left before : Option (List ℕ)) → AnsweredTo front front left left before before 1
-unfolding AnsweredTo
-answered_none front left before = read_none (Replays front front before before) left (replays_none front before)
+module _ {R : Type 0} (custody : R → Custody) where
+  -- the entries before the one of that number are read, and answered
+  unfoldable pub AnsweredTo : Front R → Front R → Option (List ℕ) → Option (List ℕ) → Option (List ℕ) → Option (List ℕ) → ℕ → Type 0
+  AnsweredTo old new left rest before now number = SoFar (Replays custody old new before now) left rest number
 
-pub answered_more : (old mid new : FrontState) (left between rest before written now : Option (List ℕ)) (number : ℕ) (heading : Heading) (bytes : List ℕ)
-    → AnsweredTo old mid left between before written number → TakesEntry between rest bytes (Some heading) → Writes written now (IsEntryReplied heading bytes mid new)
-    → AnsweredTo old new left rest before now (number + 1)
-unfolding AnsweredTo
-answered_more old mid new left between rest before written now number heading bytes so_far takes here =
-    read_more (Replays old mid before written) (Replays old new before now) left between rest number heading bytes so_far takes
-    (λ entries r. replays_more entries heading bytes old mid new before written now r here)
+  pub answered_all : (old new : Front R) (left mid rest before now : Option (List ℕ)) (number : ℕ) (bytes : List ℕ) → AnsweredTo old new left mid before now number
+      → TakesEntry mid rest bytes None → IsTranscriptRead (Replays custody old new before now) left rest exit.Done
+  unfolding AnsweredTo
+  answered_all old new left mid rest before now number bytes so_far none = read_all (Replays custody old new before now) left mid rest number bytes so_far none
 
-pub answered_all : (old new : FrontState) (left mid rest before now : Option (List ℕ)) (number : ℕ) (bytes : List ℕ) → AnsweredTo old new left mid before now number
-    → TakesEntry mid rest bytes None → IsTranscriptRead (Replays old new before now) left rest exit.Done
-unfolding AnsweredTo
-answered_all old new left mid rest before now number bytes so_far none = read_all (Replays old new before now) left mid rest number bytes so_far none
+  pub answered_badly : (old new : Front R) (left mid rest before now : Option (List ℕ)) (number : ℕ) (is : Option Heading → Type 0) (f : EntryFault)
+      → AnsweredTo old new left mid before now number → TakesOrRejects is (Rejects IsNoEntry mid rest) (Err f)
+      → IsTranscriptRead (Replays custody old new before now) left rest (exit_of_read number f)
+  unfolding AnsweredTo
+  answered_badly old new left mid rest before now number is f so_far rejects = read_badly (Replays custody old new before now) left mid rest number is f so_far rejects
 
-pub answered_badly : (old new : FrontState) (left mid rest before now : Option (List ℕ)) (number : ℕ) (is : Option Heading → Type 0) (f : EntryFault)
-    → AnsweredTo old new left mid before now number → TakesOrRejects is (Rejects IsNoEntry mid rest) (Err f)
-    → IsTranscriptRead (Replays old new before now) left rest (exit_of_read number f)
-unfolding AnsweredTo
-answered_badly old new left mid rest before now number is f so_far rejects = read_badly (Replays old new before now) left mid rest number is f so_far rejects
+module _ {R : Type 0} (custody : R → Custody) (is_open : (s : R) → (custody s).sound → IsTrue (custody s).is_open) where
+  pub answered_none : (front : Front R) (left before : Option (List ℕ)) → AnsweredTo custody front front left left before before 1
+  unfolding AnsweredTo
+  answered_none front left before = read_none (Replays custody front front before before) left (replays_none custody is_open front before)
+
+  pub answered_more : (old mid new : Front R) (left between rest before written now : Option (List ℕ)) (number : ℕ) (heading : Heading) (bytes : List ℕ)
+      → AnsweredTo custody old mid left between before written number → TakesEntry between rest bytes (Some heading) → Writes written now (IsEntryReplied custody heading bytes mid new)
+      → AnsweredTo custody old new left rest before now (number + 1)
+  unfolding AnsweredTo
+  answered_more old mid new left between rest before written now number heading bytes so_far takes here =
+      read_more (Replays custody old mid before written) (Replays custody old new before now) left between rest number heading bytes so_far takes
+      (λ entries r. replays_more custody is_open entries heading bytes old mid new before written now r here)
 
 -- what was held is written at the end
 flushed : (before written now : Option (List ℕ)) (bytes : List ℕ) → Appends before written bytes → Keeps written (append_known now []) → Appends before now bytes
@@ -256,24 +261,21 @@ flushed (Some xs) None now bytes appends keeps = absurd appends
 flushed (Some xs) (Some ys) None bytes appends keeps = absurd keeps
 flushed (Some xs) (Some ys) (Some zs) bytes appends keeps = sym (append-nil zs) ∙ keeps ∙ appends
 
-replays_flushed : (old new : FrontState) (before written now : Option (List ℕ)) (entries : List Entry) → Keeps written (append_known now [])
-    → Replays old new before written entries → Replays old new before now entries
-replays_flushed old new before written now entries keeps r = record {
+replays_flushed : {R : Type 0} (custody : R → Custody) (old new : Front R) (before written now : Option (List ℕ)) (entries : List Entry) → Keeps written (append_known now [])
+    → Replays custody old new before written entries → Replays custody old new before now entries
+replays_flushed custody old new before written now entries keeps r = record {
   exchange = r.exchange;
   are_replied = r.are_replied;
-  is_run = r.is_run;
-  isolated = r.isolated;
+  are_one = r.are_one;
   wrote = flushed before written now r.exchange.written r.wrote keeps;
 }
 
-pub replayed_all : (old new : FrontState) (left rest before written now : Option (List ℕ)) (exit : Exit) → old.lines ≡ all_open
-    → IsTranscriptRead (Replays old new before written) left rest exit → Keeps written (append_known now []) → IsReplayed old new left rest before now exit
-replayed_all old new left rest before written now exit opened answered keeps =
-    let begun : old ≡ record old { lines = all_open } = λ i. record { server = old.server; lines = opened i } in
-    let read : IsTranscriptRead (Replays (record old { lines = all_open }) new before written) left rest exit
-    = subst (λ (f : FrontState). IsTranscriptRead (Replays f new before written) left rest exit) begun answered in
-    read_as_well (Replays (record old { lines = all_open }) new before written) (Replays (record old { lines = all_open }) new before now) left rest exit
-    (λ entries r. replays_flushed (record old { lines = all_open }) new before written now entries keeps r) read
+pub replayed_all : {R : Type 0} (custody : R → Custody) (old new : Front R) (left rest before written now : Option (List ℕ)) (exit : Exit)
+    → IsTranscriptRead (Replays custody old new before written) left rest exit → Keeps written (append_known now [])
+    → IsTranscriptRead (Replays custody old new before now) left rest exit
+replayed_all custody old new left rest before written now exit answered keeps =
+    read_as_well (Replays custody old new before written) (Replays custody old new before now) left rest exit
+    (λ entries r. replays_flushed custody old new before written now entries keeps r) answered
 
 -- nothing is held for a writer yet
 unbuffered : (known : Option (List ℕ)) (bytes : List ℕ) → bytes ≡ [] → append_known known bytes ≡ known
@@ -281,15 +283,31 @@ unbuffered None bytes none = refl
 unbuffered (Some xs) bytes none = ap (λ (bs : List ℕ). Some (xs ++ bs)) none ∙ ap Some (append-nil xs)
 
 -- from where a replay begins
-pub replayed_from : {R : Type 0} (custody : R → Custody) (front : Front R) (records : R) (operator : List ℕ) (new : FrontState)
+pub replayed_from : {R : Type 0} (custody : R → Custody) (front new : Front R) (records : R) (operator : List ℕ)
     (left given rest before inner now : Option (List ℕ)) (buffer : List ℕ) (exit : Exit) → front.server.operator ≡ operator → front.server.records ≡ records
-    → front.server.decisions ≡ nothing_cached → given ≡ left → inner ≡ before → buffer ≡ []
-    → IsReplayed (front_state custody front) new given rest (append_known inner buffer) now exit
-    → IsReplayed (beginning operator (custody records).kept) new left rest before now exit
-replayed_from custody front records operator new left given rest before inner now buffer exit operates keeps holds gives writes none is =
-    let server : server_state custody front.server ≡ (beginning operator (custody records).kept).server
-    = λ i. record { world = record { operator = operates i; kept = (custody (keeps i)).kept }; decisions = holds i } in
+    → front.server.decisions ≡ nothing_cached → front.lines ≡ all_open → given ≡ left → inner ≡ before → buffer ≡ [] → IsSomeRun custody front.server new.server
+    → IsTranscriptRead (Replays custody front new (append_known inner buffer) now) given rest exit
+    → IsReplayed custody operator records left before now exit new
+replayed_from {R} custody front new records operator left given rest before inner now buffer exit operates keeps holds opened gives writes none served is =
+    let server : front.server ≡ record { operator = operator; records = records; decisions = nothing_cached }
+    = λ i. record { operator = operates i; records = keeps i; decisions = holds i } in
     let written : append_known inner buffer ≡ before = unbuffered inner buffer none ∙ writes in
-    subst (λ (s : ServerState). IsTranscriptRead (Replays (record { server = s; lines = all_open }) new before now) left rest exit) server
-    (subst (λ (b : Option (List ℕ)). IsTranscriptRead (Replays (record { server = server_state custody front.server; lines = all_open }) new b now) left rest exit) written
-    (subst (λ (l : Option (List ℕ)). IsTranscriptRead (Replays (record { server = server_state custody front.server; lines = all_open }) new (append_known inner buffer) now) l rest exit) gives is))
+    record {
+      old = front;
+      server = server;
+      lines = opened;
+      served = served;
+      rest = rest;
+      replayed =
+          subst (λ (b : Option (List ℕ)). IsTranscriptRead (Replays custody front new b now) left rest exit) written
+          (subst (λ (l : Option (List ℕ)). IsTranscriptRead (Replays custody front new (append_known inner buffer) now) l rest exit) gives is);
+    }
+
+-- over a store's repository, which keeps nothing yet
+pub replayed_from_nothing : {S X : Type 0} (g : Ghosts S) (clean : (c : Held S) → HasCleanDisk (state g c)) (records : Keeper S) (operator : List ℕ)
+    (left before : Option (List ℕ)) (exit : Exit) (held : Option X) (front : X → Front (Keeper S)) (now : X → Option (List ℕ)) → kept_by g records ≡ nothing_kept → IsSound g records
+    → MatchOption held (IsFalse (tells_of_entries exit)) (λ x. IsReplayed (custody_by g) operator records left before (now x) exit (front x))
+    → MatchOption held (IsFalse (tells_of_entries exit)) (λ x. IsReplayedFromNothing g operator left before (now x) exit (front x))
+replayed_from_nothing g clean records operator left before exit (Some x) front now nothing sound is =
+    record { records = records; nothing = nothing; sound = sound; clean = clean (front x).server.records.conn; replayed = is }
+replayed_from_nothing g clean records operator left before exit None front now nothing sound is = is

@@ -1,8 +1,9 @@
 -- Connections that are served, one after another.
-use Rattle.std.proofs.Common.{◌≡◌, ◌≢◌, ℕ, ◌+◌, ◌<◌, ◌≤◌, arith, false, IsTrue, List, [], ◌++◌, Option, Some, None, Ok, Err, refl, sym, ap, subst, ◌∙◌, add-one, set-set, slice_index_or, slice_set, inl, inr}
+use Rattle.std.proofs.Common.{◌≡◌, ◌≢◌, ℕ, ◌+◌, ◌<◌, ◌≤◌, arith, false, IsTrue, List, [], ◌∷◌, ◌++◌, map, append-nil, ◌⊎◌, Option, Some, None, Ok, Err, refl, sym, ap, subst, ◌∙◌, add-one, set-set, slice_index_or, slice_set, inl, inr}
 use Rattle.std.specs.Prelude.{◌↔◌, IfErr, MatchResult, Result}
 use Rattle.std.specs.Net.Grammar.{IsSocketText}
 use Rattle.std.specs.declared.net.socket_addr.SocketAddr.{SocketAddr}
+use Rattle.std.proofs.lemmas.List.{map-append}
 use Rattle.std.proofs.lemmas.Result.{IfErr-at_err}
 use Rattle.xa_http.specs.Stream.{Stream}
 use Rattle.xa_records.specs.Keeper.{Custody}
@@ -13,23 +14,25 @@ use Rattle.xa_server.specs.declared.front_error.FrontError.TheVariants.{Full, No
 use Rattle.xa_server.specs.declared.lines.Conn.{Conn}
 use Rattle.xa_server.specs.declared.replies.Reply.{Reply}
 use Rattle.xa_server.specs.Alone.{Event}
-use Rattle.xa_server.specs.Driven.{IsConnection, IsConnectionOf, IsDrivenWithin, KeepsOpen, Known}
+use Rattle.xa_server.specs.Driven.{IsConnection, IsConnectionOf, IsDrivenWithin, Known}
 use Rattle.xa_server.specs.declared.front.Front.{Front}
 use Rattle.xa_server.specs.Connection.{empty_stream}
 use Rattle.xa_server.specs.Lines.{IsClosed, IsOpened, Lines, first_free, line_at, none_open, with_line}
-use Rattle.xa_server.specs.World.{ServerModel, server_state}
-use Rattle.xa_server.proofs.ConnectionLemmas.{no_run, runs_on}
-use Rattle.xa_server.proofs.ServingLemmas.{are_served, served_on}
-use Rattle.pdpd.specs.Connections.{AreIsolated, AreOneRun, Clocked, ServesOne, at_clock}
-use Rattle.pdpd.specs.declared.exit.Exit.TheVariants.{Done}
+use Rattle.xa_server.specs.Transfers.{Grows}
+use Rattle.xa_server.specs.World.{ServerModel}
+use Rattle.xa_server.proofs.TransferLemmas.{grows_none, grows_trans}
+use Rattle.pdpd.specs.Connections.{AreIsolated, AreIsolatedOver, AreServed, Clocked, ServesOne, at_clock}
 use Rattle.pdpd.specs.declared.fault.Fault.{Fault}
 use Rattle.pdpd.specs.declared.fault.Fault.TheVariants as variant
 use Rattle.pdpd.specs.declared.fault.Fault.TheVariants.{Address, Place, End, TokenUnread, TokenBad, Store, Shut, Socket, Occupied, Taken, Unmade, Input, Connection, Waiting, Clock, Output, Memory}
 use Rattle.pdpd.specs.declared.serve.setting.Setting.{Setting}
 use Rattle.pdpd.specs.declared.serve.setting.Setting.TheVariants as set
-use Rattle.pdpd.specs.Fault.{IsNoAddress, IsOfConnections, IsOfFiles, IsOfServing, IsOfSetting, IsOfStore, IsOfToken, comes_of_serving, exit_of_fault, fault_of_end}
-use Rattle.pdpd.specs.running.Serving.{IsOfSettings, Serves, ServesConnection, ServesNext}
+use Rattle.pdpd.specs.Fault.{IsNoAddress, IsOfConnections, IsOfFiles, IsOfServing, IsOfSetting, IsOfStore, IsOfToken, comes_of_serving, fault_of_end}
+use Rattle.pdpd.specs.OneRun.{AreOneRun}
+use Rattle.pdpd.specs.Peers.{HasVisits, Peer, Visit, peer_in}
+use Rattle.pdpd.specs.running.Serving.{IsOfSettings, Serves, ServesAny, ServesConnection, WasSound, ServesNext, ServesNextOver}
 use Rattle.pdpd.proofs.ReadyLemmas.{none_some, some_number}
+use Rattle.pdpd.proofs.RunLemmas.{none_run, run_of, run_on}
 
 -- ---- a connection
 
@@ -57,179 +60,211 @@ opens (Err NoSuchConnection) old opened none is = absurd is
 opens (Err Full) old opened none is = absurd is
 
 -- it is open, and no other, after it was driven
-driven_alone : (conn : Conn) (opened left : Lines) → conn.number ≡ 0 → opened ≡ with_line conn (Some empty_stream) none_open → KeepsOpen conn opened left
-    → (after : Stream) × (left ≡ with_line conn (Some after) none_open)
-unfolding KeepsOpen
-driven_alone conn opened left first all keeps =
-    let is = keeps empty_stream (ap (λ (ls : Lines). slice_index_or ls conn.number None) all ∙ line_of_first conn.number first) in (
-      is.0,
-      is.1 ∙ ap (λ (ls : Lines). with_line conn (Some is.0) ls) all ∙ set-set none_open conn.number (Some empty_stream) (Some is.0),
+pub driven_alone : {R : Type 0} (custody : R → Custody) (end : DriveEnd) (conn : Conn) (old opened left : Front R) (x y : Known) → old.lines ≡ none_open
+    → IsOpened old.lines (Ok conn) opened.lines → IsConnection custody end conn opened left x y
+    → (after : Stream) × (left.lines ≡ with_line conn (Some after) none_open)
+    × IsDrivenWithin custody 1_000_000 end (record { server = opened.server; stream = empty_stream; known = x })
+    (record { server = left.server; stream = after; known = y })
+driven_alone custody end conn old opened left x y none is drives =
+    let first = opened_first conn old.lines opened.lines none is in
+    let there : line_at conn opened.lines ≡ Some empty_stream
+    = ap (λ (ls : Lines). slice_index_or ls conn.number None) first.1 ∙ line_of_first conn.number first.0 in
+    let here : IsConnectionOf custody (Some empty_stream) end conn opened left x y
+    = subst (λ (l : Option Stream). IsConnectionOf custody l end conn opened left x y) there drives in (
+      here.0,
+      here.1 ∙ ap (λ (ls : Lines). with_line conn (Some here.0) ls) first.1 ∙ set-set none_open conn.number (Some empty_stream) (Some here.0),
+      here.2,
     )
 
 line_driven : (number : ℕ) (after : Stream) → number ≡ 0 → slice_index_or (slice_set none_open number (Some after)) number None ≡ Some after
 line_driven number after first = subst (λ (n : ℕ). slice_index_or (slice_set none_open n (Some after)) n None ≡ Some after) (sym first) refl
 
 -- so none is open once it is closed
-pub closed_again : (conn : Conn) (result : Result (Unit {0}) FrontError) (old opened left new : Lines) → old ≡ none_open → IsOpened old (Ok conn) opened
-    → KeepsOpen conn opened left → IsClosed conn left result new → new ≡ none_open
-closed_again conn (Ok done) old opened left new none is keeps (stream, line, without) =
-    let begun = opened_first conn old opened none is in
-    let alone = driven_alone conn opened left begun.0 begun.1 keeps in
+pub closed_again : (conn : Conn) (result : Result (Unit {0}) FrontError) (old opened left new : Lines) (after : Stream) → old ≡ none_open → IsOpened old (Ok conn) opened
+    → left ≡ with_line conn (Some after) none_open → IsClosed conn left result new → new ≡ none_open
+closed_again conn (Ok done) old opened left new after none is alone (stream, line, without) =
     without
-    ∙ ap (λ (ls : Lines). with_line conn None ls) alone.1
-    ∙ set-set none_open conn.number (Some alone.0) None
-    ∙ none_without_first conn.number begun.0
-closed_again conn (Err NoSuchConnection) old opened left new none is keeps closed =
-    let begun = opened_first conn old opened none is in
-    let alone = driven_alone conn opened left begun.0 begun.1 keeps in
-    absurd (none_some Stream alone.0
-    (sym closed.0 ∙ ap (λ (ls : Lines). slice_index_or ls conn.number None) alone.1 ∙ line_driven conn.number alone.0 begun.0))
-closed_again conn (Err error.Memory) old opened left new none is keeps closed = absurd closed
-closed_again conn (Err TooManyConnections) old opened left new none is keeps closed = absurd closed
-closed_again conn (Err Full) old opened left new none is keeps closed = absurd closed
+    ∙ ap (λ (ls : Lines). with_line conn None ls) alone
+    ∙ set-set none_open conn.number (Some after) None
+    ∙ none_without_first conn.number (opened_first conn old opened none is).0
+closed_again conn (Err NoSuchConnection) old opened left new after none is alone closed =
+    absurd (none_some Stream after
+    (sym closed.0 ∙ ap (λ (ls : Lines). slice_index_or ls conn.number None) alone ∙ line_driven conn.number after (opened_first conn old opened none is).0))
+closed_again conn (Err error.Memory) old opened left new after none is alone closed = absurd closed
+closed_again conn (Err TooManyConnections) old opened left new after none is alone closed = absurd closed
+closed_again conn (Err Full) old opened left new after none is alone closed = absurd closed
 
 module _ {R : Type 0} (custody : R → Custody) (is_open : (s : R) → (custody s).sound → IsTrue (custody s).is_open) where
-  -- ---- runs, one after another
-
-  none_run : (a b : Front R) → b.server ≡ a.server → AreOneRun custody a b [] []
-  none_run a b same = record {
-    sound = subst (λ (s : ServerModel R). (custody b.server.records).sound → (custody s.records).sound) same (λ sound. sound);
-    clean = subst (λ (s : ServerModel R). (custody b.server.records).clean → (custody s.records).clean) same (λ clean. clean);
-    run = λ sound. no_run (server_state custody a.server) (server_state custody b.server) (ap (λ (s : ServerModel R). server_state custody s) same);
-    in_turn = are_served custody is_open a.server b.server [] [] [] same;
-  }
-
-  run_on : (a b c : Front R) (es fs : List Event) (rs qs : List Reply) → AreOneRun custody a b es rs → AreOneRun custody b c fs qs → AreOneRun custody a c (es ++ fs) (rs ++ qs)
-  run_on a b c es fs rs qs first later =
-      let each = served_on custody a.server b.server c.server es fs rs qs (first.in_turn.servers, first.in_turn.each) (later.in_turn.servers, later.in_turn.each) in
-      record {
-        sound = λ sound. first.sound (later.sound sound);
-        clean = λ clean. first.clean (later.clean clean);
-        run = λ sound.
-            runs_on (server_state custody a.server) (server_state custody b.server) (server_state custody c.server) es fs rs qs (first.run (later.sound sound)) (later.run sound);
-        in_turn = are_served custody is_open a.server c.server (es ++ fs) (rs ++ qs) each.0 each.1;
-      }
-
   -- ---- one connection
 
-  driven_one : (end : DriveEnd) (fault : Option Fault) (conn : Conn) (old opened left new : Front R) (before now : ServerModel R → Known) → old.lines ≡ none_open
-      → IsOpened old.lines (Ok conn) opened.lines → opened.server ≡ old.server → IsConnection custody end conn opened left (before opened.server) (now left.server)
-      → ((custody left.server.records).clean → (custody opened.server.records).clean)
+  driven_one : (end : DriveEnd) (fault : Option Fault) (conn : Conn) (old opened left new : Front R) (x y : Known) → old.lines ≡ none_open
+      → IsOpened old.lines (Ok conn) opened.lines → opened.server ≡ old.server → IsConnection custody end conn opened left x y
       → new.lines ≡ none_open → new.server ≡ left.server → fault_of_end end ≡ fault
-      → (events : List Event) × (replies : List Reply) × ServesOne custody fault old new (before old.server) (now new.server) events replies × AreOneRun custody old new events replies
-  driven_one end fault conn old opened left new before now none is server drives clean closed same ends =
-      let first = opened_first conn old.lines opened.lines none is in
-      let there : line_at conn opened.lines ≡ Some empty_stream
-      = ap (λ (ls : Lines). slice_index_or ls conn.number None) first.1 ∙ line_of_first conn.number first.0 in
-      let here : IsConnectionOf custody (Some empty_stream) end conn opened left (before opened.server) (now left.server)
-      = subst (λ (l : Option Stream). IsConnectionOf custody l end conn opened left (before opened.server) (now left.server)) there drives in
-      let driven : IsDrivenWithin custody 1_000_000 end (record { server = old.server; stream = empty_stream; known = before old.server })
-      (record { server = new.server; stream = here.0; known = now new.server })
-      = subst (λ (s : ServerModel R). IsDrivenWithin custody 1_000_000 end (record { server = s; stream = empty_stream; known = before s })
-      (record { server = new.server; stream = here.0; known = now new.server })) server
-      (subst (λ (s : ServerModel R). IsDrivenWithin custody 1_000_000 end (record { server = opened.server; stream = empty_stream; known = before opened.server })
-      (record { server = s; stream = here.0; known = now s })) (sym same) here.2) in
-      let stays_clean : (custody new.server.records).clean → (custody old.server.records).clean
-      = subst (λ (s : ServerModel R). (custody new.server.records).clean → (custody s.records).clean) server
-      (subst (λ (s : ServerModel R). (custody s.records).clean → (custody opened.server.records).clean) (sym same) clean) in (
-        driven.goes.events ++ driven.last_events,
-        driven.goes.run ++ driven.last_replies,
+      → (events : List Event) × (replies : List Reply) × ServesOne custody fault old new x y events replies × AreOneRun custody old.server new.server events replies
+  driven_one end fault conn old opened left new x y none is server drives closed same ends =
+      let here = driven_alone custody end conn old opened left x y none is drives in
+      let driven : IsDrivenWithin custody 1_000_000 end (record { server = old.server; stream = empty_stream; known = x })
+      (record { server = new.server; stream = here.0; known = y })
+      = subst (λ (s : ServerModel R). IsDrivenWithin custody 1_000_000 end (record { server = s; stream = empty_stream; known = x })
+      (record { server = new.server; stream = here.0; known = y })) server
+      (subst (λ (s : ServerModel R). IsDrivenWithin custody 1_000_000 end (record { server = opened.server; stream = empty_stream; known = x })
+      (record { server = s; stream = here.0; known = y })) (sym same) here.2) in
+      let events = driven.goes.events ++ driven.last_events in
+      let replies = driven.goes.run ++ driven.last_replies in (
+        events,
+        replies,
         (end, ends, record { after = here.0; is_driven = driven; opened = none; closed = closed }, refl, refl),
-        record { sound = λ sound. driven.goes.sound (driven.sound sound); clean = stays_clean; run = driven.run; in_turn = driven.served },
+        run_of custody is_open old.server new.server events replies driven.served,
       )
 
   -- whatever the last step of serving it gave
-  pub served_as : (old opened left new : Front R) (end : DriveEnd) (conn : Conn) (before now : ServerModel R → Known) (result : Result (Unit {0}) Fault) → old.lines ≡ none_open
-      → IsOpened old.lines (Ok conn) opened.lines → opened.server ≡ old.server → IsConnection custody end conn opened left (before opened.server) (now left.server)
-      → ((custody left.server.records).clean → (custody opened.server.records).clean)
+  pub served_as : (old opened left new : Front R) (end : DriveEnd) (conn : Conn) (x y : Known) (result : Result (Unit {0}) Fault) → old.lines ≡ none_open
+      → IsOpened old.lines (Ok conn) opened.lines → opened.server ≡ old.server → IsConnection custody end conn opened left x y
       → new.lines ≡ none_open → new.server ≡ left.server → MatchResult result (λ _. fault_of_end end ≡ None) (λ fault. fault_of_end end ≡ Some fault)
-      → ServesConnection custody result old new (before old.server) (now new.server)
+      → ServesConnection custody result old new x y
   unfolding ServesConnection
-  served_as old opened left new end conn before now (Ok unit) none is server drives clean closed same goes_on =
-      driven_one end None conn old opened left new before now none is server drives clean closed same goes_on
-  served_as old opened left new end conn before now (Err fault) none is server drives clean closed same ends =
-      driven_one end (Some fault) conn old opened left new before now none is server drives clean closed same ends
+  served_as old opened left new end conn x y (Ok unit) none is server drives closed same goes_on =
+      driven_one end None conn old opened left new x y none is server drives closed same goes_on
+  served_as old opened left new end conn x y (Err fault) none is server drives closed same ends =
+      driven_one end (Some fault) conn old opened left new x y none is server drives closed same ends
 
-  -- ---- one after another
-
-  pub served_none : (front : Clocked R) → Serves custody 0 (Ok tt) front front
-  unfolding Serves
-  served_none front = record { events = []; replies = []; served = (refl, refl, refl); are_one = none_run front.front front.front refl }
-
-  pub served_nobody : (count : ℕ) (front : Clocked R) → count < 1 → Serves custody count (Ok tt) front front
-  served_nobody count front less =
-      let none : count ≡ 0 = omega arith in
-      subst (λ (n : ℕ). Serves custody n (Ok tt) front front) (sym none) (served_none front)
-
-  pub served_more : (count : ℕ) (old mid new : Clocked R) → Serves custody count (Ok tt) old mid → ServesNext custody (Ok tt) mid new → Serves custody (count + 1) (Ok tt) old new
-  unfolding Serves ServesNext
-  served_more count old mid new before (events, replies, one, run) = record {
-    events = before.events ++ events;
-    replies = before.replies ++ replies;
-    served = rw add-one (mid, before.events, before.replies, events, replies, before.served, one, refl, refl);
-    are_one = run_on old.front mid.front new.front before.events events before.replies replies before.are_one run;
-  }
-
-  -- the program ends by a fault before all are served
-  pub served_until : (most count : ℕ) (fault : Fault) (old mid new : Clocked R) → count ≤ most → Serves custody count (Ok tt) old mid → ServesNext custody (Err fault) mid new
-      → Serves custody most (Err fault) old new
-  unfolding Serves ServesNext
-  served_until most count fault old mid new few before (inl same) =
-      let moved : AreIsolated custody count (Ok tt) old new = subst (λ (f : Clocked R). AreIsolated custody count (Ok tt) old f) (sym same) before in
-      record { events = moved.events; replies = moved.replies; served = (count, few, inl moved.served); are_one = moved.are_one }
-  served_until most count fault old mid new few before (inr (events, replies, one, run)) = record {
-    events = before.events ++ events;
-    replies = before.replies ++ replies;
-    served = (count, few, inr (mid, before.events, before.replies, events, replies, before.served, one, refl, refl));
-    are_one = run_on old.front mid.front new.front before.events events before.replies replies before.are_one run;
-  }
+  -- a keeper that is sound afterwards was before
+  pub served_sound : (result : Result (Unit {0}) Fault) (old new : Front R) (x y : Known) → ServesConnection custody result old new x y → WasSound custody old new
+  unfolding ServesConnection
+  served_sound result old new x y (events, replies, one, run) = run.sound
 
   -- before any was served
   pub served_unbegun : (most : ℕ) (fault : Fault) (front : Clocked R) → Serves custody most (Err fault) front front
+  unfolding Serves
+  served_unbegun most fault front = record {
+    events = [];
+    replies = [];
+    visits = [];
+    served = (0, omega arith, inl (refl, refl, refl, refl));
+    are_one = none_run custody is_open front.front.server front.front.server refl;
+  }
+
+-- ---- connections that are given and taken back
+
+module _ {P : Type 0} (came parted : P → Option (List Peer)) where
+  -- one, of which that is known
+  pub visited_one : (p q r : P) (was is : Peer) → Grows (came p) (came q) (was ∷ []) → parted q ≡ parted p → came r ≡ came q → Grows (parted q) (parted r) (is ∷ [])
+      → HasVisits came parted p r (record { came = was; parted = is } ∷ [])
+  visited_one p q r was is comes stays keeps parts = record {
+    came = subst (λ (l : Option (List Peer)). Grows (came p) l (was ∷ [])) (sym keeps) comes;
+    parted = subst (λ (l : Option (List Peer)). Grows l (parted r) (is ∷ [])) stays parts;
+  }
+
+  pub visited_none : (p q : P) → came q ≡ came p → parted q ≡ parted p → HasVisits came parted p q []
+  visited_none p q comes parts = record {
+    came = subst (λ (l : Option (List Peer)). Grows (came p) l []) (sym comes) (grows_none (came p));
+    parted = subst (λ (l : Option (List Peer)). Grows (parted p) l []) (sym parts) (grows_none (parted p));
+  }
+
+  visited_on : (p q r : P) (vs ws : List Visit) → HasVisits came parted p q vs → HasVisits came parted q r ws → HasVisits came parted p r (vs ++ ws)
+  visited_on p q r vs ws first later = record {
+    came =
+        subst (λ (l : List Peer). Grows (came p) (came r) l) (sym (map-append (λ (v : Visit). v.came) vs ws))
+        (grows_trans (came p) (came q) (came r) (map (λ (v : Visit). v.came) vs) (map (λ (v : Visit). v.came) ws) first.came later.came);
+    parted =
+        subst (λ (l : List Peer). Grows (parted p) (parted r) l) (sym (map-append (λ (v : Visit). v.parted) vs ws))
+        (grows_trans (parted p) (parted q) (parted r) (map (λ (v : Visit). v.parted) vs) (map (λ (v : Visit). v.parted) ws) first.parted later.parted);
+  }
+
+-- ---- one after another
+
+module _ {R P : Type 0} (custody : R → Custody) (is_open : (s : R) → (custody s).sound → IsTrue (custody s).is_open) (came parted : P → Option (List Peer)) where
+  pub served_none : (front : Clocked R) (peers : P) → AreIsolatedOver custody came parted 0 (Ok tt) front front peers peers
+  served_none front peers = record {
+    isolated = record { events = []; replies = []; visits = []; served = (refl, refl, refl, refl); are_one = none_run custody is_open front.front.server front.front.server refl };
+    visited = visited_none came parted peers peers refl refl;
+  }
+
+  -- one more, after which the next is
+  pub served_more : (count : ℕ) (old mid new : Clocked R) (p q r : P) → AreIsolatedOver custody came parted count (Ok tt) old mid p q
+      → ServesNextOver custody came parted (Ok tt) mid new q r → AreIsolatedOver custody came parted (count + 1) (Ok tt) old new p r
   unfolding ServesNext
-  served_unbegun most fault front = served_until most 0 fault front front front (omega arith) (served_none front) (inl refl)
+  served_more count old mid new p q r before next =
+      let is = before.isolated in
+      let visit = next.served.0 in
+      let events = next.served.2.0 in
+      let replies = next.served.2.1 in
+      record {
+        isolated = record {
+          events = is.events ++ events;
+          replies = is.replies ++ replies;
+          visits = is.visits ++ next.visits;
+          served = rw add-one (mid, is.events, is.replies, is.visits, events, replies, visit, is.served, next.served.2.2, refl, refl, ap (λ (vs : List Visit). is.visits ++ vs) next.served.1);
+          are_one = run_on custody is_open old.front.server mid.front.server new.front.server is.events events is.replies replies is.are_one next.served.2.3;
+        };
+        visited = visited_on came parted p q r is.visits next.visits before.visited next.visited;
+      }
 
-  -- the last of them
-  pub served_last : (count others : ℕ) (result : Result (Unit {0}) Fault) (old mid new : Clocked R) → count ≡ others + 1 → Serves custody others (Ok tt) old mid
-      → ServesNext custody result mid new → Serves custody count result old new
-  served_last count others (Ok unit) old mid new same before is =
-      subst (λ (n : ℕ). Serves custody n (Ok tt) old new) (sym same) (served_more others old mid new before is)
-  served_last count others (Err fault) old mid new same before is = served_until count others fault old mid new (omega (arith, same)) before is
+  -- the program ends by a fault before all are served
+  pub served_until : (most count : ℕ) (fault : Fault) (old mid new : Clocked R) (p q r : P) → count ≤ most → AreIsolatedOver custody came parted count (Ok tt) old mid p q
+      → ServesNextOver custody came parted (Err fault) mid new q r → AreIsolatedOver custody came parted most (Err fault) old new p r
+  unfolding ServesNext
+  served_until most count fault old mid new p q r few before next = by_next next.served
+    where
+      is : AreIsolated custody count (Ok tt) old mid
+      is = before.isolated
 
-module _ {R : Type 0} (custody : R → Custody) where
+      visited : HasVisits came parted p r (is.visits ++ next.visits)
+      visited = visited_on came parted p q r is.visits next.visits before.visited next.visited
+
+      by_next : ((new ≡ mid) × (next.visits ≡ [])) ⊎ ((visit : Visit) × (next.visits ≡ visit ∷ []) × ServesAny custody (Some fault) mid new visit)
+          → AreIsolatedOver custody came parted most (Err fault) old new p r
+      by_next (inl (same, none)) = record {
+        isolated = record {
+          events = is.events;
+          replies = is.replies;
+          visits = is.visits;
+          served = (count, few, inl (subst (λ (f : Clocked R). AreServed custody count old f is.events is.replies is.visits) (sym same) is.served));
+          are_one = subst (λ (f : Clocked R). AreOneRun custody old.front.server f.front.server is.events is.replies) (sym same) is.are_one;
+        };
+        visited = subst (λ (vs : List Visit). HasVisits came parted p r vs) (ap (λ (vs : List Visit). is.visits ++ vs) none ∙ append-nil is.visits) visited;
+      }
+      by_next (inr (visit, one, (events, replies, serves, run))) = record {
+        isolated = record {
+          events = is.events ++ events;
+          replies = is.replies ++ replies;
+          visits = is.visits ++ next.visits;
+          served = (
+            count,
+            few,
+            inr (mid, is.events, is.replies, is.visits, events, replies, visit, is.served, serves, refl, refl, ap (λ (vs : List Visit). is.visits ++ vs) one),
+          );
+          are_one = run_on custody is_open old.front.server mid.front.server new.front.server is.events events is.replies replies is.are_one run;
+        };
+        visited = visited;
+      }
+
+module _ {R P : Type 0} (custody : R → Custody) (came parted : P → Option (List Peer)) where
   -- no connection was there
-  pub unserved : (fault : Fault) (front : Clocked R) → ServesNext custody (Err fault) front front
+  pub unserved : (fault : Fault) (front : Clocked R) (p q : P) → came q ≡ came p → parted q ≡ parted p → ServesNextOver custody came parted (Err fault) front front p q
   unfolding ServesNext
-  unserved fault front = inl refl
+  unserved fault front p q comes parts = record { visits = []; served = inl (refl, refl); visited = visited_none came parted p q comes parts }
 
-  -- of a connection that was served the clock alone is told
-  pub served_some : (result : Result (Unit {0}) Fault) (old new : Front R) (known_old known_new : Known) → ServesConnection custody result old new known_old known_new
-      → ServesNext custody result (at_clock old known_old.told) (at_clock new known_new.told)
+  -- the connection that was given was served, and taken back
+  pub served_next : (result : Result (Unit {0}) Fault) (old new : Front R) (known_old known_new : Known) (p q r : P) → ServesConnection custody result old new known_old known_new
+      → Grows (came p) (came q) (peer_in known_old ∷ []) → parted q ≡ parted p → came r ≡ came q → Grows (parted q) (parted r) (peer_in known_new ∷ [])
+      → ServesNextOver custody came parted result (at_clock old known_old.told) (at_clock new known_new.told) p r
   unfolding ServesConnection ServesNext
-  served_some (Ok unit) old new known_old known_new (events, replies, one, run) = (events, replies, (known_old, known_new, refl, refl, one), run)
-  served_some (Err fault) old new known_old known_new (events, replies, one, run) = inr (events, replies, (known_old, known_new, refl, refl, one), run)
+  served_next (Ok unit) old new known_old known_new p q r (events, replies, one, run) comes stays keeps parts = record {
+    visits = record { came = peer_in known_old; parted = peer_in known_new } ∷ [];
+    served = (record { came = peer_in known_old; parted = peer_in known_new }, refl, (events, replies, (known_old, known_new, refl, refl, refl, one), run));
+    visited = visited_one came parted p q r (peer_in known_old) (peer_in known_new) comes stays keeps parts;
+  }
+  served_next (Err fault) old new known_old known_new p q r (events, replies, one, run) comes stays keeps parts = record {
+    visits = record { came = peer_in known_old; parted = peer_in known_new } ∷ [];
+    served = inr (record { came = peer_in known_old; parted = peer_in known_new }, refl, (events, replies, (known_old, known_new, refl, refl, refl, one), run));
+    visited = visited_one came parted p q r (peer_in known_old) (peer_in known_new) comes stays keeps parts;
+  }
 
--- ---- no fault ends the program well
-
-pub fault_not_done : (fault : Fault) → exit_of_fault fault ≢ Done
-fault_not_done Address = λ same. cc
-fault_not_done Place = λ same. cc
-fault_not_done End = λ same. cc
-fault_not_done (variant.Setting setting) = λ same. cc
-fault_not_done TokenUnread = λ same. cc
-fault_not_done TokenBad = λ same. cc
-fault_not_done (Store fault) = λ same. cc
-fault_not_done Shut = λ same. cc
-fault_not_done Socket = λ same. cc
-fault_not_done Occupied = λ same. cc
-fault_not_done Taken = λ same. cc
-fault_not_done Unmade = λ same. cc
-fault_not_done Input = λ same. cc
-fault_not_done Connection = λ same. cc
-fault_not_done Waiting = λ same. cc
-fault_not_done Clock = λ same. cc
-fault_not_done Output = λ same. cc
-fault_not_done Memory = λ same. cc
+  -- which connections these were isn't told
+  pub served_some : (count : ℕ) (result : Result (Unit {0}) Fault) (old new : Clocked R) (p q : P) → AreIsolatedOver custody came parted count result old new p q → Serves custody count result old new
+  unfolding Serves
+  served_some count result old new p q is = is.isolated
 
 -- ---- faults that are no fault of the address
 

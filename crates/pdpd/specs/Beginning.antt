@@ -1,5 +1,5 @@
 -- What the files of a store hold as serving begins, and as it ends.
-use Rattle.std.specs.Prelude.{◌≡◌, ℕ, List, Option, None, Result, Ok, Err}
+use Rattle.std.specs.Prelude.{◌≡◌, ◌⊎◌, ℕ, List, Option, None, Result, Ok, Err}
 use Rattle.sqlite.specs.Closing.{HoldsAlone}
 use Rattle.sqlite.specs.Files.{AreFoundIn, HoldsDatabase, image_of}
 use Rattle.sqlite.specs.Recovery.{Image}
@@ -23,12 +23,13 @@ use Rattle.pdpd.specs.Token.{IsOperatorIn}
 -- ---- what is kept as serving begins
 
 -- what is kept over these trees: what the program's tables of schema 2 mean, or of schema 1; nothing, if there is no
--- table at all. Tables that opening doesn't find sound are refused. Trees of other tables are refused, too. In each of
--- the three cases the keeper is sound, which is `sound`
+-- table at all. It is one of the three: trees of other tables are refused, and so are tables that opening doesn't find
+-- sound. In each the keeper is sound, which is `sound`
 pub record IsKeptOver (sound : Type 0) (db : Trees) (kept : Kept) : Type 0 where
   pub ours : IsOurDatabase db → OpensSoundly db × (kept ≡ kept_in db) × sound
   pub ours_of_schema_1 : ObeysRules schema_1 db → IsSoundSchema1 db × (kept ≡ kept_in_schema_1 db) × sound
   pub none : ObeysRules no_tables db → (kept ≡ nothing_kept) × sound
+  pub is_one : IsOurDatabase db ⊎ (ObeysRules schema_1 db ⊎ ObeysRules no_tables db)
 
 -- what is kept over two files that hold `image`: what is kept over the trees that they hold. If they hold no database
 -- yet, the trees are empty

@@ -1,5 +1,5 @@
 -- Connections that were served, one after another.
-use Rattle.std.specs.Prelude.{◌≡◌, ◌≤◌, ◌⊎◌, ℕ, ℤ, zero, suc, List, [], ◌++◌, Option, Some, None, Result, Ok, Err}
+use Rattle.std.specs.Prelude.{◌≡◌, ◌≤◌, ◌⊎◌, ℕ, ℤ, zero, suc, List, [], ◌∷◌, ◌++◌, Option, Some, None, Result, Ok, Err}
 use Rattle.sqlite.specs.Files.{over_files}
 use Rattle.sqlite.specs.Recovery.{Image}
 use Rattle.sqlite_disk.specs.declared.Disk.{Ghosts}
@@ -10,18 +10,18 @@ use Rattle.xa_server.specs.declared.drive_end.DriveEnd.{DriveEnd}
 use Rattle.xa_server.specs.declared.front.Front.{Front}
 use Rattle.xa_server.specs.declared.replies.Reply.{Reply}
 use Rattle.xa_server.specs.Alone.{Event}
-use Rattle.xa_server.specs.Connection.{IsOneRun, empty_stream}
+use Rattle.xa_server.specs.Connection.{empty_stream}
 use Rattle.xa_server.specs.Driven.{IsDrivenWithin, Known}
 use Rattle.xa_server.specs.Front.{front_is_clean, front_state}
 use Rattle.xa_server.specs.Lines.{none_open}
-use Rattle.xa_server.specs.Serving as messages
-use Rattle.xa_server.specs.World.{server_state}
 use Rattle.xa_store.specs.Keeper.{IsSound, Keeper}
 use Rattle.xa_store.specs.KeeperReading.{custody_by, kept_by}
 use Rattle.pdpd.specs.declared.fault.Fault.{Fault}
 use Rattle.pdpd.specs.declared.store.closed.ClosedStore.{ClosedStore}
 use Rattle.pdpd.specs.Beginning.{Begins, IsLeftIn}
 use Rattle.pdpd.specs.Fault.{fault_of_end}
+use Rattle.pdpd.specs.OneRun.{AreOneRun}
+use Rattle.pdpd.specs.Peers.{HasVisits, Peer, Visit, peer_in}
 
 -- a front, and what the clock by which its messages are served has told so far, if that is known
 pub record Clocked (R : Type 0) : Type 0 where
@@ -49,54 +49,57 @@ module _ {R : Type 0} (custody : R → Custody) where
       × (events ≡ is.is_driven.goes.events ++ is.is_driven.last_events)
       × (replies ≡ is.is_driven.goes.run ++ is.is_driven.last_replies)
 
-  -- `ServesOne`, of some connection: the clock alone is known
-  abbrev pub ServesSome : Option Fault → Clocked R → Clocked R → List Event → List Reply → Type 0
-  ServesSome fault old new events replies =
+  -- `ServesOne`, of that connection
+  abbrev pub ServesVisit : Option Fault → Clocked R → Clocked R → List Event → List Reply → Visit → Type 0
+  ServesVisit fault old new events replies visit =
       (known_old : Known) × (known_new : Known) × (known_old.told ≡ old.told) × (known_new.told ≡ new.told)
+      × (visit ≡ record { came = peer_in known_old; parted = peer_in known_new })
       × ServesOne fault old.front new.front known_old known_new events replies
 
+  -- connections were served, and then one more, by whose end the program ends so, or goes on
+  abbrev pub ServesOneMore : (Clocked R → Clocked R → List Event → List Reply → List Visit → Type 0) → Option Fault
+      → Clocked R → Clocked R → List Event → List Reply → List Visit → Type 0
+  ServesOneMore Before fault old new events replies visits =
+      (mid : Clocked R) × (earlier : List Event) × (told : List Reply) × (before : List Visit)
+      × (events_last : List Event) × (replies_last : List Reply) × (last : Visit) × Before old mid earlier told before
+      × ServesVisit fault mid new events_last replies_last last × (events ≡ earlier ++ events_last)
+      × (replies ≡ told ++ replies_last) × (visits ≡ before ++ last ∷ [])
+
   -- `count` connections were served, one after another, each to an end after which the next is; `events` and `replies`
-  -- are theirs, those of the first before those of the second, and so on. The clock was asked for their messages alone.
-  -- Which connections these were, and what came and went on them, isn't said: of a socket nothing is known
-  abbrev pub AreServed : ℕ → Clocked R → Clocked R → List Event → List Reply → Type 0
-  AreServed zero old new events replies = (new ≡ old) × (events ≡ []) × (replies ≡ [])
-  AreServed (suc count) old new events replies =
-      (mid : Clocked R) × (earlier : List Event) × (told : List Reply) × (events_last : List Event)
-      × (replies_last : List Reply) × AreServed count old mid earlier told
-      × ServesSome None mid new events_last replies_last × (events ≡ earlier ++ events_last)
-      × (replies ≡ told ++ replies_last)
+  -- are theirs, those of the first before those of the second, and so on, and `visits` what is known of each. The clock
+  -- was asked for their messages alone
+  abbrev pub AreServed : ℕ → Clocked R → Clocked R → List Event → List Reply → List Visit → Type 0
+  AreServed zero old new events replies visits = (new ≡ old) × (events ≡ []) × (replies ≡ []) × (visits ≡ [])
+  AreServed (suc count) old new events replies visits =
+      ServesOneMore (AreServed count) None old new events replies visits
 
   -- at most `most` connections were served so, and then perhaps one more, by whose end the program ends with the fault
-  abbrev pub AreServedUntil : ℕ → Fault → Clocked R → Clocked R → List Event → List Reply → Type 0
-  AreServedUntil most fault old new events replies =
-      (count : ℕ) × (count ≤ most) × (AreServed count old new events replies
-      ⊎ ((mid : Clocked R) × (earlier : List Event) × (told : List Reply) × (events_last : List Event)
-      × (replies_last : List Reply) × AreServed count old mid earlier told
-      × ServesSome (Some fault) mid new events_last replies_last × (events ≡ earlier ++ events_last)
-      × (replies ≡ told ++ replies_last)))
+  abbrev pub AreServedUntil : ℕ → Fault → Clocked R → Clocked R → List Event → List Reply → List Visit → Type 0
+  AreServedUntil most fault old new events replies visits =
+      (count : ℕ) × (count ≤ most) × (AreServed count old new events replies visits
+      ⊎ ServesOneMore (AreServed count) (Some fault) old new events replies visits)
 
   -- by how serving ended: all connections were served, or those up to a fault
-  abbrev pub AreServedAs : ℕ → Result (Unit {0}) Fault → Clocked R → Clocked R → List Event → List Reply → Type 0
-  AreServedAs count (Ok _) old new events replies = AreServed count old new events replies
-  AreServedAs count (Err fault) old new events replies = AreServedUntil count fault old new events replies
-
-  -- messages are one run of the server if its keeper is sound at the end, and each domain's replies in it are those of
-  -- its own machine, used by it alone. Whatever the keeper has come to, they were served one after another, and those
-  -- up to where it was shut are such a run if it was sound at the beginning
-  pub record AreOneRun (old new : Front R) (events : List Event) (replies : List Reply) : Type 0 where
-    pub sound : (custody new.server.records).sound → (custody old.server.records).sound
-    pub clean : (custody new.server.records).clean → (custody old.server.records).clean
-    pub run : (custody new.server.records).sound
-        → IsOneRun (server_state custody old.server) (server_state custody new.server) events replies
-    pub in_turn : messages.AreServed custody old.server new.server events replies
+  abbrev pub AreServedAs : ℕ → Result (Unit {0}) Fault → Clocked R → Clocked R → List Event → List Reply → List Visit
+      → Type 0
+  AreServedAs count (Ok _) old new events replies visits = AreServed count old new events replies visits
+  AreServedAs count (Err fault) old new events replies visits = AreServedUntil count fault old new events replies visits
 
   -- the headline over connections that were served: all of their events are one run, whatever the connections on which
   -- a domain's messages came
   pub record AreIsolated (count : ℕ) (result : Result (Unit {0}) Fault) (old new : Clocked R) : Type 0 where
     pub events : List Event
     pub replies : List Reply
-    pub served : AreServedAs count result old new events replies
-    pub are_one : AreOneRun old.front new.front events replies
+    pub visits : List Visit
+    pub served : AreServedAs count result old new events replies visits
+    pub are_one : AreOneRun custody old.front.server new.front.server events replies
+
+  -- `AreIsolated`, and the connections were those that were given, as far as it is known which these are. Of sockets
+  -- nothing is known
+  pub record AreIsolatedOver {P : Type 0} (came parted : P → Option (List Peer)) (count : ℕ)
+      (result : Result (Unit {0}) Fault) (old new : Clocked R) (peers_old peers_new : P) : Type 0 where
+    pub isolated : AreIsolated count result old new
+    pub visited : HasVisits came parted peers_old peers_new isolated.visits
 
 -- connections were served from what two files held, that is `image`, to this front; `token` is known of the token
 -- file's text, and `told` of the clock before. If the disk has given back what was written, serving began as `Begins`

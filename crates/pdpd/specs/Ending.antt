@@ -1,9 +1,10 @@
 -- How the program may end by what the words of its command line ask for.
-use Rattle.std.specs.Prelude.{◌≡◌, ◌≢◌, ◌⊎◌, ◌↔◌, Option, Some, None, IsFalse, IsTrue, IfSome, MatchOption}
+use Rattle.std.specs.Prelude.{◌≡◌, ◌⊎◌, ◌↔◌, ℕ, ℤ, false, List, Option, Some, None, Ok, Err, IsFalse}
 use Rattle.sqlite.specs.Recovery.{Image}
 use Rattle.sqlite_disk.specs.declared.Disk.{Ghosts}
 use Rattle.sqlite_store.specs.declared.store.FileStore.{FileStore}
 use Rattle.xa_notation.specs.Tokens.{is_token}
+use Rattle.xa_server.specs.declared.front.Front.{Front}
 use Rattle.xa_store.specs.Keeper.{Keeper}
 use Rattle.pdpd.specs.Beginning.{HasCleanFiles}
 use Rattle.pdpd.specs.Connections.{ServesFiles, ServesFrom, at_clock}
@@ -13,31 +14,72 @@ use Rattle.pdpd.specs.declared.command_line.ListenCommand.{ListenCommand}
 use Rattle.pdpd.specs.declared.command_line.ServeCommand.{ServeCommand}
 use Rattle.pdpd.specs.declared.exit.Exit.{Exit}
 use Rattle.pdpd.specs.declared.exit.Exit.TheVariants.{Done, Failed, Usage}
+use Rattle.pdpd.specs.declared.fault.Fault.{Fault}
+use Rattle.pdpd.specs.declared.fault.Fault.TheVariants.{Address, Place, Store}
+use Rattle.pdpd.specs.declared.fault.StoreFault.TheVariants.{Unclosed as NotClosed}
+use Rattle.pdpd.specs.declared.serve.served.Ended.{Ended}
+use Rattle.pdpd.specs.declared.serve.served.Ended.TheVariants.{Closed, Unclosed, Broken, Unbegun}
 use Rattle.pdpd.specs.declared.serve.served.Served.{Served}
-use Rattle.pdpd.specs.Exit.{ends_serving}
-use Rattle.pdpd.specs.Fault.{EndsBy, IsNoAddress}
+use Rattle.pdpd.specs.Fault.{IsNoAddress, comes_of_serving, exit_of_fault}
 use Rattle.pdpd.specs.Listening.{IsNoPlace, ServesAtOnceFrom, ServesFilesAtOnce}
 
-module _ {D : Type 0} {g : Ghosts D} (image : Image) where
-  -- how the program ends by serving over two files that held `image`, and what it leaves: the files, if it is done, and
-  -- the front, if a fault has ended it. Nothing is known of the token file's text and of the clock
-  pub record EndsServing (serving : ServeCommand) (end : Served D (Keeper (FileStore D g)) g) : Type 0 where
-    pub exit : IsTrue (ends_serving end.exit)
-    pub address : IsNoAddress serving.address → end.exit ≡ Usage
-    pub done : MatchOption end.closed (end.exit ≢ Done)
-        (λ closed. HasCleanFiles closed → ServesFiles image None None None serving.connections closed)
-    pub left : IfSome end.left
-        (λ left. EndsBy end.exit left.result
-        × ServesFrom image None None serving.connections left.result (at_clock left.front None))
+-- how the program ends by a fault, or without one
+abbrev pub exit_if : Option Fault → Exit
+exit_if None = Done
+exit_if (Some fault) = exit_of_fault fault
 
-  -- how the program ends by serving at once over such files, and what it leaves, in the same way
+module _ {D R : Type 0} {g : Ghosts D} where
+  -- the fault by which serving has ended, if it has ended by one
+  abbrev pub fault_in_end : Ended D R g → Option Fault
+  fault_in_end (Closed closed) = None
+  fault_in_end (Unclosed fault) = Some fault
+  fault_in_end (Broken front fault) = Some fault
+  fault_in_end (Unbegun fault) = Some fault
+
+  -- how the program ends as serving has ended
+  abbrev pub exit_of_end : Ended D R g → Exit
+  exit_of_end ended = exit_if (fault_in_end ended)
+
+module _ {D : Type 0} {g : Ghosts D} (image : Image) (token : Option (List ℕ)) where
+  -- How serving over two files has ended that held `image`; `token` is known of the token file's text, and `told_old`
+  -- and `told_new` of the clock before and after. All connections were served, and the files are closed, or can't be;
+  -- or those up to a fault were served; or a fault has come before any, and the clock wasn't asked
+  abbrev pub HasServed : Option (List (Option ℤ)) → Option (List (Option ℤ)) → ℕ → Ended D (Keeper (FileStore D g)) g
+      → Type 0
+  HasServed told_old told_new count (Closed closed) =
+      HasCleanFiles closed → ServesFiles image token told_old told_new count closed
+  HasServed told_old told_new count (Unclosed fault) =
+      (fault ≡ Store NotClosed)
+      × ((front : Front (Keeper (FileStore D g)))
+      × ServesFrom image token told_old count (Ok tt) (at_clock front told_new))
+  HasServed told_old told_new count (Broken front fault) =
+      ServesFrom image token told_old count (Err fault) (at_clock front told_new)
+  HasServed told_old told_new count (Unbegun fault) = (comes_of_serving fault ≡ false) × (told_new ≡ told_old)
+
+  -- how serving at once over such files has ended, in the same way
+  abbrev pub HasServedAtOnce : Ended D (Keeper (FileStore D g)) g → Type 0
+  HasServedAtOnce (Closed closed) = HasCleanFiles closed → ServesFilesAtOnce image token closed
+  HasServedAtOnce (Unclosed fault) =
+      (fault ≡ Store NotClosed)
+      × ((front : Front (Keeper (FileStore D g))) × ServesAtOnceFrom image token (Ok tt) front)
+  HasServedAtOnce (Broken front fault) = ServesAtOnceFrom image token (Err fault) front
+  HasServedAtOnce (Unbegun fault) = comes_of_serving fault ≡ false
+
+module _ {D : Type 0} {g : Ghosts D} (image : Image) where
+  -- how the program ends by serving over two files that held `image`: as serving has ended. Nothing is known of the
+  -- token file's text and of the clock
+  pub record EndsServing (serving : ServeCommand) (end : Served D (Keeper (FileStore D g)) g) : Type 0 where
+    pub ended : Ended D (Keeper (FileStore D g)) g
+    pub is : end ≡ record { exit = exit_of_end ended; ended = Some ended }
+    pub served : HasServed image None None None serving.connections ended
+    pub address : IsNoAddress serving.address → ended ≡ Unbegun Address
+
+  -- how the program ends by serving at once over such files, in the same way
   pub record EndsListening (listening : ListenCommand) (end : Served D (Keeper (FileStore D g)) g) : Type 0 where
-    pub exit : IsTrue (ends_serving end.exit)
-    pub place : IsNoPlace listening.address → end.exit ≡ Usage
-    pub done : MatchOption end.closed (end.exit ≢ Done)
-        (λ closed. HasCleanFiles closed → ServesFilesAtOnce image None closed)
-    pub left : IfSome end.left
-        (λ left. EndsBy end.exit left.result × ServesAtOnceFrom image None left.result left.front)
+    pub ended : Ended D (Keeper (FileStore D g)) g
+    pub is : end ≡ record { exit = exit_of_end ended; ended = Some ended }
+    pub served : HasServedAtOnce image None ended
+    pub place : IsNoPlace listening.address → ended ≡ Unbegun Place
 
   -- how the program may end by what the words of the command line ask for
   abbrev pub MayEnd : Option Command → Served D (Keeper (FileStore D g)) g → Type 0

@@ -4,11 +4,12 @@ use Rattle.std.specs.List.{flat_map}
 use Rattle.xa_http.specs.declared.message.Message.{Message}
 use Rattle.xa_http.specs.declared.fault.SessionFault.{SessionFault}
 use Rattle.xa_http.specs.Stream.{Stream}
+use Rattle.xa_records.specs.Keeper.{Custody}
 use Rattle.xa_server.specs.declared.replies.Reply.{Reply}
 use Rattle.xa_server.specs.Alone.{Event}
 use Rattle.xa_server.specs.Connection.{HasMessages, all_replies}
-use Rattle.xa_server.specs.Served.{IsRun}
-use Rattle.xa_server.specs.World.{World}
+use Rattle.xa_server.specs.World.{ServerModel}
+use Rattle.pdpd.specs.OneRun.{AreOneRun}
 
 -- the messages, each at that moment
 abbrev pub events_at : ℤ → List Message → List Event
@@ -25,11 +26,11 @@ reply_entries connection replies = flat_map (reply_entry connection) replies
 
 -- the replies to what a stream holds: those of a run of the server on the whole messages, each at that moment, and
 -- after them the reply to the fault by which it ends, if it does
-pub record IsStreamAnswered (moment : ℤ) (old new : World) (stream after : Stream)
-    (replies : List (List ℕ)) : Type 0 where
+pub record IsStreamAnswered {R : Type 0} (custody : R → Custody) (moment : ℤ) (old new : ServerModel R)
+    (stream after : Stream) (replies : List (List ℕ)) : Type 0 where
   pub messages : List Message
   pub fault : Option SessionFault
   pub run : List Reply
   pub has_messages : HasMessages stream messages fault after
-  pub is_run : IsRun old (events_at moment messages) run new
+  pub are_one : AreOneRun custody old new (events_at moment messages) run
   pub are_all : replies ≡ all_replies run fault

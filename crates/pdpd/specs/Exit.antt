@@ -39,8 +39,3 @@ abbrev pub tells_of_entries : Exit → Bool
 tells_of_entries Done = true
 tells_of_entries (Malformed _ _) = true
 tells_of_entries _ = false
-
--- the exits of connections that are served: no transcript is read
-abbrev pub ends_serving : Exit → Bool
-ends_serving (Malformed _ _) = false
-ends_serving _ = true

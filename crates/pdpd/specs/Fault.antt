@@ -44,11 +44,6 @@ exit_of_fault Clock = exit.Socket
 exit_of_fault Output = exit.Failed
 exit_of_fault Memory = exit.Memory
 
--- the program ends so by the fault that has ended serving
-abbrev pub EndsBy : Exit → Result (Unit {0}) Fault → Type 0
-EndsBy end (Ok _) = ⊥
-EndsBy end (Err fault) = end ≡ exit_of_fault fault
-
 -- ---- what each step that fails may end by: a fault of its own, or want of memory
 
 -- a fault of the operator's token, or want of memory

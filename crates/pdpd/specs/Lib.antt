@@ -8,6 +8,8 @@ pub mod Fault
 pub mod Halves
 pub mod Heading
 pub mod Listening
+pub mod OneRun
+pub mod Peers
 pub mod Replay
 pub mod running
 pub mod Setting

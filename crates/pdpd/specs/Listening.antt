@@ -83,7 +83,7 @@ unknown_traffic _ = None
 -- if its keeper is sound at the end, and each domain's replies in it, whatever the connections on which its messages
 -- came, are those of its own machine, used by it alone (`IsPlayed`). Whatever the keeper has come to, they were served
 -- one after another, and those up to where it was shut are such a run if it was sound at the beginning
--- (`PlaysServed`). Which connections these were, and what came and went on them, isn't said.
+-- (`AreServed`). Which connections these were, and what came and went on them, isn't said.
 pub record ServesAtOnce {R : Type 0} (custody : R → Custody) (result : Result (Unit {0}) Fault) (old new : Front R)
     : Type 0 where
   pub served : IsServedAtOnce custody unknown_traffic old new tt tt

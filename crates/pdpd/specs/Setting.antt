@@ -29,9 +29,9 @@ abbrev pub value_of : Setting → Option (List ℕ) → Option ℕ
 value_of setting None = Some (default_of setting)
 value_of setting (Some text) = number_up_to (most_of setting) text
 
--- the limit that a setting of 0 or more is: 0 is none, and stands for the greatest
-abbrev pub limit_of : ℕ → ℕ
-limit_of set = if nat_eq set 0 then 18_446_744_073_709_551_615 else set
+-- the limit that a setting of 0 or more is: 0 is none
+abbrev pub limit_of : ℕ → Option ℕ
+limit_of set = if nat_eq set 0 then None else Some set
 
 -- the limit in nanoseconds that a setting in seconds is: 0 is none
 abbrev pub nanos_of : ℕ → Option ℕ

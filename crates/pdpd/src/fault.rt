@@ -1,7 +1,6 @@
 //! Why `pdpd listen` or `pdpd serve` ends before its connections have ended, and the line that says what to
 //! do.
-ghost use Rattle.std.specs.Prelude.{◌≡◌, IsTrue};
-ghost use Rattle.pdpd.specs.Exit.{ends_serving};
+ghost use Rattle.std.specs.Prelude.{◌≡◌};
 ghost use Rattle.pdpd.specs.Fault.{exit_of_fault};
 
 use crate::exit::Exit;
@@ -117,7 +116,6 @@ impl Fault {
     /// How the program ends.
     pub fn exit(self) -> Exit
         ensures exit { result ≡ exit_of_fault self }
-        ensures serving { IsTrue (ends_serving result) }
     {
         match self {
             Fault::Address | Fault::Place | Fault::End => Exit::Usage,

@@ -12,9 +12,9 @@ mod door;
 pub(crate) mod files;
 mod input;
 mod place;
-mod seat;
 mod settings;
 mod sockets;
+mod stream;
 mod telling;
 
 use crate::command_line::ListenCommand;

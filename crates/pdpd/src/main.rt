@@ -4,18 +4,16 @@
 //! how it is called, and which version it is.
 #![tactic(auto)]
 
-ghost use Rattle.std.specs.Prelude.{◌≡◌, ◌≢◌, ◌⊎◌, ◌↔◌, Err, IfErr, IfOk, IfSome, IsFalse, IsTrue, None};
-ghost use Rattle.std.specs.Prelude.{IsSome, MatchOption, map, string_bytes};
+ghost use Rattle.std.specs.Prelude.{◌≡◌, ◌⊎◌, ◌↔◌, IsFalse, map, string_bytes};
 ghost use Rattle.sqlite.specs.WalFiles.{image_at};
 ghost use Rattle.xa_notation.specs.Tokens.{is_token};
-ghost use Rattle.pdpd.specs.Beginning.{HasCleanFiles, known_text};
-ghost use Rattle.pdpd.specs.Connections.{ServesFiles, ServesFrom, at_clock};
+ghost use Rattle.pdpd.specs.Beginning.{known_text};
 ghost use Rattle.pdpd.specs.declared.exit.Exit.TheVariants.{Done, Failed, Usage};
 ghost use Rattle.pdpd.specs.declared.fault.Fault.TheVariants.{Address};
+ghost use Rattle.pdpd.specs.declared.serve.served.Ended.TheVariants.{Unbegun};
 ghost use Rattle.pdpd.specs.CommandLine.{command_of};
-ghost use Rattle.pdpd.specs.Ending.{MayEnd};
-ghost use Rattle.pdpd.specs.Exit.{ends_serving};
-ghost use Rattle.pdpd.specs.Fault.{EndsBy, IsNoAddress, comes_of_serving};
+ghost use Rattle.pdpd.specs.Ending.{HasServed, MayEnd};
+ghost use Rattle.pdpd.specs.Fault.{IsNoAddress};
 
 // What is asked for, and how the program ends.
 mod command_line;
@@ -31,14 +29,14 @@ mod serve;
 
 // The store, and what else it asks of the system.
 mod mode;
+mod refusals;
 mod stack;
 mod store;
 
 use command_line::{Command, ServeCommand, command_of};
 use exit::Exit;
-use fault::{Fault, FaultLine};
-use listen::files::listen_files;
-use serve::served::{Served, Serving};
+use listen::files::listen_and_close;
+use serve::served::{Ended, Served};
 use serve::wall_clock::WallClock;
 use sqlite::{FileFrom, Start, Unknown};
 use std::env;
@@ -79,72 +77,28 @@ fn print(rt: &HostRuntime, text: &str) -> Exit
     }
 }
 
-/// Serves connections, and then closes the store's files. Gives these as they are left. Fails with the fault
-/// that has ended serving, and with what has served; or with why none did, or why the files can't be closed.
+/// Serves connections, and then closes the store's files. `token` is the token file as it was opened.
 fn serve_and_close<S: Start, F: OpenFile + Read + Drop, C: Clock>(
     rt: &HostRuntime,
     serving: &ServeCommand<'_>,
     token: io::Result<F>,
     start: S,
     clock: &mut C,
-) -> Result<ClosedStore<FileFrom<S>>, (Fault, Option<Serving<FileRecords<S>>>)>
-    ensures served { IfOk result (λ closed. HasCleanFiles closed
-        → ServesFiles (image_at S.Start) (known_text F.remaining token) (C.told clock.old) (C.told clock.new)
-        serving.now.connections closed) }
-    ensures left { IfErr result (λ e. IfSome e.1 (λ left. (left.result ≡ Err e.0)
-        × ServesFrom (image_at S.Start) (known_text F.remaining token) (C.told clock.old)
-        serving.now.connections (Err e.0) (at_clock left.front (C.told clock.new)))) }
-    ensures begun { IfErr result (λ e. IsTrue (comes_of_serving e.0) → IsSome e.1) }
-    ensures address { IsNoAddress serving.now.address → result ≡ Err (Address, None) }
+) -> Ended<FileFrom<S>, FileRecords<S>>
+    ensures served { HasServed (image_at S.Start) (known_text F.remaining token) (C.told clock.old)
+        (C.told clock.new) serving.now.connections result }
+    ensures address { IsNoAddress serving.now.address → result ≡ Unbegun Address }
 {
     let left = match serve::serve(rt, serving, token, start, clock) {
         Ok(left) => left,
-        Err(fault) => return Err((fault, None)),
+        Err(fault) => return Ended::Unbegun(fault),
     };
     if let Err(fault) = left.result {
-        return Err((fault, Some(left)));
+        return Ended::Broken(left.front, fault);
     }
     match close_records(left.front.into_server().into_records()) {
-        Ok(closed) => Ok(closed),
-        Err(fault) => Err((fault, None)),
-    }
-}
-
-/// Serves connections, and says how that ended. A line on standard error tells of a fault. `token` is the
-/// token file as it was opened.
-#[tactic(auto, using(crate::proofs::ServingLemmas::fault_not_done))]
-fn serve_files<S: Start, F: OpenFile + Read + Drop, C: Clock>(
-    rt: &HostRuntime,
-    serving: &ServeCommand<'_>,
-    token: io::Result<F>,
-    start: S,
-    clock: &mut C,
-) -> Served<FileFrom<S>, FileRecords<S>>
-    ensures done { MatchOption result.closed (result.exit ≢ Done)
-        (λ closed. HasCleanFiles closed
-        → ServesFiles (image_at S.Start) (known_text F.remaining token) (C.told clock.old) (C.told clock.new)
-        serving.now.connections closed) }
-    ensures left { IfSome result.left (λ left. EndsBy result.exit left.result
-        × ServesFrom (image_at S.Start) (known_text F.remaining token) (C.told clock.old)
-        serving.now.connections left.result (at_clock left.front (C.told clock.new))) }
-    ensures serving { IsTrue (ends_serving result.exit) }
-    ensures address { IsNoAddress serving.now.address → result.exit ≡ Usage }
-{
-    match serve_and_close(rt, serving, token, start, clock) {
-        Ok(closed) => Served {
-            exit: Exit::Done,
-            closed: Some(closed),
-            left: None,
-        },
-        Err((fault, left)) => {
-            let asked = serving.asked();
-            let _ = rt.eprintln(FaultLine { asked, fault });
-            Served {
-                exit: fault.exit(),
-                closed: None,
-                left,
-            }
-        }
+        Ok(closed) => Ended::Closed(closed),
+        Err(fault) => Ended::Unclosed(fault),
     }
 }
 
@@ -182,11 +136,13 @@ fn exit_of_words<S: Start>(
         Some(Command::Replay(token)) => Served::nothing(exit_of_replaying(rt, token.as_str())),
         Some(Command::Serve(serving)) => {
             let token = File::open(rt, serving.token_file.as_str());
-            serve_files(rt, &serving, token, start, &mut WallClock::new(rt))
+            let ended = serve_and_close(rt, &serving, token, start, &mut WallClock::new(rt));
+            Served::by(rt, serving.asked(), ended)
         }
         Some(Command::Listen(listening)) => {
             let token_file = File::open(rt, listening.token_file.as_str());
-            listen_files(rt, &listening, token_file, start)
+            let ended = listen_and_close(rt, &listening, token_file, start);
+            Served::by(rt, listening.asked(), ended)
         }
         None => Served::nothing(report_usage(rt, usage_fault(words))),
     }

@@ -5,16 +5,12 @@ ghost use Rattle.std.specs.Io.Buffered.{writer_contents, writer_inner};
 ghost use Rattle.sha2.specs.Sha256.{sha256};
 ghost use Rattle.sqlite.specs.Steps.{over_memory};
 ghost use Rattle.xa_notation.specs.Tokens.{is_token};
-ghost use Rattle.xa_records.specs.Kept.{nothing_kept};
-ghost use Rattle.xa_server.specs.Front.{front_state};
 ghost use Rattle.xa_server.specs.Lines.{all_open};
-ghost use Rattle.xa_store.specs.Keeper.{IsSound};
-ghost use Rattle.xa_store.specs.KeeperReading.{custody_by};
 ghost use Rattle.pdpd.specs.Exit.{tells_of_entries};
-ghost use Rattle.pdpd.specs.Replay.{IsReplayed, IsTranscriptRead, Replays, beginning};
+ghost use Rattle.pdpd.specs.OneRun.{IsSomeRun};
+ghost use Rattle.pdpd.specs.Replay.{IsReplayed, IsReplayedFromNothing, IsTranscriptRead, Replays};
 ghost use Rattle.pdpd.specs.running.Reading.{remaining_of};
 ghost use Rattle.pdpd.specs.running.Replaying.{AreReady, end_of};
-ghost use Rattle.pdpd.specs.running.Serving.{WasSound};
 ghost use Rattle.pdpd.specs.declared.exit.Exit.TheVariants.{Usage};
 
 pub(crate) mod heading;
@@ -58,20 +54,19 @@ impl<R: Records + Drop, W: Write + Drop> Replayed<R, W> {
 }
 
 /// Answers the entries of a transcript, one after another.
-#[tactic(auto, using(crate::proofs::ReplayLemmas::given_none, crate::proofs::ReplayLemmas::given_more, crate::proofs::ReplayLemmas::given_all, crate::proofs::ReplayLemmas::given_badly, crate::proofs::ReplayLemmas::answered_none, crate::proofs::ReplayLemmas::answered_more, crate::proofs::ReplayLemmas::answered_all, crate::proofs::ReplayLemmas::answered_badly, crate::proofs::ReplayLemmas::broken_off))]
+#[tactic(auto, using(crate::proofs::RunLemmas::some_none, crate::proofs::ReplayLemmas::given_none, crate::proofs::ReplayLemmas::given_more, crate::proofs::ReplayLemmas::given_all, crate::proofs::ReplayLemmas::given_badly, crate::proofs::ReplayLemmas::answered_none, crate::proofs::ReplayLemmas::answered_more, crate::proofs::ReplayLemmas::answered_all, crate::proofs::ReplayLemmas::answered_badly, crate::proofs::ReplayLemmas::broken_off))]
 fn answer_entries<I: Read, R: Records + Drop, W: Write + Drop>(
     transcript: &mut Transcript<I>,
     replayer: &mut Replayer<R, W>,
 ) -> Result<(), Exit>
     requires { AreReady replayer.old.front.lines }
-    ensures replayed { (R.custody replayer.new.front.server.records).sound
-        → IsTranscriptRead
-        (Replays (front_state R.custody replayer.old.front) (front_state R.custody replayer.new.front)
+    ensures replayed { IsTranscriptRead
+        (Replays R.custody replayer.old.front replayer.new.front
         (writer_contents W.contents replayer.old.writer) (writer_contents W.contents replayer.new.writer))
         (remaining_of I.remaining transcript.old) (remaining_of I.remaining transcript.new) (end_of result) }
     ensures read { IsTranscriptRead (λ _. ⊤)
         (remaining_of I.remaining transcript.old) (remaining_of I.remaining transcript.new) (end_of result) }
-    ensures sound { WasSound R.custody replayer.old.front replayer.new.front }
+    ensures served { IsSomeRun R.custody replayer.old.front.server replayer.new.front.server }
     ensures err { IfErr result (λ exit. exit ≢ Usage) }
 {
     let mut bytes = Vec::new(replayer.alloc);
@@ -98,11 +93,11 @@ fn replay_all<I: Read, R: Records + Drop, W: Write + Drop>(
     replayer: &mut Replayer<R, W>,
 ) -> Exit
     requires { replayer.old.front.lines ≡ all_open }
-    ensures replayed { (R.custody replayer.new.front.server.records).sound
-        → IsReplayed (front_state R.custody replayer.old.front) (front_state R.custody replayer.new.front)
-        (remaining_of I.remaining transcript.old) (remaining_of I.remaining transcript.new)
-        (writer_contents W.contents replayer.old.writer)
-        (W.contents (writer_inner replayer.new.writer)) result }
+    ensures replayed { IsTranscriptRead
+        (Replays R.custody replayer.old.front replayer.new.front
+        (writer_contents W.contents replayer.old.writer) (W.contents (writer_inner replayer.new.writer)))
+        (remaining_of I.remaining transcript.old) (remaining_of I.remaining transcript.new) result }
+    ensures served { IsSomeRun R.custody replayer.old.front.server replayer.new.front.server }
     ensures read { IsTranscriptRead (λ _. ⊤)
         (remaining_of I.remaining transcript.old) (remaining_of I.remaining transcript.new) result }
     ensures other { result ≢ Usage }
@@ -126,10 +121,8 @@ fn replay_over<R: Records + Drop, I: Read + Drop, W: Write + Drop>(
     token: &str,
 ) -> Replayed<R, W>
     ensures replayed { MatchOption result.replayer (IsFalse (tells_of_entries result.exit))
-        (λ replayer. (R.custody replayer.front.server.records).sound
-        → (rest : Option (List ℕ)) × IsReplayed (beginning (sha256 token.now) (R.custody records).kept)
-        (front_state R.custody replayer.front) (I.remaining reader) rest (W.contents writer)
-        (W.contents (writer_inner replayer.writer)) result.exit) }
+        (λ replayer. IsReplayed R.custody (sha256 token.now) records (I.remaining reader)
+        (W.contents writer) (W.contents (writer_inner replayer.writer)) result.exit replayer.front) }
     ensures read { (rest : Option (List ℕ))
         × IsTranscriptRead (λ _. ⊤) (I.remaining reader) rest result.exit }
     ensures other { result.exit ≢ Usage }
@@ -161,10 +154,8 @@ pub fn replay<I: Read + Drop, W: Write + Drop>(
 ) -> Replayed<MemoryRecords, W>
     ensures usage { (result.exit ≡ Usage) ↔ IsFalse (is_token token.now) }
     ensures replayed { MatchOption result.replayer (IsFalse (tells_of_entries result.exit))
-        (λ replayer. IsSound over_memory replayer.front.server.records
-        → (rest : Option (List ℕ)) × IsReplayed (beginning (sha256 token.now) nothing_kept)
-        (front_state (custody_by over_memory) replayer.front) (I.remaining reader) rest (W.contents writer)
-        (W.contents (writer_inner replayer.writer)) result.exit) }
+        (λ replayer. IsReplayedFromNothing over_memory (sha256 token.now) (I.remaining reader)
+        (W.contents writer) (W.contents (writer_inner replayer.writer)) result.exit replayer.front) }
     ensures read { (rest : Option (List ℕ))
         × IsTranscriptRead (λ _. ⊤) (I.remaining reader) rest result.exit }
 {

@@ -1,5 +1,5 @@
 //! `pdpd serve`: connections, one after another.
-ghost use Rattle.std.specs.Prelude.{◌≡◌, ◌↔◌, IfErr, IfOk, MatchResult};
+ghost use Rattle.std.specs.Prelude.{◌≡◌, ◌↔◌, IfErr, IfOk, MatchResult, OnErr};
 ghost use Rattle.std.specs.Prelude.{false, Err, None, Some};
 ghost use Rattle.std.specs.Net.Grammar.{IsSocketText, Parses};
 ghost use Rattle.sqlite.specs.Files.{over_files};
@@ -11,12 +11,13 @@ ghost use Rattle.xa_store.specs.Keeper.{IsSound};
 ghost use Rattle.xa_store.specs.KeeperReading.{custody_by};
 ghost use Rattle.pdpd.specs.declared.fault.Fault.TheVariants.{Address};
 ghost use Rattle.pdpd.specs.Beginning.{Begins, known_text};
-ghost use Rattle.pdpd.specs.Connections.{ServesFrom, at_clock};
+ghost use Rattle.pdpd.specs.Connections.{AreIsolatedOver, ServesFrom, at_clock};
 ghost use Rattle.pdpd.specs.Fault.{IsNoAddress, IsOfConnections, IsOfFiles, IsOfServing, comes_of_serving};
 ghost use Rattle.pdpd.specs.Fault.{fault_of_end};
-ghost use Rattle.pdpd.specs.running.Serving.{Serves, ServesConnection, ServesNext, WasSound};
+ghost use Rattle.pdpd.specs.running.Serving.{Serves, ServesConnection, ServesNextOver, WasSound};
 
 pub(crate) mod listening;
+mod peers;
 pub(crate) mod served;
 pub(crate) mod setting;
 pub(crate) mod settings;
@@ -26,7 +27,9 @@ pub(crate) mod wall_clock;
 
 use crate::command_line::ServeCommand;
 use crate::fault::{Asked, Fault};
+use crate::refusals::Refusals;
 use crate::serve::listening::Listening;
+use crate::serve::peers::Peers;
 use crate::serve::served::Serving;
 use crate::serve::settings::{Settings, front_of_tables};
 use crate::serve::token::operator_of_file;
@@ -64,10 +67,10 @@ fn serve_connection<R: Records, I: Reader, W: Writer, C: Clock>(
     clock: &mut C,
 ) -> Result<(), Fault>
     requires { front.old.lines ≡ none_open }
-    ensures served { let seen = seen_by R.custody W.Writer C.Clock in
+    ensures served { let seen = seen_by W.Writer C.Clock in
         ServesConnection R.custody result front.old front.new
-        (seen (I.remaining reader.old) (I.reads reader.old) front.old.server writer.old clock.old)
-        (seen (I.remaining reader.new) (I.reads reader.new) front.new.server writer.new clock.new) }
+        (seen (I.remaining reader.old) (I.reads reader.old) writer.old clock.old)
+        (seen (I.remaining reader.new) (I.reads reader.new) writer.new clock.new) }
     ensures closed { front.new.lines ≡ none_open }
     ensures sound { WasSound R.custody front.old front.new }
     ensures err { IfErr result IsOfConnections }
@@ -81,51 +84,51 @@ fn serve_connection<R: Records, I: Reader, W: Writer, C: Clock>(
     check_end(end)
 }
 
-/// Takes a connection and serves it.
-fn serve_next<R: Records, C: Clock>(
+/// Takes a connection and serves it. After the last, none is taken any more.
+fn serve_next<R: Records, P: Peers, C: Clock>(
     front: &mut Front<R>,
-    listening: &Listening,
+    peers: &mut P,
     clock: &mut C,
+    refusals: &mut Refusals,
+    is_last: bool,
 ) -> Result<(), Fault>
     requires { front.old.lines ≡ none_open }
-    ensures served { ServesNext R.custody result
-        (at_clock front.old (C.told clock.old)) (at_clock front.new (C.told clock.new)) }
+    ensures served { ServesNextOver R.custody P.came P.parted result
+        (at_clock front.old (C.told clock.old)) (at_clock front.new (C.told clock.new)) peers.old peers.new }
     ensures closed { front.new.lines ≡ none_open }
     ensures sound { WasSound R.custody front.old front.new }
     ensures err { IfErr result IsOfConnections }
 {
-    let stream = listening.next_connection()?;
-    serve_connection(front, &mut &stream, &mut &stream, clock)
+    let (mut input, mut output) = peers.next(is_last)?;
+    let result = serve_connection(front, &mut input, &mut output, clock);
+    peers.part(input, output);
+    refusals.tell_of_last(front);
+    result
 }
 
-/// Serves that many connections, one after another. Once the last has come, no more are taken: who comes
-/// later is refused at once.
-fn serve_connections<R: Records, C: Clock>(
+/// Serves that many connections, one after another.
+fn serve_connections<R: Records, P: Peers, C: Clock>(
     front: &mut Front<R>,
-    listening: Listening,
+    peers: &mut P,
     clock: &mut C,
     connections: usize,
+    refusals: &mut Refusals,
 ) -> Result<(), Fault>
     requires { front.old.lines ≡ none_open }
-    ensures served { Serves R.custody connections result
-        (at_clock front.old (C.told clock.old)) (at_clock front.new (C.told clock.new)) }
+    ensures served { AreIsolatedOver R.custody P.came P.parted connections result
+        (at_clock front.old (C.told clock.old)) (at_clock front.new (C.told clock.new)) peers.old peers.new }
     ensures closed { front.new.lines ≡ none_open }
     ensures sound { WasSound R.custody front.old front.new }
     ensures err { IfErr result IsOfConnections }
 {
-    let Some(others) = connections.checked_sub(1) else {
-        return Ok(());
-    };
-    for _ in 0..others {
-        serve_next(front, &listening, clock)?;
+    for index in 0..connections {
+        serve_next(front, peers, clock, refusals, index + 1 == connections)?;
     }
-    let stream = listening.next_connection()?;
-    drop(listening);
-    serve_connection(front, &mut &stream, &mut &stream, clock)
+    Ok(())
 }
 
 /// Takes connections at the address, says so, and serves them.
-#[tactic(auto, using(crate::proofs::ServingLemmas::connections_are_served, crate::proofs::ServingLemmas::served_unbegun))]
+#[tactic(auto, using(crate::proofs::ServingLemmas::connections_are_served, crate::proofs::ServingLemmas::served_unbegun, crate::proofs::ServingLemmas::served_some))]
 fn serve_at<R: Records, C: Clock>(
     rt: &HostRuntime,
     front: &mut Front<R>,
@@ -146,8 +149,15 @@ fn serve_at<R: Records, C: Clock>(
     if println!(rt; "listening {}", serving.address.as_str()).is_err() {
         return Err(Fault::Output);
     }
-    let listening = Listening::new(rt, listener, idle);
-    serve_connections(front, listening, clock, serving.connections)
+    let mut listening = Listening::new(rt, listener, idle);
+    let mut refusals = Refusals::new(rt);
+    serve_connections(
+        front,
+        &mut listening,
+        clock,
+        serving.connections,
+        &mut refusals,
+    )
 }
 
 /// The address that the word of the command line writes.
@@ -194,6 +204,7 @@ pub fn serve<S: Start, F: OpenFile + Read + Drop, C: Clock>(
     ensures served { IfOk result (λ it. ServesFrom (image_at S.Start) (known_text F.remaining token)
         (C.told clock.old) serving.now.connections it.result (at_clock it.front (C.told clock.new))) }
     ensures before { IfErr result (λ fault. comes_of_serving fault ≡ false) }
+    ensures unasked { OnErr result (clock.new ≡ clock.old) }
     ensures address { (result ≡ Err Address) ↔ IsNoAddress serving.now.address }
 {
     let address = address_of(serving.address.as_str())?;

@@ -1,11 +1,17 @@
 -- How keys are hashed: by the value of a polynomial at a secret point, modulo the prime 2^61 - 1. Nothing rests on it
 -- but time.
-use Rattle.std.specs.Prelude.{ℕ, ◌+◌, ◌*◌, ◌/◌, ◌%◌, ◌^◌, List, [], ◌∷◌, length, drop, map, sum, zip}
+use Rattle.std.specs.Prelude.{ℕ, ◌+◌, ◌*◌, ◌/◌, ◌%◌, ◌^◌, List, [], ◌∷◌, ◌++◌, length, drop, map, sum, zip}
 use Rattle.std.specs.List.{fold}
 use Rattle.std.specs.Simd.{first_chunks}
+use Rattle.std.specs.Hash as fed
 use Rattle.std.specs.Hash.DefaultHasher as siphash
+use Rattle.xa_cache.specs.declared.key.Key.{Key}
 use Rattle.xa_cache.specs.declared.seeded.Polynomial.{Polynomial}
 use Rattle.xa_cache.specs.declared.seeded.Seeded.{Seeded}
+
+-- what a hasher is given of a key: the domain's number and epoch, and the whole body of the request in one piece
+abbrev pub hashed_of : Key → List (List ℕ)
+hashed_of key = fed.u64 key.number ++ fed.u64 key.epoch ++ key.body ∷ []
 
 -- a shorter number that is the same modulo 2^61 - 1
 abbrev pub folded : ℕ → ℕ

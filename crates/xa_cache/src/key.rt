@@ -1,9 +1,9 @@
 //! The key of a cached body.
-ghost use Rattle.std.specs.Prelude.{◌≡◌, ◌++◌, ◌∷◌, [], IfOk};
+ghost use Rattle.std.specs.Prelude.{◌≡◌, IfOk};
 ghost use Rattle.std.specs.Cmp.Rules.{hashing};
-ghost use Rattle.std.specs.Hash as fed;
 ghost use Rattle.std.proofs.Common.{rules};
 ghost use Rattle.xa_cache.specs.Bodies.{key_of};
+ghost use Rattle.xa_cache.specs.Hashing.{hashed_of};
 
 use std::alloc::{AllocError, Global};
 use std::hash::{Hash, Hasher};
@@ -29,6 +29,12 @@ impl Key {
         })
     }
 
+    /// Law: what is hashed of a key is its number, its epoch and its whole body. It does nothing when it
+    /// runs.
+    pub fn is_hashed_whole(&self)
+        ensures { ⟦<Key as Hash>⟧.hash_input self.now ≡ hashed_of self.now }
+    {}
+
     /// The bytes of the request's body.
     pub(crate) fn body(&self) -> &[u8]
         ensures { result.now ≡ self.now.body }
@@ -38,7 +44,9 @@ impl Key {
 }
 
 impl Hash for Key {
-    ghost hash_input = { λ key. fed.u64 key.number ++ fed.u64 key.epoch ++ key.body ∷ [] };
+    ghost use Rattle.xa_cache.specs.Hashing.{hashed_of};
+
+    ghost hash_input = { hashed_of };
 
     ghost respects_eq = { Prim.search (hashing, rules) };
 

@@ -2,6 +2,7 @@ pub mod Asked
 pub mod Context
 pub mod Decision
 pub mod indexing
+pub mod Limits
 pub mod Nodes
 pub mod Reading
 pub mod Rows

@@ -4,9 +4,10 @@ ghost use Rattle.xa_bag.specs.Bag.{bag_of};
 ghost use Rattle.xa_decide.specs.Context.{is_issuer, is_named, is_named_by};
 
 use crate::bag::append;
+use crate::budget::Budget;
 use std::alloc::AllocError;
 use xa_bag::Bag;
-use xa_expr::{Budget, Designator, units_of_bag};
+use xa_expr::{Designator, units_of_bag};
 use xa_profile::Attribute;
 use xa_value::{DataType, Text};
 

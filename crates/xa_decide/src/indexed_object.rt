@@ -8,6 +8,7 @@ ghost use Rattle.xa_decide.specs.indexing.Naming.{naming_values, said, said_by};
 ghost use Rattle.xa_decide.specs.indexing.Types.{IsOfType, IsOfTypes};
 
 use crate::attribute::push_attribute;
+use crate::budget::Budget;
 use crate::keys::{ByIssuer, ByName, issuer_key};
 use crate::naming::{Naming, naming_of};
 use crate::order::{are_few, item_at, order_of, places_among, units_of_search};
@@ -17,7 +18,7 @@ use crate::writing_cost::WritingCost;
 use std::alloc::{AllocError, Global};
 use std::marker::Model;
 use xa_bag::{Bag, Members};
-use xa_expr::{Budget, Designator};
+use xa_expr::Designator;
 use xa_profile::{Attribute, CategoryObject};
 
 /// A Category object, with its attributes to be found, what names its entity, and what it costs to write. It

@@ -8,6 +8,7 @@ ghost use Rattle.xa_decide.specs.Decision.{objects_at};
 ghost use Rattle.xa_decide.specs.indexing.Naming.{naming_values, said, said_by};
 ghost use Rattle.xa_decide.specs.indexing.Types.{IsOfTypes};
 
+use crate::budget::Budget;
 use crate::indexed_object::{IndexedObject, push_object};
 use crate::key::Key;
 use crate::keys::category_key;
@@ -16,7 +17,7 @@ use crate::order::{Keying, item_at, order_of, places_among, units_of_search};
 use std::alloc::{AllocError, Global};
 use std::marker::{Model, PhantomData};
 use xa_bag::Bag;
-use xa_expr::{Budget, Designator};
+use xa_expr::Designator;
 
 /// Category objects by their categories.
 struct ByCategory<'a> {

@@ -12,13 +12,14 @@
 //! copied into a `bag`, or a `look` goes over them where they are.
 //!
 //! Files of indexes and of cost: what is sought is a `key`, which `keys` makes, and it is found by the
-//! `order` of the items' keys. A message is paid for from its `work`; `response_work` says what it costs to
-//! write a result, as a sum of `writing_cost`s.
+//! `order` of the items' keys. A message is paid for from its `work`, a `budget` by its `limits`;
+//! `response_work` says what it costs to write a result, as a sum of `writing_cost`s.
 #![tactic(auto)]
 
 mod asked;
 mod attribute;
 mod bag;
+mod budget;
 mod clock;
 mod context;
 mod deciding;
@@ -28,6 +29,7 @@ mod indexed_object;
 mod individual_objects;
 mod key;
 mod keys;
+mod limits;
 mod look;
 mod naming;
 mod order;
@@ -43,6 +45,7 @@ mod writing_cost;
 
 pub use asked::{asks_policies, others_are_answered_alike};
 pub use decision::{Decided, Responded, answer, decide, respond};
+pub use limits::{Limits, OverLimit};
 pub use request_body::RequestBody;
 pub use rows::{read_rows, write_rows};
 pub use source_row::SourceRow;

@@ -8,13 +8,14 @@ ghost use Rattle.xa_decide.specs.Context.{is_row, source_values};
 
 use crate::attribute::is_issuer;
 use crate::bag::push_value;
+use crate::budget::Budget;
 use crate::keys::{ByIssuedRow, ByRow, issued_row_key};
 use crate::order::{item_at, order_of, places_among, units_of_search};
 use crate::source_row::SourceRow;
 use std::alloc::{AllocError, Global};
 use std::marker::Model;
 use xa_bag::Bag;
-use xa_expr::{Budget, Designator, units_of};
+use xa_expr::{Designator, units_of};
 use xa_value::Items;
 
 /// The rows of the source, to be found.

@@ -2,31 +2,28 @@
 ghost use Rattle.std.specs.Prelude.{◌≡◌, ◌+◌, ◌<◌, [], false, true, IfOk, IsOk, None};
 ghost use Rattle.xa_link.specs.Linking.{link};
 ghost use Rattle.xa_link.specs.Reading.{reading};
+ghost use Rattle.xa_decide.specs.declared.limits.OverLimit.TheVariants as over_limit;
 ghost use Rattle.xa_decide.specs.Decision.{tree_of, view_by};
+ghost use Rattle.xa_decide.specs.Limits.{IfOver};
 ghost use Rattle.xa_decide.specs.Nodes.{counted, nodes, nodes_of_all, nodes_of_tree};
 ghost use Rattle.xa_decide.specs.Reading.{IsNotTooLarge, reading_for};
 ghost use Rattle.xa_decide.specs.Timeless.{is_timeless_tree};
 
+use crate::limits::OverLimit;
 use crate::source::Source;
 use crate::source_row::SourceRow;
 use crate::timeless::is_timeless_tree;
 use std::alloc::{AllocError, Global};
 use std::marker::Model;
-use xa_expr::Budget;
 use xa_link::{Active, LinkError, link};
 use xa_policy::{Linked, Reference};
 use xa_shelf::TextReader;
-use xa_value::{Items, memory_apart};
-
-/// More units or bytes than any message reaches.
-const NO_LIMIT: u64 = u64::MAX;
+use xa_value::{Items, OrMemory, memory_apart};
 
 /// What a domain's decisions depend on: the tree that its root stands for among its active documents, if
 /// it has one, and its source rows; made ready for any number of requests: the tree is linked, and the
 /// rows are in order. Of the documents it holds what the tree shares with them, and nothing of those to
-/// which the root doesn't lead. Beside these stands how much work a message may ask for, and how many
-/// bytes the body of its response may have. Neither decides anything: a message that asks for more is
-/// answered as if memory were wanting.
+/// which the root doesn't lead.
 #[derive(Debug, Drop)]
 pub struct View {
     /// The tree that decides, if there is one; it may be too large.
@@ -35,10 +32,6 @@ pub struct View {
     source: Source,
     /// Whether no designator of the tree names the clock.
     timeless: bool,
-    /// How many units of work a message may ask for.
-    work_limit: u64,
-    /// How many bytes the body of a response may have.
-    reply_limit: u64,
 }
 
 impl Model for View {
@@ -59,31 +52,35 @@ impl Model for View {
 
 impl View {
     /// A view of these documents, this root and these rows. The documents to which the root leads are
-    /// read, the tree is linked and the rows are put in order here, once for all requests. If the
-    /// reader's limit is reached, it is answered as if memory were wanting. The work of a message has no
-    /// limit, nor has its response.
+    /// read, the tree is linked and the rows are put in order here, once for all requests. Fails with
+    /// `OverLimit::Reading`, if the reader's limit is reached.
     pub fn new(
         alloc: Global,
         reader: &mut TextReader<'_>,
         active: &[Active],
         root: &Option<Reference>,
         source: Items<SourceRow>,
-    ) -> Result<View, AllocError>
+    ) -> Result<View, OrMemory<OverLimit>>
         ensures value { IfOk result (λ view. view ≡ view_by active.now root.now source) }
         ensures read { IfOk result (λ view.
             IsNotTooLarge view.tree → reader.old.left ≡ reader.new.left + reading_for active.now root.now) }
         ensures refused { reader.old.is_spent ≡ false → reader.new.is_spent ≡ true
             → reader.old.left < reading_for active.now root.now }
+        ensures over { IfOver result (λ over.
+            (over ≡ over_limit.Reading) × (reader.new.is_spent ≡ true)) }
     {
         let source = Source::new(alloc, source)?;
-        let tree = tree_of(alloc, reader, active, root)?;
+        let tree = match tree_of(alloc, reader, active, root) {
+            Ok(tree) => tree,
+            // Linking ends by either.
+            Err(_) if reader.is_spent() => return Err(OrMemory::Error(OverLimit::Reading)),
+            Err(error) => return Err(OrMemory::from(error)),
+        };
         let timeless = is_timeless_tree(&tree);
         Ok(View {
             tree,
             source,
             timeless,
-            work_limit: NO_LIMIT,
-            reply_limit: NO_LIMIT,
         })
     }
 
@@ -95,45 +92,7 @@ impl View {
             tree: None,
             source: Source::new(alloc, Items::new(alloc))?,
             timeless: true,
-            work_limit: NO_LIMIT,
-            reply_limit: NO_LIMIT,
         })
-    }
-
-    /// The view, under which a message may ask for this many units of work, as `Budget` counts them.
-    pub fn with_work_limit(mut self, units: u64) -> View
-        ensures { result ≡ self }
-    {
-        self.work_limit = units;
-        self
-    }
-
-    /// The view, under which the body of a response may have this many bytes.
-    pub fn with_reply_limit(mut self, bytes: u64) -> View
-        ensures { result ≡ self }
-    {
-        self.reply_limit = bytes;
-        self
-    }
-
-    /// The work that one message may ask for.
-    pub(crate) fn budget(&self) -> Budget {
-        Budget::new(self.work_limit)
-    }
-
-    /// How many bytes the body of a response may have.
-    pub(crate) fn reply_limit(&self) -> u64 {
-        self.reply_limit
-    }
-
-    /// The body of a response; want of memory, if it has more bytes than the limit.
-    pub(crate) fn within_reply_limit(&self, body: Vec<u8>) -> Result<Vec<u8>, AllocError>
-        ensures { IfOk result (λ kept. kept.items ≡ body.items) }
-    {
-        if body.len() as u64 > self.reply_limit {
-            return Err(AllocError);
-        }
-        Ok(body)
     }
 
     /// The tree that decides, if there is one.

@@ -1,15 +1,16 @@
 //! The work of one message: how much it may ask for, how many bytes its response may have, and how the
 //! large bags of its request are searched.
-ghost use Rattle.std.specs.Prelude.{◌≡◌, map, IfOk, IfSome};
+ghost use Rattle.std.specs.Prelude.{◌≡◌, ℕ, List, Option, map, IfOk, IfSome, Ok};
+ghost use Rattle.xa_decide.specs.Limits.{IfOver, MayRefuse};
 
-use crate::view::View;
+use crate::budget::Budget;
+use crate::limits::{Limits, OverLimit};
 use crate::writing_cost::WritingCost;
 use std::alloc::{AllocError, Global};
-use std::cell::Cell;
 use xa_bag::{Bag, Members};
-use xa_expr::{Budget, LOOK, units_of, units_of_bag};
+use xa_expr::{LOOK, units_of, units_of_bag};
 use xa_profile::{Attribute, CategoryObject};
-use xa_value::Value;
+use xa_value::{OrMemory, Value};
 
 /// From how many values on a bag is large: a smaller one is looked at value by value, which takes some
 /// two microseconds.
@@ -24,41 +25,12 @@ const SCANS: u64 = 16;
 /// values.
 const COMPARISONS_IN_ORDER: u64 = 18;
 
-/// How many more values of large bags may be looked at one after another, and whether more were asked
-/// for. No clause speaks of it: a look that is refused ends the decision like want of memory, and then
-/// the request is decided again with the values in order.
-#[derive(Drop)]
-struct Scans {
-    /// How many more values may be looked at.
-    values: Budget,
-    /// Whether more were asked for.
-    is_exceeded: Cell<bool>,
-}
-
-impl Scans {
-    /// That many values, none of which has been looked at.
-    fn of(values: u64) -> Scans {
-        Scans {
-            values: Budget::new(values),
-            is_exceeded: Cell::new(false),
-        }
-    }
-
-    /// Takes so many values from those that are left.
-    fn take(&self, values: u64) -> Result<(), AllocError> {
-        let taken = self.values.spend(values);
-        if taken.is_err() {
-            self.is_exceeded.set(true);
-        }
-        taken
-    }
-}
-
 /// How the large bags of a request are searched.
 #[derive(Drop)]
 enum Search {
-    /// Value by value, a number of times.
-    Scanning(Scans),
+    /// Value by value: so many values of large bags may be looked at one after another. If more are asked
+    /// for, the decision ends, and the request is decided again with the values in order.
+    Scanning(Budget),
     /// By the order of their values.
     Ordered,
 }
@@ -66,41 +38,64 @@ enum Search {
 /// The work of one message, and the bytes that its response may still have.
 #[derive(Drop)]
 pub(crate) struct Work {
+    /// What the message may cost.
+    limits: Limits,
     /// The units that the message may still ask for.
     budget: Budget,
     /// The bytes that its response may still have.
     reply: Budget,
-    /// The bytes that its response may have in all.
-    reply_limit: u64,
     /// How its large bags are searched.
     search: Search,
 }
 
 impl Work {
-    /// The work of a message, by the view's limits, whose request has these objects: at first their
-    /// large bags are searched value by value.
-    pub(crate) fn new(view: &View, objects: &[CategoryObject]) -> Work {
+    /// The work of a message, by these limits, whose request has these objects: at first their large bags
+    /// are searched value by value.
+    pub(crate) fn new(limits: Limits, objects: &[CategoryObject]) -> Work
+        ensures { result.limits ≡ limits }
+    {
         let values = large_values(objects).saturating_mul(SCANS);
         Work {
-            budget: view.budget(),
-            reply: Budget::new(view.reply_limit()),
-            reply_limit: view.reply_limit(),
-            search: Search::Scanning(Scans::of(values)),
+            limits,
+            budget: Budget::new(limits.work),
+            reply: Budget::new(limits.reply),
+            search: Search::Scanning(Budget::new(Some(values))),
         }
     }
 
-    /// The work that is left, with the values of large bags in order. The response is begun anew.
-    pub(crate) fn into_ordered(mut self) -> Work {
-        self.reply = Budget::new(self.reply_limit);
+    /// Puts the values of large bags in order from now on. What is left of the work stays; the response is
+    /// begun anew.
+    pub(crate) fn begin_ordered(&mut self)
+        ensures { self.new.limits ≡ self.old.limits }
+    {
+        self.reply = Budget::new(self.limits.reply);
         self.search = Search::Ordered;
-        self
     }
 
     /// Whether a decision ended because large bags were searched too often.
     pub(crate) fn wants_order(&self) -> bool {
         match &self.search {
-            Search::Scanning(scans) => scans.is_exceeded.get(),
+            Search::Scanning(values) => values.is_exceeded(),
             Search::Ordered => false,
+        }
+    }
+
+    /// What was given. An evaluation ends without memory and by a limit alike; here it is told which of these
+    /// it was.
+    pub(crate) fn told<T>(&self, given: Result<T, AllocError>) -> Result<T, OrMemory<OverLimit>>
+        ensures value { IfOk result (λ value. given ≡ Ok value) }
+        ensures over { IfOver result (λ over.
+            (body : Option (List ℕ)) → MayRefuse self.now.limits body over) }
+    {
+        match given {
+            Ok(value) => Ok(value),
+            Err(_) if self.limits.work.is_some() && self.budget.is_exceeded() => {
+                Err(OrMemory::Error(OverLimit::Work))
+            }
+            Err(_) if self.limits.reply.is_some() && self.reply.is_exceeded() => {
+                Err(OrMemory::Error(OverLimit::Results))
+            }
+            Err(_) => Err(OrMemory::Memory),
         }
     }
 
@@ -124,7 +119,7 @@ impl Work {
     /// Charges one look for each value of the bag, if it is large.
     pub(crate) fn scan(&self, bag: &Bag) -> Result<(), AllocError> {
         match &self.search {
-            Search::Scanning(scans) if is_large(bag) => scans.take(bag.len() as u64),
+            Search::Scanning(values) if is_large(bag) => values.spend(bag.len() as u64),
             _ => Ok(()),
         }
     }

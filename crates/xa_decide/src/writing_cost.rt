@@ -2,6 +2,9 @@
 //! anything is written, so that nothing is written if too little is left. A text counts by the bytes that
 //! JSON has for it: a quotation mark, a backslash and a control character take two or six (RFC 8259,
 //! section 7).
+ghost use Rattle.std.specs.Prelude.{◌≡◌, ◌+◌, length};
+ghost use Rattle.json.specs.Print.{escape_byte};
+
 use xa_bag::Bag;
 use xa_expr::{is_of_one_size, units_of, units_of_printing};
 use xa_value::{Text, Value};
@@ -95,7 +98,10 @@ fn is_escaped(byte: u8) -> bool {
 
 /// How many more bytes an escape takes than the byte that it stands for: one if it is a backslash and a
 /// character, five if it is `\u` and four digits.
-fn escape_growth(byte: u8) -> u64 {
+#[tactic(auto, unfolding(json::specs::Print::escape_byte))]
+fn escape_growth(byte: u8) -> u64
+    ensures { result + 1 ≡ length (escape_byte byte) }
+{
     match byte {
         b'"' | b'\\' | 8 | 9 | 10 | 12 | 13 => 1,
         0..=31 => 5,

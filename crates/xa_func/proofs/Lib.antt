@@ -6,3 +6,4 @@ pub mod PlaceLemmas
 pub mod TypingLemmas
 pub mod TableLemmas
 pub mod EveryFunctionLemmas
+pub mod CharacterLemmas

@@ -8,13 +8,12 @@ use Rattle.xa_func.specs.declared.func_id.TextPart.TheVariants.{StartsWith, Ends
 use Rattle.xa_func.specs.declared.fault.FuncFault.{FuncFault}
 use Rattle.xa_func.specs.declared.fault.FuncFault.TheVariants.{Position}
 
--- the text, or what follows one of its bytes, begins with the part. By bytes is by characters: in UTF-8 no
--- character's bytes begin inside another's
+-- the text, or what follows one of its items, begins with the part. Items are bytes or characters
 abbrev pub contains : List ℕ → List ℕ → Bool
 contains [] part = starts_with nat_eq [] part
 contains (c ∷ cs) part = starts_with nat_eq (c ∷ cs) part || contains cs part
 
--- the part stands in the text
+-- the part stands in the text. By characters it does exactly where it does by bytes (law `is_by_characters`)
 abbrev pub has_part : TextPart → List ℕ → List ℕ → Bool
 has_part StartsWith text part = starts_with nat_eq text part
 has_part EndsWith text part = ends_with nat_eq text part

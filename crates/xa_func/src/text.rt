@@ -33,6 +33,15 @@ pub(crate) fn has_part(place: TextPart, text: &[u8], part: &[u8]) -> bool
     }
 }
 
+impl TextPart {
+    /// Law: a part stands in a text by characters exactly where it does by bytes. It does nothing when it
+    /// runs.
+    #[tactic(auto, using(crate::proofs::CharacterLemmas::by_characters))]
+    pub fn is_by_characters(self, text: &str, part: &str)
+        ensures { has_part self text.now part.now ≡ has_part self (chars text.now) (chars part.now) }
+    {}
+}
+
 /// The texts, one after another.
 pub(crate) fn concatenation(alloc: Global, arguments: &[Value]) -> Result<Text, AllocError>
     requires { Every (kind.Value data_type.String) (map kind_of arguments.now) }

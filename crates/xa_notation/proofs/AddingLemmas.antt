@@ -14,7 +14,7 @@ use Rattle.xa_policy.specs.declared.duty.DutyExpressions.{DutyExpressions}
 use Rattle.xa_policy.specs.declared.rule.Rule.{Rule}
 use Rattle.xa_policy.specs.Adding.{duties_of_set_replaced, duties_replaced, no_expressions, set_with_duties, with_rules}
 use Rattle.xa_policy.specs.Checking.{checked_duties}
-use Rattle.xa_policy.specs.Policy.{PolicyParts, SetParts}
+use Rattle.xa_policy.specs.Policy.{PolicyParts, SetParts, policy_key, set_key}
 use Rattle.xa_notation.specs.declared.document.Document.{Document}
 use Rattle.xa_notation.specs.declared.document.Document.TheVariants as document
 use Rattle.xa_notation.specs.declared.written.WrittenPolicy.{WrittenPolicy}
@@ -56,10 +56,10 @@ rule_first p w ws = by_first (typed_rule p.variables w) where
 
 -- a policy of these parts, and a policy set
 abbrev policy_of : WrittenPolicy → Target → List Definition → List (Rule Typed) → DutyExpressions Typed → PolicyParts
-policy_of p target variables rules duties = record { key = p.key; algorithm = p.algorithm; target = target; variables = variables; rules = rules; duties = duties }
+policy_of p target variables rules duties = record { key = policy_key p.key.id p.key.version; algorithm = p.algorithm; target = target; variables = variables; rules = rules; duties = duties }
 
 abbrev set_of : WrittenSet → Target → DutyExpressions Typed → SetParts
-set_of s target duties = record { key = s.key; algorithm = s.algorithm; target = target; duties = duties }
+set_of s target duties = record { key = set_key s.key.id s.key.version; algorithm = s.algorithm; target = target; duties = duties }
 
 -- a policy: its target and its variables, without rules; then its rules, and then its obligations and its advice
 pub policy_built : (p : WrittenPolicy)

@@ -16,7 +16,7 @@ use Rattle.xa_expr.specs.Typing.{checked}
 use Rattle.xa_expr.specs.Variables.{is_defined}
 use Rattle.xa_policy.specs.declared.rule.Rule.{Rule}
 use Rattle.xa_policy.specs.Checking.{checked_duties, checked_rule}
-use Rattle.xa_policy.specs.Policy.{PolicyParts}
+use Rattle.xa_policy.specs.Policy.{PolicyParts, policy_key, set_key}
 use Rattle.xa_notation.specs.declared.document.Document.{Document}
 use Rattle.xa_notation.specs.declared.document.Document.TheVariants as document
 use Rattle.xa_notation.specs.declared.written.WrittenAllOf.{WrittenAllOf}
@@ -68,7 +68,7 @@ typed_policy p = do
   rules ← collected (map (typed_rule variables) p.rules)
   duties ← checked_duties variables p.duties
   Ok (record {
-    key = p.key;
+    key = policy_key p.key.id p.key.version;
     algorithm = p.algorithm;
     target = target;
     variables = variables;
@@ -82,7 +82,12 @@ typed_set s children = do
   target ← typed_target s.target
   typed ← collected children
   duties ← checked_duties [] s.duties
-  Ok (document.PolicySet (record { key = s.key; algorithm = s.algorithm; target = target; duties = duties }) typed)
+  Ok (document.PolicySet (record {
+    key = set_key s.key.id s.key.version;
+    algorithm = s.algorithm;
+    target = target;
+    duties = duties;
+  }) typed)
 
 -- each part of a document, by what those in it come to
 abbrev pub typed_step : WrittenTree-F (Result Document CheckError) → Result Document CheckError

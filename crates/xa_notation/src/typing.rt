@@ -14,7 +14,7 @@ use crate::written::{
 };
 use std::alloc::Global;
 use xa_expr::{AllOf, AnyOf, CheckError, Match, Target, Variables};
-use xa_policy::{Policy, PolicySet, Rule};
+use xa_policy::{DocumentKey, Policy, PolicySet, Rule};
 use xa_value::{Items, OrMemory, Shared};
 
 /// The typed match.
@@ -157,8 +157,8 @@ fn typed_policy(alloc: Global, written: WrittenPolicy) -> Result<Policy, OrMemor
     } = written;
     let target = typed_target(alloc, target)?;
     let variables = typed_variables(alloc, variables)?;
-    let key = Shared::new(alloc, key)?;
-    let policy = Policy::new(alloc, key, algorithm, target, variables);
+    let DocumentKey { id, version, .. } = key;
+    let policy = Policy::new(alloc, id, version, algorithm, target, variables)?;
     let mut policy = with_rules(alloc, policy, rules)?;
     policy.set_duties(alloc, &duties)?;
     Ok(policy)
@@ -198,7 +198,8 @@ fn typed_set(
     } = written;
     let target = typed_target(alloc, target)?;
     let children = typed_children(alloc, children)?;
-    let mut set = PolicySet::new(alloc, Shared::new(alloc, key)?, algorithm, target);
+    let DocumentKey { id, version, .. } = key;
+    let mut set = PolicySet::new(alloc, id, version, algorithm, target)?;
     set.set_duties(alloc, &duties)?;
     Ok(Document::PolicySet(Shared::new(alloc, set)?, children))
 }

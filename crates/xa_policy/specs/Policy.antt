@@ -1,5 +1,5 @@
 -- Policies and policy sets, whose expressions are checked (XACML 3.0, core, sections 5.1, 5.14, 5.21 and 5.37 to 5.41).
-use Rattle.std.specs.Prelude.{◌≡◌, List, [], ◌∷◌, Option, Some, None}
+use Rattle.std.specs.Prelude.{◌≡◌, ℕ, List, [], ◌∷◌, Option, Some, None}
 use Rattle.xa_value.specs.declared.data_type.DataType.TheVariants as type
 use Rattle.xa_func.specs.declared.signature.Kind.{Kind}
 use Rattle.xa_func.specs.declared.signature.Kind.TheVariants as kind
@@ -13,7 +13,16 @@ use Rattle.xa_policy.specs.declared.document_key.DocumentKey.{DocumentKey}
 use Rattle.xa_policy.specs.declared.duty.AttributeAssignmentExpression.{AttributeAssignmentExpression}
 use Rattle.xa_policy.specs.declared.duty.DutyExpression.{DutyExpression}
 use Rattle.xa_policy.specs.declared.duty.DutyExpressions.{DutyExpressions}
+use Rattle.xa_policy.specs.declared.reference.DocumentKind.TheVariants as document
 use Rattle.xa_policy.specs.declared.rule.Rule.{Rule}
+
+-- the key of a policy of that id and version
+abbrev pub policy_key : List ℕ → List ℕ → DocumentKey
+policy_key id version = record { kind = document.Policy; id = id; version = version }
+
+-- the key of a policy set of that id and version
+abbrev pub set_key : List ℕ → List ℕ → DocumentKey
+set_key id version = record { kind = document.PolicySet; id = id; version = version }
 
 -- what a policy is made of
 pub record PolicyParts : Type 0 where
@@ -60,11 +69,13 @@ abbrev pub AreTypedRules : List Kind → List (Rule Typed) → Type 0
 AreTypedRules variables [] = Unit {0}
 AreTypedRules variables (r ∷ rs) = IsTypedRule variables r × AreTypedRules variables rs
 
--- all expressions of a policy are checked, under its variables
+-- the key of a policy is a policy's, and all its expressions are checked, under its variables
 pub record IsTypedPolicy (policy : PolicyParts) : Type 0 where
+  pub kind : policy.key.kind ≡ document.Policy
   pub rules : AreTypedRules (kinds policy.variables) policy.rules
   pub duties : AreTypedDuties (kinds policy.variables) policy.duties
 
--- all expressions of a policy set are checked; it has no variables
-abbrev pub IsTypedSet : SetParts → Type 0
-IsTypedSet set = AreTypedDuties [] set.duties
+-- the key of a policy set is a set's, and all its expressions are checked; it has no variables
+pub record IsTypedSet (set : SetParts) : Type 0 where
+  pub kind : set.key.kind ≡ document.PolicySet
+  pub duties : AreTypedDuties [] set.duties

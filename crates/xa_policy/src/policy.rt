@@ -1,20 +1,22 @@
 //! Policies, whose expressions are checked.
-ghost use Rattle.std.specs.Prelude.{◌≡◌, [], OnErr};
+ghost use Rattle.std.specs.Prelude.{◌≡◌, [], IfOk, OnErr};
 ghost use Rattle.std.specs.Result.{result_map_both};
 ghost use Rattle.xa_value.specs.Gives.{Gives};
 ghost use Rattle.xa_expr.specs.Variables.{kinds};
 ghost use Rattle.xa_policy.specs.Adding.{duties_replaced, no_expressions, rule_added};
-ghost use Rattle.xa_policy.specs.Policy.{AreTypedDuties, AreTypedRules};
+ghost use Rattle.xa_policy.specs.Policy.{AreTypedDuties, AreTypedRules, policy_key};
 
 use crate::checking::{check_duties, check_rule};
 use crate::combining::Alg;
 use crate::document_key::DocumentKey;
 use crate::duty::DutyExpressions;
+use crate::reference::DocumentKind;
 use crate::rule::Rule;
-use std::alloc::Global;
+use crate::version::Version;
+use std::alloc::{AllocError, Global};
 use std::marker::Model;
 use xa_expr::{CheckError, Expr, Target, Typed, Variables};
-use xa_value::{Items, OrMemory, Shared};
+use xa_value::{Items, OrMemory, Shared, Text};
 
 /// A policy (XACML 3.0, core, section 5.14). Its expressions are checked under its variables.
 #[derive(Debug, Drop)]
@@ -63,31 +65,37 @@ impl Model for Policy {
 }
 
 impl Policy {
-    /// A policy without rules, obligations and advice. Nothing is allocated.
+    /// A policy of that id and version, without rules, obligations and advice.
     pub fn new(
         alloc: Global,
-        key: Shared<DocumentKey>,
+        id: Text,
+        version: Version,
         algorithm: Alg,
         target: Target,
         variables: Variables,
-    ) -> Policy
-        ensures { result ≡ record {
-          key = key;
+    ) -> Result<Policy, AllocError>
+        ensures { IfOk result (λ policy. policy ≡ record {
+          key = policy_key id version;
           algorithm = algorithm;
           target = target;
           variables = variables;
           rules = [];
           duties = no_expressions;
-        } }
+        }) }
     {
-        Policy {
-            key,
+        let key = DocumentKey {
+            kind: DocumentKind::Policy,
+            id,
+            version,
+        };
+        Ok(Policy {
+            key: Shared::new(alloc, key)?,
             algorithm,
             target,
             variables,
             rules: Items::new(alloc),
             duties: DutyExpressions::none(alloc),
-        }
+        })
     }
 
     /// Checks the rule's condition, obligations and advice, in this order, and puts it after the rules

@@ -1,18 +1,20 @@
 //! Policy sets, whose expressions are checked.
-ghost use Rattle.std.specs.Prelude.{◌≡◌, [], OnErr};
+ghost use Rattle.std.specs.Prelude.{◌≡◌, [], IfOk, OnErr};
 ghost use Rattle.std.specs.Result.{result_map_both};
 ghost use Rattle.xa_value.specs.Gives.{Gives};
 ghost use Rattle.xa_policy.specs.Adding.{duties_of_set_replaced, no_expressions};
-ghost use Rattle.xa_policy.specs.Policy.{AreTypedDuties};
+ghost use Rattle.xa_policy.specs.Policy.{AreTypedDuties, set_key};
 
 use crate::checking::check_duties;
 use crate::combining::Alg;
 use crate::document_key::DocumentKey;
 use crate::duty::DutyExpressions;
-use std::alloc::Global;
+use crate::reference::DocumentKind;
+use crate::version::Version;
+use std::alloc::{AllocError, Global};
 use std::marker::Model;
 use xa_expr::{CheckError, Expr, Target, Typed, Variables};
-use xa_value::{OrMemory, Shared};
+use xa_value::{OrMemory, Shared, Text};
 
 /// A policy set without its children (XACML 3.0, core, section 5.1). It has no variables.
 #[derive(Debug, Drop)]
@@ -44,17 +46,32 @@ impl Model for PolicySet {
 }
 
 impl PolicySet {
-    /// A policy set without obligations and advice. Nothing is allocated.
-    pub fn new(alloc: Global, key: Shared<DocumentKey>, algorithm: Alg, target: Target) -> PolicySet
-        ensures { result
-            ≡ record { key = key; algorithm = algorithm; target = target; duties = no_expressions } }
+    /// A policy set of that id and version, without obligations and advice.
+    pub fn new(
+        alloc: Global,
+        id: Text,
+        version: Version,
+        algorithm: Alg,
+        target: Target,
+    ) -> Result<PolicySet, AllocError>
+        ensures { IfOk result (λ set. set ≡ record {
+          key = set_key id version;
+          algorithm = algorithm;
+          target = target;
+          duties = no_expressions;
+        }) }
     {
-        PolicySet {
-            key,
+        let key = DocumentKey {
+            kind: DocumentKind::PolicySet,
+            id,
+            version,
+        };
+        Ok(PolicySet {
+            key: Shared::new(alloc, key)?,
             algorithm,
             target,
             duties: DutyExpressions::none(alloc),
-        }
+        })
     }
 
     /// Checks the obligations and the advice, in this order, and gives them to the policy set in place

@@ -7,7 +7,7 @@ use Rattle.xa_server.specs.declared.event.Outcome.{Outcome}
 use Rattle.xa_server.specs.Front.{Plays}
 use Rattle.xa_server.specs.Lines.{Lines}
 use Rattle.xa_reactor.specs.declared.lane.Lane.{Lane}
-use Rattle.xa_reactor.specs.declared.limits.Limits.{Limits}
+use Rattle.xa_reactor.specs.declared.limits.Terms.{Terms}
 use Rattle.xa_reactor.specs.Run.{AreParts, AreTurns, deeds_of}
 use Rattle.xa_reactor.specs.Step.{Calls, IsStepOn, Step, joined}
 use Rattle.xa_reactor.specs.Turn.{AreDone, AreShared, Deed, IsTurn, Lanes, Turn, calls_of, closes, deeds_in, opens, steps}
@@ -16,13 +16,13 @@ use Rattle.xa_reactor.proofs.SittingLemmas.{asked_rest, fed_rest}
 
 -- ---- turns
 
-shared_done : (limits : Limits) (now : ℕ) (places : List ℕ) (deeds : List Deed) (old new : Lanes) → AreShared limits now places deeds old new → AreDone deeds old new
-shared_done limits now [] deeds old new (none, same) = subst (λ (ds : List Deed). AreDone ds old new) (sym none) same
-shared_done limits now (place ∷ places) deeds old new (first, rest, mid, are, share, done, shared) =
-    subst (λ (ds : List Deed). AreDone ds old new) (sym are) (done_on first rest old mid new done (shared_done limits now places rest mid new shared))
+shared_done : (terms : Terms) (places : List ℕ) (deeds : List Deed) (old new : Lanes) → AreShared terms places deeds old new → AreDone deeds old new
+shared_done terms [] deeds old new (none, same) = subst (λ (ds : List Deed). AreDone ds old new) (sym none) same
+shared_done terms (place ∷ places) deeds old new (first, rest, mid, are, share, done, shared) =
+    subst (λ (ds : List Deed). AreDone ds old new) (sym are) (done_on first rest old mid new done (shared_done terms places rest mid new shared))
 
 turn_done : (turn : Turn) (old new : Lanes) → IsTurn turn old new → AreDone (deeds_in turn) old new
-turn_done turn old new is = done_on turn.taken turn.shared old is.mid new is.opened (shared_done turn.limits turn.now _ turn.shared is.mid new is.shares)
+turn_done turn old new is = done_on turn.taken turn.shared old is.mid new is.opened (shared_done turn.terms _ turn.shared is.mid new is.shares)
 
 pub turns_done : (turns : List Turn) (old new : Lanes) → AreTurns turns old new → AreDone (deeds_of turns) old new
 turns_done [] old new same = same

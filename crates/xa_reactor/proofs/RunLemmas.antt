@@ -1,11 +1,13 @@
 -- A run: turn after turn.
-use Rattle.std.proofs.Common.{◌≡◌, List, [], ◌∷◌, ◌++◌, Bool, ℕ, zero, suc, length, replicate, Option, Some, None, arith, IsTrue, refl, sym, ap, subst, ◌∙◌}
+use Rattle.std.proofs.Common.{◌≡◌, ◌≢◌, ◌⊎◌, inl, inr, true, List, [], ◌∷◌, ◌++◌, Bool, ℕ, zero, suc, length, replicate, Option, Some, None, arith, IsTrue, refl, sym, ap, subst, ◌∙◌}
 use Rattle.std.proofs.lemmas.List.{append-nil, append_assoc}
+use Rattle.std.proofs.lemmas.List.Elements.{Contains-append_left, Contains-append_right}
+use Rattle.std.specs.declared.time.Duration.{Duration}
 use Rattle.xa_records.specs.Keeper.{Custody}
 use Rattle.xa_server.specs.declared.front.Front.{Front}
 use Rattle.xa_reactor.specs.declared.board.Board.{Board}
 use Rattle.xa_reactor.specs.declared.limits.Limits.{Limits}
-use Rattle.xa_reactor.specs.Run.{AreTurns, IsServedAtOnce, IsServedWhole, TurnsGoOn, deeds_of}
+use Rattle.xa_reactor.specs.Run.{AreToldToEnd, AreTurns, IsServedAtOnce, IsServedWhole, TurnsGoOn, deeds_of}
 use Rattle.xa_reactor.specs.Step.{Works}
 use Rattle.xa_reactor.specs.Traffic.{Traffic}
 use Rattle.xa_reactor.specs.Turn.{AreFree, BreaksOff, Deed, Lanes, TakesTurn, Turn, calls_of, deeds_in, no_lanes, traffic_of}
@@ -41,9 +43,10 @@ module _ {R N : Type 0} (custody : R → Custody) (done : N → Option (List Tra
       subst (λ (ds : List Deed). Works custody done (calls_of ds) (traffic_of ds) front_old front_new network_old network_new) same works
 
   -- turns were taken so far
-  pub record RunsOn (new : Lanes) (front_old front_new : Front R) (network_old network_new : N) : Type 0 where
+  pub record RunsOn (first leaving : Option Duration) (new : Lanes) (front_old front_new : Front R) (network_old network_new : N) : Type 0 where
     pub turns : List Turn
     pub are_turns : AreTurns turns no_lanes new
+    pub told : leaving ≢ None → (first ≢ None) ⊎ AreToldToEnd turns
     pub works : Works custody done (calls_of (deeds_of turns)) (traffic_of (deeds_of turns)) front_old front_new network_old network_new
 
 module _ {R N : Type 0} (custody : R → Custody) (done : N → Option (List Traffic)) (is_open : (s : R) → (custody s).sound → IsTrue (custody s).is_open) where
@@ -51,66 +54,79 @@ module _ {R N : Type 0} (custody : R → Custody) (done : N → Option (List Tra
   go_on = record { turns = turns_on; deeds = turns_done; parts = are_parts; works = works_more custody is_open done }
 
   -- none yet
-  pub runs_none : (lanes : Lanes) (front : Front R) (network : N) → lanes ≡ no_lanes → RunsOn custody done lanes front front network network
-  runs_none lanes front network none = record { turns = []; are_turns = none; works = works_none custody is_open done front network }
+  pub runs_none : (leaving : Option Duration) (lanes : Lanes) (front : Front R) (network : N) → lanes ≡ no_lanes → RunsOn custody done leaving leaving lanes front front network network
+  runs_none leaving lanes front network none = record { turns = []; are_turns = none; told = λ leaves. inl leaves; works = works_none custody is_open done front network }
 
-  -- it was waited
-  pub runs_wait : (lanes : Lanes) (front_old front_new : Front R) (network_old network_mid network_new : N) → RunsOn custody done lanes front_old front_new network_old network_mid
-      → done network_new ≡ done network_mid → RunsOn custody done lanes front_old front_new network_old network_new
-  runs_wait lanes front_old front_new network_old network_mid network_new runs same = record {
-    turns = runs.turns;
-    are_turns = runs.are_turns;
-    works =
-        works_then_same custody is_open done (calls_of (deeds_of runs.turns)) (traffic_of (deeds_of runs.turns)) front_old front_new network_old network_mid network_new runs.works same;
-  }
+  module _ (first : Option Duration) where
+    -- it was waited
+    pub runs_wait : (leaving : Option Duration) (lanes : Lanes) (front_old front_new : Front R) (network_old network_mid network_new : N) → RunsOn custody done first leaving lanes front_old front_new network_old network_mid
+        → done network_new ≡ done network_mid → RunsOn custody done first leaving lanes front_old front_new network_old network_new
+    runs_wait leaving lanes front_old front_new network_old network_mid network_new runs same = record {
+      turns = runs.turns;
+      are_turns = runs.are_turns;
+      told = runs.told;
+      works =
+          works_then_same custody is_open done (calls_of (deeds_of runs.turns)) (traffic_of (deeds_of runs.turns)) front_old front_new network_old network_mid network_new runs.works same;
+    }
 
-  -- one turn more
-  pub runs_more : (board : Board) (now : ℕ) (set : Limits) (leaves : Bool) (mid new : Lanes) (front_old front_mid front_new : Front R) (network_old network_mid network_new : N)
-      → RunsOn custody done mid front_old front_mid network_old network_mid → TakesTurn custody done board now set leaves mid new front_mid front_new network_mid network_new
-      → RunsOn custody done new front_old front_new network_old network_new
-  runs_more board now set leaves mid new front_old front_mid front_new network_old network_mid network_new runs turned = record {
-    turns = runs.turns ++ turned.turn ∷ [];
-    are_turns = turns_on runs.turns (turned.turn ∷ []) no_lanes mid new runs.are_turns (new, turned.is_turn, refl);
-    works =
-        works_of_deeds custody done (deeds_of runs.turns ++ deeds_in turned.turn) (deeds_of (runs.turns ++ turned.turn ∷ [])) front_old front_new network_old network_new
-        (sym (deeds_more runs.turns turned.turn))
-        (deeds_work custody done is_open (deeds_of runs.turns) (deeds_in turned.turn) front_old front_mid front_new network_old network_mid network_new runs.works turned.works);
-  }
+    -- the program was told to end before a turn, or when it began
+    still_told : (turns : List Turn) (turn : Turn) (was : Option Duration) → (was ≢ None → (first ≢ None) ⊎ AreToldToEnd turns) → (was ≢ None) ⊎ (turn.board.end ≡ true)
+        → (first ≢ None) ⊎ AreToldToEnd (turns ++ turn ∷ [])
+    still_told turns turn was told (inr ended) = inr (turn, Contains-append_right turns (turn ∷ []) turn (0, omega arith, refl), ended)
+    still_told turns turn was told (inl leaves) = before (told leaves) where
+      before : (first ≢ None) ⊎ AreToldToEnd turns → (first ≢ None) ⊎ AreToldToEnd (turns ++ turn ∷ [])
+      before (inl is) = inl is
+      before (inr (one, there, ended)) = inr (one, Contains-append_left turns (turn ∷ []) one there, ended)
 
-  -- it halts between two turns
-  pub served_whole : (lanes : Lanes) (front_old front_new : Front R) (network_old network_new : N) → RunsOn custody done lanes front_old front_new network_old network_new
-      → IsServedAtOnce custody done front_old front_new network_old network_new
-  served_whole lanes front_old front_new network_old network_new runs = record {
-    turns = runs.turns;
-    begun = [];
-    mid = lanes;
-    left = lanes;
-    are_turns = runs.are_turns;
-    are_done = refl;
-    works =
-        works_of_deeds custody done (deeds_of runs.turns) (deeds_of runs.turns ++ []) front_old front_new network_old network_new (sym (append-nil (deeds_of runs.turns))) runs.works;
-  }
+    -- one turn more
+    pub runs_more : (board : Board) (now : Duration) (set : Limits) (was leaving : Option Duration) (mid new : Lanes) (front_old front_mid front_new : Front R) (network_old network_mid network_new : N)
+        → RunsOn custody done first was mid front_old front_mid network_old network_mid → TakesTurn custody done board now set leaving mid new front_mid front_new network_mid network_new
+        → (leaving ≢ None → (was ≢ None) ⊎ (board.end ≡ true)) → RunsOn custody done first leaving new front_old front_new network_old network_new
+    runs_more board now set was leaving mid new front_old front_mid front_new network_old network_mid network_new runs turned ends = record {
+      turns = runs.turns ++ turned.turn ∷ [];
+      are_turns = turns_on runs.turns (turned.turn ∷ []) no_lanes mid new runs.are_turns (new, turned.is_turn, refl);
+      told = λ leaves. still_told runs.turns turned.turn was runs.told (subst (λ (b : Board). (was ≢ None) ⊎ (b.end ≡ true)) (sym turned.told) (ends leaves));
+      works =
+          works_of_deeds custody done (deeds_of runs.turns ++ deeds_in turned.turn) (deeds_of (runs.turns ++ turned.turn ∷ [])) front_old front_new network_old network_new
+          (sym (deeds_more runs.turns turned.turn))
+          (deeds_work custody done is_open (deeds_of runs.turns) (deeds_in turned.turn) front_old front_mid front_new network_old network_mid network_new runs.works turned.works);
+    }
 
-  -- and all connections have ended
-  pub served_to_end : (lanes : Lanes) (front_old front_new : Front R) (network_old network_new : N) → RunsOn custody done lanes front_old front_new network_old network_new → AreFree lanes
-      → length lanes ≡ 64 → IsServedWhole custody done front_old front_new network_old network_new
-  served_to_end lanes front_old front_new network_old network_new runs free long = record {
-    turns = runs.turns;
-    are_turns = subst (λ (ls : Lanes). AreTurns runs.turns no_lanes ls) (none_there lanes 64 free long) runs.are_turns;
-    works = runs.works;
-  }
+    -- it halts between two turns
+    pub served_whole : (leaving : Option Duration) (lanes : Lanes) (front_old front_new : Front R) (network_old network_new : N) → RunsOn custody done first leaving lanes front_old front_new network_old network_new
+        → IsServedAtOnce custody done front_old front_new network_old network_new
+    served_whole leaving lanes front_old front_new network_old network_new runs = record {
+      turns = runs.turns;
+      begun = [];
+      mid = lanes;
+      left = lanes;
+      are_turns = runs.are_turns;
+      are_done = refl;
+      works =
+          works_of_deeds custody done (deeds_of runs.turns) (deeds_of runs.turns ++ []) front_old front_new network_old network_new (sym (append-nil (deeds_of runs.turns))) runs.works;
+    }
 
-  -- it halts in a turn
-  pub served_broken : (mid new : Lanes) (front_old front_mid front_new : Front R) (network_old network_mid network_new : N)
-      → RunsOn custody done mid front_old front_mid network_old network_mid → BreaksOff custody done mid new front_mid front_new network_mid network_new
-      → IsServedAtOnce custody done front_old front_new network_old network_new
-  served_broken mid new front_old front_mid front_new network_old network_mid network_new runs broken = record {
-    turns = runs.turns;
-    begun = broken.deeds;
-    mid = mid;
-    left = new;
-    are_turns = runs.are_turns;
-    are_done = broken.are_done;
-    works =
-        deeds_work custody done is_open (deeds_of runs.turns) broken.deeds front_old front_mid front_new network_old network_mid network_new runs.works broken.works;
-  }
+    -- and all connections have ended
+    pub served_to_end : (leaving : Option Duration) (lanes : Lanes) (front_old front_new : Front R) (network_old network_new : N) → RunsOn custody done first leaving lanes front_old front_new network_old network_new → AreFree lanes
+        → length lanes ≡ 64 → leaving ≢ None → IsServedWhole custody done first front_old front_new network_old network_new
+    served_to_end leaving lanes front_old front_new network_old network_new runs free long leaves = record {
+      turns = runs.turns;
+      are_turns = subst (λ (ls : Lanes). AreTurns runs.turns no_lanes ls) (none_there lanes 64 free long) runs.are_turns;
+      told = runs.told leaves;
+      works = runs.works;
+    }
+
+    -- it halts in a turn
+    pub served_broken : (leaving : Option Duration) (mid new : Lanes) (front_old front_mid front_new : Front R) (network_old network_mid network_new : N)
+        → RunsOn custody done first leaving mid front_old front_mid network_old network_mid → BreaksOff custody done mid new front_mid front_new network_mid network_new
+        → IsServedAtOnce custody done front_old front_new network_old network_new
+    served_broken leaving mid new front_old front_mid front_new network_old network_mid network_new runs broken = record {
+      turns = runs.turns;
+      begun = broken.deeds;
+      mid = mid;
+      left = new;
+      are_turns = runs.are_turns;
+      are_done = broken.are_done;
+      works =
+          deeds_work custody done is_open (deeds_of runs.turns) broken.deeds front_old front_mid front_new network_old network_mid network_new runs.works broken.works;
+    }

@@ -11,16 +11,17 @@ use Rattle.xa_server.specs.declared.front.Front.{Front}
 use Rattle.xa_server.specs.declared.lines.Conn.{Conn}
 use Rattle.xa_reactor.specs.declared.lane.Lane.{Lane}
 use Rattle.xa_reactor.specs.declared.lane.Share.{Share}
-use Rattle.xa_reactor.specs.declared.limits.Limits.{Limits}
 use Rattle.xa_reactor.specs.declared.limits.Stage.{Stage}
 use Rattle.xa_reactor.specs.declared.limits.Stage.TheVariants.{Parting}
+use Rattle.xa_reactor.specs.declared.limits.Terms.{Terms}
 use Rattle.xa_reactor.specs.declared.progress.Progress.{Progress}
 use Rattle.xa_reactor.specs.declared.progress.Progress.TheVariants.{Ends}
 use Rattle.xa_reactor.specs.declared.progress.Reason.{Reason}
-use Rattle.xa_reactor.specs.declared.progress.Reason.TheVariants.{Ended, Failed, Late, DrivenOut, WantOfMemory}
+use Rattle.xa_reactor.specs.declared.progress.Reason.TheVariants.{Ended, Failed, Idle, Late, DrivenOut, WantOfMemory}
 use Rattle.xa_reactor.specs.Step.{Calls, DropsAs, DropsBy, EndsAs, IsStep, Step, Works, joined, no_calls}
+use Rattle.xa_reactor.specs.Timing.{IsParted}
 use Rattle.xa_reactor.specs.Traffic.{Traffic}
-use Rattle.xa_reactor.specs.Turn.{AreDone, BreaksOff, Deed, IsDone, IsShareOf, Lanes, calls_in, calls_of, closes, lane_at, steps, traffic_in, traffic_of, under_way}
+use Rattle.xa_reactor.specs.Turn.{AreDone, BreaksOff, Deed, IsDone, IsShareOf, IsStepIn, Lanes, calls_in, calls_of, closes, lane_at, steps, traffic_in, traffic_of, under_way}
 use Rattle.xa_reactor.specs.handling.Turning.{Closes, Does, EndsIf, IsShareAt, StepsAt}
 use Rattle.xa_reactor.proofs.AlikeLemmas.{within}
 use Rattle.xa_reactor.proofs.DeedLemmas.{does_more, does_none, done_one}
@@ -53,39 +54,41 @@ module _ {R N : Type 0} (custody : R → Custody) (done : N → Option (List Tra
   room_of has_room lanes none room (inr has) = inr (room has)
 
   -- the connection is taken out, has its step, and is put back
-  pub steps_at : {E : Type 0} (conn : Conn) (now : ℕ) (has_room : Bool) (went result : Result Progress E) (limits : Limits) (was is : Lane) (old : Lanes) (front_old front_new : Front R)
-      (network_old network_new : N) → Some was ≡ lane_at conn.number old → IsStep custody done conn now has_room went was is front_old front_new network_old network_new
-      → (has_room ≡ true → under_way old ≤ 33_554_432) → ((step : Step) → EndsAs step.conn.number step.traffic is went → EndsIf limits now step is result)
+  pub steps_at : {E : Type 0} (share : Share) (went result : Result Progress E) (terms : Terms) (was is : Lane) (old : Lanes) (front_old front_new : Front R)
+      (network_old network_new : N) → Some was ≡ lane_at share.conn.number old → IsStep custody done share went was is front_old front_new network_old network_new
+      → IsShareAt share terms share.conn.number old → ((step : Step) → EndsAs step.conn.number step.traffic is went → EndsIf terms step is result)
       → ((dropped : List ℕ) → DropsAs dropped is.stage went → DropsAs dropped is.stage result)
-      → StepsAt custody done result limits now conn.number old (slice_set (slice_set old conn.number None) conn.number (Some is)) front_old front_new network_old network_new
-  steps_at conn now has_room went result limits was is old front_old front_new network_old network_new there stepped room ends drops = record {
+      → StepsAt custody done result terms share.conn.number old (slice_set (slice_set old share.conn.number None) share.conn.number (Some is)) front_old front_new network_old network_new
+  steps_at share went result terms was is old front_old front_new network_old network_new there stepped known ends drops = record {
     step = stepped.step;
     was = was;
     is = is;
     there = sym there;
     its = stepped.its;
+    within = (subst (λ (time : Duration). as_nanos time ≤ stepped.step.at) known.at stepped.later, stepped.parts ∙ known.parts);
     is_step = stepped.is_step;
-    room = room_of has_room old (stepped.step.answer ≡ None) room stepped.room;
-    time = stepped.time;
+    room = room_of share.has_room old (stepped.step.answer ≡ None) known.room stepped.room;
     ends = ends stepped.step stepped.ends;
     drops = drops stepped.step.dropped stepped.drops;
-    put = set-set old conn.number None (Some is);
+    put = set-set old share.conn.number None (Some is);
     works = stepped.works;
   }
 
   -- that of a share which is known to be the place's
-  pub steps_for : {E : Type 0} (share : Share) (now : Duration) (place : ℕ) (result : Result Progress E) (limits : Limits) (old new : Lanes) (front_old front_new : Front R)
-      (network_old network_new : N) → IsShareAt share now place old
-      → StepsAt custody done result limits (as_nanos share.now) share.conn.number old new front_old front_new network_old network_new
-      → StepsAt custody done result limits (as_nanos now) place old new front_old front_new network_old network_new
-  steps_for share now place result limits old new front_old front_new network_old network_new known stepped =
-      subst (λ (n : ℕ). StepsAt custody done result limits (as_nanos now) n old new front_old front_new network_old network_new) (ap (λ (conn : Conn). conn.number) known.conn)
-      (subst (λ (time : Duration). StepsAt custody done result limits (as_nanos time) share.conn.number old new front_old front_new network_old network_new) known.at stepped)
+  pub share_for : (share : Share) (terms : Terms) (place : ℕ) (old : Lanes) → IsShareAt share terms place old → IsShareAt share terms share.conn.number old
+  share_for share terms place old known = subst (λ (n : ℕ). IsShareAt share terms n old) (sym (ap (λ (conn : Conn). conn.number) known.conn)) known
+
+  pub steps_for : {E : Type 0} (share : Share) (place : ℕ) (result : Result Progress E) (terms : Terms) (old new : Lanes) (front_old front_new : Front R)
+      (network_old network_new : N) → IsShareAt share terms place old
+      → StepsAt custody done result terms share.conn.number old new front_old front_new network_old network_new
+      → StepsAt custody done result terms place old new front_old front_new network_old network_new
+  steps_for share place result terms old new front_old front_new network_old network_new known stepped =
+      subst (λ (n : ℕ). StepsAt custody done result terms n old new front_old front_new network_old network_new) (ap (λ (conn : Conn). conn.number) known.conn) stepped
 
   -- ---- what comes of a step
 
-  module _ {E : Type 0} (result : Result Progress E) (limits : Limits) (now place : ℕ) (old mid : Lanes) (front_old front_mid : Front R) (network_old network_mid : N)
-      (steps_of : StepsAt custody done result limits now place old mid front_old front_mid network_old network_mid) where
+  module _ {E : Type 0} (result : Result Progress E) (terms : Terms) (place : ℕ) (old mid : Lanes) (front_old front_mid : Front R) (network_old network_mid : N)
+      (steps_of : StepsAt custody done result terms place old mid front_old front_mid network_old network_mid) where
     number : steps_of.step.conn.number ≡ place
     number = ap (λ (conn : Conn). conn.number) steps_of.its
 
@@ -109,15 +112,15 @@ module _ {R N : Type 0} (custody : R → Custody) (done : N → Option (List Tra
     }
 
     -- it goes on
-    pub shared_on : (steps_of.step.dropped ≡ []) ⊎ (steps_of.is.stage ≡ Parting)
-        → Does custody done (λ deeds. IsShareOf limits now place (lane_at place old) deeds (lane_at place mid)) old mid front_old front_mid network_old network_mid
+    pub shared_on : IsParted terms steps_of.is → (steps_of.step.dropped ≡ []) ⊎ (steps_of.is.stage ≡ Parting)
+        → Does custody done (λ deeds. IsShareOf terms place (lane_at place old) deeds (lane_at place mid)) old mid front_old front_mid network_old network_mid
     unfolding one_step
-    shared_on drops = record {
+    shared_on parted drops = record {
       deeds = steps steps_of.step ∷ [];
       are_so =
-          subst (λ (l : Option Lane). IsShareOf limits now place l (steps steps_of.step ∷ []) (lane_at place mid)) (sym steps_of.there)
-          (subst (λ (l : Option Lane). IsShareOf limits now place (Some steps_of.was) (steps steps_of.step ∷ []) l)
-          (sym (ap (lane_at place) steps_of.put ∙ there_now place old steps_of.was (Some steps_of.is) steps_of.there)) (number, steps_of.time, drops));
+          subst (λ (l : Option Lane). IsShareOf terms place l (steps steps_of.step ∷ []) (lane_at place mid)) (sym steps_of.there)
+          (subst (λ (l : Option Lane). IsShareOf terms place (Some steps_of.was) (steps steps_of.step ∷ []) l)
+          (sym (ap (lane_at place) steps_of.put ∙ there_now place old steps_of.was (Some steps_of.is) steps_of.there)) (number, steps_of.within, parted, drops));
       are_done = one_step.are_done;
       works = one_step.works;
     }
@@ -140,6 +143,8 @@ module _ {R N : Type 0} (custody : R → Custody) (done : N → Option (List Tra
   closed_drops Ended dropped stage (inr parts) = inr (inl parts)
   closed_drops Failed dropped stage (inl none) = inl none
   closed_drops Failed dropped stage (inr parts) = inr (inl parts)
+  closed_drops Idle dropped stage (inl none) = inl none
+  closed_drops Idle dropped stage (inr parts) = inr (inl parts)
   closed_drops Late dropped stage (inl none) = inl none
   closed_drops Late dropped stage (inr parts) = inr (inl parts)
   closed_drops DrivenOut dropped stage (inl none) = inl none
@@ -150,28 +155,28 @@ module _ {R N : Type 0} (custody : R → Custody) (done : N → Option (List Tra
   gone conn reason mid new (after, (lane, there, put), same) = ap (lane_at conn.number) (same ∙ put) ∙ there_now conn.number mid lane None there
 
   module _ (is_open : (s : R) → (custody s).sound → IsTrue (custody s).is_open) where
-    pub shared_closed : {E : Type 0} (reason : Reason) (limits : Limits) (now place : ℕ) (old mid new : Lanes) (front_old front_mid front_new : Front R)
-        (network_old network_mid network_new : N) (steps_of : StepsAt custody done {E = E} (Ok (Ends reason)) limits now place old mid front_old front_mid network_old network_mid)
+    pub shared_closed : {E : Type 0} (reason : Reason) (terms : Terms) (place : ℕ) (old mid new : Lanes) (front_old front_mid front_new : Front R)
+        (network_old network_mid network_new : N) (steps_of : StepsAt custody done {E = E} (Ok (Ends reason)) terms place old mid front_old front_mid network_old network_mid)
         → Closes custody done place reason mid new front_mid front_new network_mid network_new
-        → Does custody done (λ deeds. IsShareOf limits now place (lane_at place old) deeds (lane_at place new)) old new front_old front_new network_old network_new
-    shared_closed {E} reason limits now place old mid new front_old front_mid front_new network_old network_mid network_new steps_of closed =
+        → Does custody done (λ deeds. IsShareOf terms place (lane_at place old) deeds (lane_at place new)) old new front_old front_new network_old network_new
+    shared_closed {E} reason terms place old mid new front_old front_mid front_new network_old network_mid network_new steps_of closed =
         let conn : Conn = record { number = place } in
-        let first = one_step (Ok (Ends reason)) limits now place old mid front_old front_mid network_old network_mid steps_of in
+        let first = one_step (Ok (Ends reason)) terms place old mid front_old front_mid network_old network_mid steps_of in
         let none : lane_at place new ≡ None = gone conn reason mid new (subst (λ (ds : List Deed). AreDone ds mid new) closed.are_so closed.are_done) in
-        let share : IsShareOf limits now place (lane_at place old) (steps steps_of.step ∷ closes conn reason ∷ []) (lane_at place new) =
-        subst (λ (l : Option Lane). IsShareOf limits now place l (steps steps_of.step ∷ closes conn reason ∷ []) (lane_at place new)) (sym steps_of.there)
-        (subst (λ (l : Option Lane). IsShareOf limits now place (Some steps_of.was) (steps steps_of.step ∷ closes conn reason ∷ []) l) (sym none)
-        (ap (λ (c : Conn). c.number) steps_of.its, sym steps_of.its, (steps_of.is, steps_of.is_step, steps_of.time, steps_of.ends, closed_drops reason steps_of.step.dropped steps_of.is.stage steps_of.drops))) in
+        let share : IsShareOf terms place (lane_at place old) (steps steps_of.step ∷ closes conn reason ∷ []) (lane_at place new) =
+        subst (λ (l : Option Lane). IsShareOf terms place l (steps steps_of.step ∷ closes conn reason ∷ []) (lane_at place new)) (sym steps_of.there)
+        (subst (λ (l : Option Lane). IsShareOf terms place (Some steps_of.was) (steps steps_of.step ∷ closes conn reason ∷ []) l) (sym none)
+        (ap (λ (c : Conn). c.number) steps_of.its, sym steps_of.its, steps_of.within, (steps_of.is, steps_of.is_step, steps_of.ends, closed_drops reason steps_of.step.dropped steps_of.is.stage steps_of.drops))) in
         does_more custody done is_open (λ deeds. deeds ≡ steps steps_of.step ∷ []) (λ deeds. deeds ≡ closes conn reason ∷ [])
-        (λ deeds. IsShareOf limits now place (lane_at place old) deeds (lane_at place new)) old mid new front_old front_mid front_new network_old network_mid network_new
+        (λ deeds. IsShareOf terms place (lane_at place old) deeds (lane_at place new)) old mid new front_old front_mid front_new network_old network_mid network_new
         (λ deeds others is are.
-        subst (λ (ds : List Deed). IsShareOf limits now place (lane_at place old) (ds ++ others) (lane_at place new)) (sym is)
-        (subst (λ (ds : List Deed). IsShareOf limits now place (lane_at place old) (steps steps_of.step ∷ [] ++ ds) (lane_at place new)) (sym are) share))
+        subst (λ (ds : List Deed). IsShareOf terms place (lane_at place old) (ds ++ others) (lane_at place new)) (sym is)
+        (subst (λ (ds : List Deed). IsShareOf terms place (lane_at place old) (steps steps_of.step ∷ [] ++ ds) (lane_at place new)) (sym are) share))
         first closed
 
     -- nobody is there
-    pub shared_none : (limits : Limits) (now place : ℕ) (lanes : Lanes) (front : Front R) (network : N) → lane_at place lanes ≡ None
-        → Does custody done (λ deeds. IsShareOf limits now place (lane_at place lanes) deeds (lane_at place lanes)) lanes lanes front front network network
-    shared_none limits now place lanes front network none =
-        does_none custody done is_open (λ deeds. IsShareOf limits now place (lane_at place lanes) deeds (lane_at place lanes)) lanes lanes front front network network
-        (subst (λ (l : Option Lane). IsShareOf limits now place l [] l) (sym none) tt) refl refl refl
+    pub shared_none : (terms : Terms) (place : ℕ) (lanes : Lanes) (front : Front R) (network : N) → lane_at place lanes ≡ None
+        → Does custody done (λ deeds. IsShareOf terms place (lane_at place lanes) deeds (lane_at place lanes)) lanes lanes front front network network
+    shared_none terms place lanes front network none =
+        does_none custody done is_open (λ deeds. IsShareOf terms place (lane_at place lanes) deeds (lane_at place lanes)) lanes lanes front front network network
+        (subst (λ (l : Option Lane). IsShareOf terms place l [] l) (sym none) tt) refl refl refl

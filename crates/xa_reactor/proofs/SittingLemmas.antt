@@ -79,11 +79,11 @@ some_same e = cc
 -- what was under way before and the replies since are what was sent since and what is under way
 abbrev GoesOut : ℕ → Lanes → Lane → List (Option Answer) → List Traffic → Type 0
 GoesOut place new was given traffic =
-    (is : Lane) × (lane_at place new ≡ Some is) × (was.outgoing ++ flat_map answer_bytes given ≡ sent_at place traffic ++ is.outgoing)
+    (is : Lane) × (lane_at place new ≡ Some is) × (was.outgoing.left ++ flat_map answer_bytes given ≡ sent_at place traffic ++ is.outgoing.left)
 
 -- nothing was done for it
 kept : (place : ℕ) (new : Lanes) (was : Lane) → lane_at place new ≡ Some was → GoesOut place new was [] []
-kept place new was there = (was, there, append-nil was.outgoing)
+kept place new was there = (was, there, append-nil was.outgoing.left)
 
 -- a part of the bytes was sent, and no more was answered; or one message was
 one_sent : (rest left went : List ℕ) (answer : Option Answer) → AreSent rest answer went left → rest ++ (answer_bytes answer ++ []) ≡ went ++ left
@@ -97,13 +97,13 @@ out_on : (place : ℕ) (mid new : Lanes) (was : Lane) (first later : List (Optio
 out_on place mid new was first later traffic more (is, there, balance) (last, at_last, after) = (
   last,
   at_last,
-  ap (λ (bs : List ℕ). was.outgoing ++ bs) (bytes_on first later)
-      ∙ sym (append_assoc was.outgoing (flat_map answer_bytes first) (flat_map answer_bytes later))
+  ap (λ (bs : List ℕ). was.outgoing.left ++ bs) (bytes_on first later)
+      ∙ sym (append_assoc was.outgoing.left (flat_map answer_bytes first) (flat_map answer_bytes later))
       ∙ ap (λ (bs : List ℕ). bs ++ flat_map answer_bytes later) balance
-      ∙ append_assoc (sent_at place traffic) is.outgoing (flat_map answer_bytes later)
+      ∙ append_assoc (sent_at place traffic) is.outgoing.left (flat_map answer_bytes later)
       ∙ ap (λ (bs : List ℕ). sent_at place traffic ++ bs) after
-      ∙ sym (append_assoc (sent_at place traffic) (sent_at place more) last.outgoing)
-      ∙ ap (λ (bs : List ℕ). bs ++ last.outgoing) (sym (sent_on place traffic more)),
+      ∙ sym (append_assoc (sent_at place traffic) (sent_at place more) last.outgoing.left)
+      ∙ ap (λ (bs : List ℕ). bs ++ last.outgoing.left) (sym (sent_on place traffic more)),
 )
 
 -- a step, of this connection or of another
@@ -119,15 +119,15 @@ stepped conn step old mid was before is there had its put = by_number (eqb_tells
         is,
         ap (lane_at conn.number) put ∙ ap (λ (n : ℕ). lane_at conn.number (slice_set old n (Some is))) same
             ∙ get_or-set_same old conn.number (Some is) None (within conn.number old was there),
-        ap (λ (l : Lane). l.outgoing ++ (answer_bytes step.answer ++ [])) (sym one)
-            ∙ one_sent before.outgoing is.outgoing (sent_at step.conn.number step.traffic) step.answer its.sent
-            ∙ ap (λ (n : ℕ). sent_at n step.traffic ++ is.outgoing) same,
+        ap (λ (l : Lane). l.outgoing.left ++ (answer_bytes step.answer ++ [])) (sym one)
+            ∙ one_sent before.outgoing.left is.outgoing.left (sent_at step.conn.number step.traffic) step.answer its.sent
+            ∙ ap (λ (n : ℕ). sent_at n step.traffic ++ is.outgoing.left) same,
       )
   by_number (inr (test, apart)) =
       rw test (
         was,
         ap (lane_at conn.number) put ∙ get_or-set_other old step.conn.number conn.number (Some is) None (λ same. apart (sym same)) ∙ there,
-        append-nil was.outgoing ∙ ap (λ (bs : List ℕ). bs ++ was.outgoing) (sym (sent_elsewhere step.conn.number conn.number step.traffic apart its.there)),
+        append-nil was.outgoing.left ∙ ap (λ (bs : List ℕ). bs ++ was.outgoing.left) (sym (sent_elsewhere step.conn.number conn.number step.traffic apart its.there)),
       )
 
 -- deeds, one after another

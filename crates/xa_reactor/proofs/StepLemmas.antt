@@ -15,11 +15,10 @@ use Rattle.xa_server.specs.declared.front.Front.{Front}
 use Rattle.xa_server.specs.declared.front_error.FrontError.{FrontError}
 use Rattle.xa_server.specs.declared.front_error.FrontError.TheVariants.{Memory, NoSuchConnection, TooManyConnections, Full}
 use Rattle.xa_server.specs.declared.lines.Conn.{Conn}
-use Rattle.xa_server.specs.Front.{AnswersAt, IsPlayed, Plays, front_is_sound, front_state}
+use Rattle.xa_server.specs.Front.{AnswersAt, IsPlayed, Plays}
 use Rattle.xa_server.specs.Lines.{IsHeld, IsOpen, Lines, line_at, with_line}
-use Rattle.xa_server.specs.Serving.{PlaysServed}
 use Rattle.xa_server.proofs.LineLemmas.{line_kept}
-use Rattle.xa_reactor.specs.Step.{Keeps, Lasts, no_calls}
+use Rattle.xa_reactor.specs.Step.{Lasts, no_calls}
 use Rattle.xa_reactor.specs.Traffic.{AreAt, HasFailedIn, Traffic, failed, finished, received, received_at, seated, sent, sent_at, vacated}
 use Rattle.xa_reactor.specs.handling.Going.{Asks, Feeds, FeedsBy, answer_of_outcome, held_in}
 use Rattle.xa_reactor.proofs.WorksLemmas.{makes_none, makes_one}
@@ -187,55 +186,55 @@ never_asked conn moment (outcome.Finished result) (given ∷ nexts) old new othe
 module _ {R : Type 0} (custody : R → Custody) where
   -- a piece was handed on: all of it came to the stream, or for want of memory none
   pub fed_piece : (conn : Conn) (piece : Bor (List ℕ)) (o : Outcome) (old new : Front R)
-      → IsPlayed (front_is_sound custody new) (front_state custody old) (front_state custody new) (event.Piece conn piece ∷ []) (o ∷ [])
-      → PlaysServed custody old new (event.Piece conn piece ∷ []) (o ∷ []) → Keeps custody old new → FeedsBy custody conn piece.now (held_in o) old new
-  fed_piece conn piece (outcome.Held (Ok done)) old new played served keeps = record {
+      → IsPlayed custody old new (event.Piece conn piece ∷ []) (o ∷ [])
+      → FeedsBy custody conn piece.now (held_in o) old new
+  fed_piece conn piece (outcome.Held (Ok done)) old new played = record {
     feeds = record {
       read = piece.now;
       dropped = [];
       calls = record { events = event.Piece conn piece ∷ []; outcomes = outcome.Held (Ok done) ∷ [] };
       all = sym (append-nil piece.now);
       fed = (refl, refl, refl);
-      makes = makes_one custody (event.Piece conn piece) (outcome.Held (Ok done)) old new played served keeps;
+      makes = makes_one custody (event.Piece conn piece) (outcome.Held (Ok done)) old new played;
       lasts = piece_lasts conn piece (outcome.Held (Ok done)) played.nexts old.lines new.lines played.plays;
     };
     kept = λ whole. refl;
   }
-  fed_piece conn piece (outcome.Held (Err error)) old new played served keeps = record {
+  fed_piece conn piece (outcome.Held (Err error)) old new played = record {
     feeds = record {
       read = [];
       dropped = piece.now;
       calls = record { events = event.Piece conn piece ∷ []; outcomes = outcome.Held (Err error) ∷ [] };
       all = refl;
       fed = (refl, refl, refl);
-      makes = makes_one custody (event.Piece conn piece) (outcome.Held (Err error)) old new played served keeps;
+      makes = makes_one custody (event.Piece conn piece) (outcome.Held (Err error)) old new played;
       lasts = piece_lasts conn piece (outcome.Held (Err error)) played.nexts old.lines new.lines played.plays;
     };
     kept = λ whole. absurd cc;
   }
-  fed_piece conn piece (outcome.Begun result) old new played served keeps = absurd (never_fed conn piece (outcome.Begun result) played.nexts old.lines new.lines (λ given e. absurd cc) played.plays)
-  fed_piece conn piece (outcome.Answered result) old new played served keeps = absurd (never_fed conn piece (outcome.Answered result) played.nexts old.lines new.lines (λ given e. absurd cc) played.plays)
-  fed_piece conn piece (outcome.Finished result) old new played served keeps = absurd (never_fed conn piece (outcome.Finished result) played.nexts old.lines new.lines (λ given e. absurd cc) played.plays)
+  fed_piece conn piece (outcome.Begun result) old new played = absurd (never_fed conn piece (outcome.Begun result) played.nexts old.lines new.lines (λ given e. absurd cc) played.plays)
+  fed_piece conn piece (outcome.Answered result) old new played = absurd (never_fed conn piece (outcome.Answered result) played.nexts old.lines new.lines (λ given e. absurd cc) played.plays)
+  fed_piece conn piece (outcome.Finished result) old new played = absurd (never_fed conn piece (outcome.Finished result) played.nexts old.lines new.lines (λ given e. absurd cc) played.plays)
 
   -- an answer was asked for
   pub asked_next : (conn : Conn) (moment : ℤ) (o : Outcome) (old new : Front R)
-      → IsPlayed (front_is_sound custody new) (front_state custody old) (front_state custody new) (event.Answer conn moment ∷ []) (o ∷ [])
-      → PlaysServed custody old new (event.Answer conn moment ∷ []) (o ∷ []) → Keeps custody old new → Asks custody conn (answer_of_outcome o) old new
-  asked_next conn moment (outcome.Answered (Ok given)) old new played served keeps = record {
+      → IsPlayed custody old new (event.Answer conn moment ∷ []) (o ∷ [])
+      → Asks custody conn (answer_of_outcome o) old new
+  asked_next conn moment (outcome.Answered (Ok given)) old new played = record {
     calls = record { events = event.Answer conn moment ∷ []; outcomes = outcome.Answered (Ok given) ∷ [] };
     asked = (refl, refl);
-    makes = makes_one custody (event.Answer conn moment) (outcome.Answered (Ok given)) old new played served keeps;
+    makes = makes_one custody (event.Answer conn moment) (outcome.Answered (Ok given)) old new played;
     lasts = answer_lasts conn moment (outcome.Answered (Ok given)) played.nexts old.lines new.lines played.plays;
   }
-  asked_next conn moment (outcome.Answered (Err error)) old new played served keeps = record {
+  asked_next conn moment (outcome.Answered (Err error)) old new played = record {
     calls = record { events = event.Answer conn moment ∷ []; outcomes = outcome.Answered (Err error) ∷ [] };
     asked = (refl, refl);
-    makes = makes_one custody (event.Answer conn moment) (outcome.Answered (Err error)) old new played served keeps;
+    makes = makes_one custody (event.Answer conn moment) (outcome.Answered (Err error)) old new played;
     lasts = answer_lasts conn moment (outcome.Answered (Err error)) played.nexts old.lines new.lines played.plays;
   }
-  asked_next conn moment (outcome.Begun result) old new played served keeps = absurd (never_asked conn moment (outcome.Begun result) played.nexts old.lines new.lines (λ given e. absurd cc) played.plays)
-  asked_next conn moment (outcome.Held result) old new played served keeps = absurd (never_asked conn moment (outcome.Held result) played.nexts old.lines new.lines (λ given e. absurd cc) played.plays)
-  asked_next conn moment (outcome.Finished result) old new played served keeps = absurd (never_asked conn moment (outcome.Finished result) played.nexts old.lines new.lines (λ given e. absurd cc) played.plays)
+  asked_next conn moment (outcome.Begun result) old new played = absurd (never_asked conn moment (outcome.Begun result) played.nexts old.lines new.lines (λ given e. absurd cc) played.plays)
+  asked_next conn moment (outcome.Held result) old new played = absurd (never_asked conn moment (outcome.Held result) played.nexts old.lines new.lines (λ given e. absurd cc) played.plays)
+  asked_next conn moment (outcome.Finished result) old new played = absurd (never_asked conn moment (outcome.Finished result) played.nexts old.lines new.lines (λ given e. absurd cc) played.plays)
 
   -- nothing was handed on, and no answer was asked for, because there was nothing to; or it was dropped
   module _ (is_open : (s : R) → (custody s).sound → IsTrue (custody s).is_open) where

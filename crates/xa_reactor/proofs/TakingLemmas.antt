@@ -11,7 +11,8 @@ use Rattle.xa_reactor.specs.declared.board.Board.{Board}
 use Rattle.xa_reactor.specs.declared.board.Ready.{Ready}
 use Rattle.xa_reactor.specs.declared.lane.Lane.{Lane}
 use Rattle.xa_reactor.specs.declared.progress.Reason.{Reason}
-use Rattle.xa_reactor.specs.declared.progress.Reason.TheVariants.{Ended, Failed, Late, DrivenOut, WantOfMemory}
+use Rattle.xa_reactor.specs.declared.progress.Reason.TheVariants.{Ended, Failed, Idle, Late, DrivenOut, WantOfMemory}
+use Rattle.xa_reactor.specs.Sending.{none_under_way}
 use Rattle.xa_reactor.specs.Timing.{IsFresh, left_of}
 use Rattle.xa_reactor.specs.Traffic.{Traffic, seated, vacated}
 use Rattle.xa_reactor.specs.Turn.{AreAlike, AreDone, AreOpen, AreTaken, Deed, HasCome, IsIdleSince, IsIdlest, Lanes, MayGo, calls_in, closes, lane_at, opens, ready_at, steps}
@@ -150,6 +151,7 @@ taken_on board now (closes conn DrivenOut ∷ closes other reason ∷ deeds) mor
 taken_on board now (closes conn Ended ∷ deeds) more old mid new none later = absurd none
 taken_on board now (closes conn Failed ∷ deeds) more old mid new none later = absurd none
 taken_on board now (closes conn WantOfMemory ∷ deeds) more old mid new none later = absurd none
+taken_on board now (closes conn Idle ∷ deeds) more old mid new none later = absurd none
 taken_on board now (closes conn Late ∷ deeds) more old mid new none later = absurd none
 
 -- the one that was opened is taken
@@ -207,15 +209,15 @@ module _ {R N : Type 0} (custody : R → Custody) (done : N → Option (List Tra
 
   -- one was opened
   pub opened : (now : ℕ) (conn : Conn) (lane : Lane) (old new : Lanes) (front_old front_new : Front R) (network_old network_new : N) → AreAlike old front_old.lines
-      → first_free front_old.lines ≡ Some conn.number → IsFresh now lane → new ≡ slice_set old conn.number (Some lane)
+      → first_free front_old.lines ≡ Some conn.number → IsFresh now lane → lane.outgoing ≡ none_under_way → new ≡ slice_set old conn.number (Some lane)
       → Makes custody (calls_in (opens conn)) front_old front_new → Grows (done network_old) (done network_new) (seated conn.number ∷ [])
       → Opens custody done now old new front_old front_new network_old network_new
-  opened now conn lane old new front_old front_new network_old network_new alike first fresh put makes sits =
+  opened now conn lane old new front_old front_new network_old network_new alike first fresh nothing put makes sits =
       let free = alike_first old front_old.lines conn.number alike first in
       record {
         deeds = opens conn ∷ [];
         are_so = (conn, lane, first, free, fresh, put, refl);
-        are_done = done_one (opens conn) old new (lane, free, fresh.0, put);
+        are_done = done_one (opens conn) old new (lane, free, nothing, put);
         works =
             works_of custody is_open done (calls_in (opens conn)) (seated conn.number ∷ []) front_old front_new network_old network_new makes
             sits;

@@ -1,24 +1,27 @@
 -- A turn: connections are taken, and then each place has its share.
 use Rattle.std.proofs.Common.{◌≡◌, ℕ, ◌+◌, ◌%◌, List, [], ◌∷◌, ◌++◌, Bool, Option, Result, Ok, Err, MatchResult, IsTrue, refl, sym, ap, subst, ◌∙◌, add-one}
 use Rattle.std.proofs.lemmas.List.{append-nil, append_assoc}
+use Rattle.std.specs.Duration.{as_nanos}
+use Rattle.std.specs.declared.time.Duration.{Duration}
 use Rattle.xa_records.specs.Keeper.{Custody}
 use Rattle.xa_server.specs.declared.front.Front.{Front}
 use Rattle.xa_reactor.specs.declared.board.Board.{Board}
 use Rattle.xa_reactor.specs.declared.limits.Limits.{Limits}
+use Rattle.xa_reactor.specs.declared.limits.Terms.{Terms}
 use Rattle.xa_reactor.specs.Traffic.{Traffic}
-use Rattle.xa_reactor.specs.Turn.{AreDone, AreLimits, AreShared, AreTaken, BreaksOff, Deed, IsShareOf, Lanes, TakesTurn, calls_of, lane_at, rotated, traffic_of}
+use Rattle.xa_reactor.specs.Turn.{AreDone, AreShared, AreTerms, AreTaken, BreaksOff, Deed, IsShareOf, Lanes, TakesTurn, calls_of, lane_at, rotated, traffic_of}
 use Rattle.xa_reactor.specs.handling.Turning.{Deals, Does, ShareEach, TakesSome, turn_of}
 use Rattle.xa_reactor.proofs.DeedLemmas.{deeds_work, done_on}
 use Rattle.xa_reactor.proofs.WorksLemmas.{same_then_works, works_none}
 
 -- these places had their shares, and then one more
-shared_more : (limits : Limits) (now place : ℕ) (places : List ℕ) (deeds more : List Deed) (old mid new : Lanes) → AreShared limits now places deeds old mid
-    → IsShareOf limits now place (lane_at place mid) more (lane_at place new) → AreDone more mid new → AreShared limits now (places ++ place ∷ []) (deeds ++ more) old new
-shared_more limits now place [] deeds more old mid new (none, same) share done =
-    subst (λ (ds : List Deed). AreShared limits now (place ∷ []) (ds ++ more) old new) (sym none)
-    (subst (λ (ls : Lanes). AreShared limits now (place ∷ []) more ls new) same (more, [], new, sym (append-nil more), share, done, (refl, refl)))
-shared_more limits now place (other ∷ places) deeds more old mid new (first, rest, after, are, its, done_first, shared) share done =
-    (first, rest ++ more, after, ap (λ (ds : List Deed). ds ++ more) are ∙ append_assoc first rest more, its, done_first, shared_more limits now place places rest more after mid new shared share done)
+shared_more : (terms : Terms) (place : ℕ) (places : List ℕ) (deeds more : List Deed) (old mid new : Lanes) → AreShared terms places deeds old mid
+    → IsShareOf terms place (lane_at place mid) more (lane_at place new) → AreDone more mid new → AreShared terms (places ++ place ∷ []) (deeds ++ more) old new
+shared_more terms place [] deeds more old mid new (none, same) share done =
+    subst (λ (ds : List Deed). AreShared terms (place ∷ []) (ds ++ more) old new) (sym none)
+    (subst (λ (ls : Lanes). AreShared terms (place ∷ []) more ls new) same (more, [], new, sym (append-nil more), share, done, (refl, refl)))
+shared_more terms place (other ∷ places) deeds more old mid new (first, rest, after, are, its, done_first, shared) share done =
+    (first, rest ++ more, after, ap (λ (ds : List Deed). ds ++ more) are ∙ append_assoc first rest more, its, done_first, shared_more terms place places rest more after mid new shared share done)
 
 -- the places round, and one more
 pub rotated_more : (first count place : ℕ) → place ≡ (first + count) % 64 → rotated first (count + 1) ≡ rotated first count ++ place ∷ []
@@ -31,19 +34,19 @@ rotated_none first = refl
 
 module _ {R N : Type 0} (custody : R → Custody) (done : N → Option (List Traffic)) (is_open : (s : R) → (custody s).sound → IsTrue (custody s).is_open) where
   -- none has had its share yet
-  pub each_none : (limits : Limits) (now : ℕ) (lanes : Lanes) (front : Front R) (network : N)
-      → Does custody done (λ deeds. AreShared limits now [] deeds lanes lanes) lanes lanes front front network network
-  each_none limits now lanes front network =
+  pub each_none : (terms : Terms) (lanes : Lanes) (front : Front R) (network : N)
+      → Does custody done (λ deeds. AreShared terms [] deeds lanes lanes) lanes lanes front front network network
+  each_none terms lanes front network =
       record { deeds = []; are_so = (refl, refl); are_done = refl; works = works_none custody is_open done front network }
 
   -- one more has it
-  pub each_more : (limits : Limits) (now place : ℕ) (places : List ℕ) (old mid new : Lanes) (front_old front_mid front_new : Front R) (network_old network_mid network_new : N)
-      → Does custody done (λ deeds. AreShared limits now places deeds old mid) old mid front_old front_mid network_old network_mid
-      → Does custody done (λ deeds. IsShareOf limits now place (lane_at place mid) deeds (lane_at place new)) mid new front_mid front_new network_mid network_new
-      → Does custody done (λ deeds. AreShared limits now (places ++ place ∷ []) deeds old new) old new front_old front_new network_old network_new
-  each_more limits now place places old mid new front_old front_mid front_new network_old network_mid network_new first later = record {
+  pub each_more : (terms : Terms) (place : ℕ) (places : List ℕ) (old mid new : Lanes) (front_old front_mid front_new : Front R) (network_old network_mid network_new : N)
+      → Does custody done (λ deeds. AreShared terms places deeds old mid) old mid front_old front_mid network_old network_mid
+      → Does custody done (λ deeds. IsShareOf terms place (lane_at place mid) deeds (lane_at place new)) mid new front_mid front_new network_mid network_new
+      → Does custody done (λ deeds. AreShared terms (places ++ place ∷ []) deeds old new) old new front_old front_new network_old network_new
+  each_more terms place places old mid new front_old front_mid front_new network_old network_mid network_new first later = record {
     deeds = first.deeds ++ later.deeds;
-    are_so = shared_more limits now place places first.deeds later.deeds old mid new first.are_so later.are_so later.are_done;
+    are_so = shared_more terms place places first.deeds later.deeds old mid new first.are_so later.are_so later.are_done;
     are_done = done_on first.deeds later.deeds old mid new first.are_done later.are_done;
     works =
         deeds_work custody done is_open first.deeds later.deeds front_old front_mid front_new network_old network_mid network_new first.works later.works;
@@ -66,11 +69,11 @@ module _ {R N : Type 0} (custody : R → Custody) (done : N → Option (List Tra
   taken_broken board now old new front_old front_new network_old network_new taken = record { deeds = taken.deeds; are_done = taken.are_done; works = taken.works }
 
   -- connections were taken, and each place had its share
-  pub dealt : (limits : Limits) (board : Board) (now first : ℕ) (old mid new : Lanes) (front_old front_mid front_new : Front R) (network_old network_mid network_new : N)
-      → TakesSome custody done board now old mid front_old front_mid network_old network_mid
-      → Does custody done (λ deeds. AreShared limits now (rotated first 64) deeds mid new) mid new front_mid front_new network_mid network_new
-      → Deals custody done limits board now old new front_old front_new network_old network_new
-  dealt limits board now first old mid new front_old front_mid front_new network_old network_mid network_new taken shared = record {
+  pub dealt : (terms : Terms) (board : Board) (first : ℕ) (old mid new : Lanes) (front_old front_mid front_new : Front R) (network_old network_mid network_new : N)
+      → TakesSome custody done board (as_nanos terms.began) old mid front_old front_mid network_old network_mid
+      → Does custody done (λ deeds. AreShared terms (rotated first 64) deeds mid new) mid new front_mid front_new network_mid network_new
+      → Deals custody done terms board old new front_old front_new network_old network_new
+  dealt terms board first old mid new front_old front_mid front_new network_old network_mid network_new taken shared = record {
     first = first;
     taken = taken.deeds;
     shared = shared.deeds;
@@ -79,25 +82,24 @@ module _ {R N : Type 0} (custody : R → Custody) (done : N → Option (List Tra
         deeds_work custody done is_open taken.deeds shared.deeds front_old front_mid front_new network_old network_mid network_new taken.works shared.works;
   }
 
-  pub deals_by : {X E : Type 0} (result : Result X E) (limits : Limits) (board : Board) (now first : ℕ) (old mid new : Lanes) (front_old front_mid front_new : Front R) (network_old network_mid network_new : N)
-      → TakesSome custody done board now old mid front_old front_mid network_old network_mid
-      → ShareEach custody done result limits now (rotated first 64) mid new front_mid front_new network_mid network_new
-      → MatchResult result (λ _. Deals custody done limits board now old new front_old front_new network_old network_new)
+  pub deals_by : {X E : Type 0} (result : Result X E) (terms : Terms) (board : Board) (first : ℕ) (old mid new : Lanes) (front_old front_mid front_new : Front R) (network_old network_mid network_new : N)
+      → TakesSome custody done board (as_nanos terms.began) old mid front_old front_mid network_old network_mid
+      → ShareEach custody done result terms (rotated first 64) mid new front_mid front_new network_mid network_new
+      → MatchResult result (λ _. Deals custody done terms board old new front_old front_new network_old network_new)
       (λ _. BreaksOff custody done old new front_old front_new network_old network_new)
-  deals_by (Ok goes) limits board now first old mid new front_old front_mid front_new network_old network_mid network_new taken shared =
-      dealt limits board now first old mid new front_old front_mid front_new network_old network_mid network_new taken shared
-  deals_by (Err error) limits board now first old mid new front_old front_mid front_new network_old network_mid network_new taken broken =
-      broken_after (λ deeds. AreTaken board now deeds old mid) old mid new front_old front_mid front_new network_old network_mid network_new taken broken
+  deals_by (Ok goes) terms board first old mid new front_old front_mid front_new network_old network_mid network_new taken shared =
+      dealt terms board first old mid new front_old front_mid front_new network_old network_mid network_new taken shared
+  deals_by (Err error) terms board first old mid new front_old front_mid front_new network_old network_mid network_new taken broken =
+      broken_after (λ deeds. AreTaken board (as_nanos terms.began) deeds old mid) old mid new front_old front_mid front_new network_old network_mid network_new taken broken
 
   -- nothing was done at the network before
-  pub turned : (limits set : Limits) (leaves : Bool) (board : Board) (now : ℕ) (old new : Lanes) (front_old front_new : Front R) (network_old network_mid network_new : N) → AreLimits limits set leaves
-      → done network_mid ≡ done network_old → Deals custody done limits board now old new front_old front_new network_mid network_new
-      → TakesTurn custody done board now set leaves old new front_old front_new network_old network_new
-  turned limits set leaves board now old new front_old front_new network_old network_mid network_new are same deals = record {
-    turn = turn_of limits board now deals.first deals.taken deals.shared;
+  pub turned : (terms : Terms) (now : Duration) (set : Limits) (leaving : Option Duration) (board : Board) (old new : Lanes) (front_old front_new : Front R) (network_old network_mid network_new : N) → AreTerms terms now set leaving
+      → done network_mid ≡ done network_old → Deals custody done terms board old new front_old front_new network_mid network_new
+      → TakesTurn custody done board now set leaving old new front_old front_new network_old network_new
+  turned terms now set leaving board old new front_old front_new network_old network_mid network_new are same deals = record {
+    turn = turn_of terms board deals.first deals.taken deals.shared;
     told = refl;
-    at = refl;
-    limits = are;
+    terms = are;
     is_turn = deals.is_turn;
     works =
         same_then_works custody is_open done (calls_of (deals.taken ++ deals.shared)) (traffic_of (deals.taken ++ deals.shared)) front_old front_new network_old network_mid network_new same

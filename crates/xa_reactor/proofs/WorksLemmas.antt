@@ -1,17 +1,12 @@
 -- What a front makes and what goes over a network, one after another.
 use Rattle.std.proofs.Common.{◌≡◌, List, [], ◌∷◌, ◌++◌, Option, IsTrue, sym, subst}
 use Rattle.xa_records.specs.Keeper.{Custody}
-use Rattle.xa_server.specs.Alone as messages
 use Rattle.xa_server.specs.declared.event.Event.{Event}
 use Rattle.xa_server.specs.declared.event.Outcome.{Outcome}
 use Rattle.xa_server.specs.declared.front.Front.{Front}
-use Rattle.xa_server.specs.declared.replies.Reply.{Reply}
-use Rattle.xa_server.specs.Front.{IsPlayed, front_is_sound, front_state, messages_cut, replies_given}
-use Rattle.xa_server.specs.Serving.{HaveServed, PlaysServed}
+use Rattle.xa_server.specs.Front.{IsPlayed, front_is_sound}
 use Rattle.xa_server.specs.Transfers.{Grows}
-use Rattle.xa_server.proofs.PlayLemmas.{cut_on, given_on, none_played, played_on, plays_on}
-use Rattle.xa_server.proofs.PlayedLemmas.{HavePlayed, none_played_served, played_of}
-use Rattle.xa_server.proofs.ServingLemmas.{served_on}
+use Rattle.xa_server.proofs.PlayLemmas.{none_played, played_on}
 use Rattle.xa_server.proofs.TransferLemmas.{grows_none, grows_trans}
 use Rattle.xa_reactor.specs.Step.{Calls, Keeps, Works, joined, no_calls}
 use Rattle.xa_reactor.specs.Traffic.{Traffic}
@@ -33,41 +28,13 @@ same_then_grows {A} a b c xs same grows = subst (λ (x : Option (List A)). Grows
 
 -- ---- calls after others
 
-module _ {R : Type 0} (custody : R → Custody) where
-  have_played : (old new : Front R) (events : List Event) (outcomes : List Outcome) → PlaysServed custody old new events outcomes → HavePlayed custody old new events outcomes
-  have_played old new events outcomes served = (served.nexts, served.plays, (served.served.servers, served.served.each))
-
-  have_more : (old mid new : Front R) (events others : List Event) (outcomes rest : List Outcome) → HavePlayed custody old mid events outcomes
-      → HavePlayed custody mid new others rest → HavePlayed custody old new (events ++ others) (outcomes ++ rest)
-  have_more old mid new events others outcomes rest (nexts, plays, served) (more, later, after) = (
-    nexts ++ more,
-    plays_on events others outcomes rest nexts more old.lines mid.lines new.lines plays later,
-    subst (λ (ms : List messages.Event). HaveServed custody old.server ms (replies_given (nexts ++ more) (outcomes ++ rest)) new.server)
-        (sym (cut_on events others outcomes nexts more old.lines mid.lines plays))
-        (subst (λ (rs : List Reply). HaveServed custody old.server (messages_cut events nexts ++ messages_cut others more) rs new.server)
-        (sym (given_on events outcomes rest nexts more old.lines mid.lines plays))
-        (served_on custody old.server mid.server new.server (messages_cut events nexts) (messages_cut others more) (replies_given nexts outcomes) (replies_given more rest)
-        served after)),
-  )
-
 module _ {R : Type 0} (custody : R → Custody) (is_open : (s : R) → (custody s).sound → IsTrue (custody s).is_open) where
-  -- no events were served, and events after others
-  pub served_none : (front : Front R) → PlaysServed custody front front [] []
-  served_none front = played_of custody is_open front front [] [] (none_played_served custody front)
-
-  pub served_more : (old mid new : Front R) (events others : List Event) (outcomes rest : List Outcome) → PlaysServed custody old mid events outcomes
-      → PlaysServed custody mid new others rest → PlaysServed custody old new (events ++ others) (outcomes ++ rest)
-  served_more old mid new events others outcomes rest first later =
-      played_of custody is_open old new (events ++ others) (outcomes ++ rest)
-      (have_more custody old mid new events others outcomes rest (have_played custody old mid events outcomes first) (have_played custody mid new others rest later))
-
   -- ---- a front
 
   -- it made no call
   pub makes_none : (front : Front R) → Makes custody no_calls front front
   makes_none front = record {
-    played = none_played (front_is_sound custody front) (front_state custody front);
-    served = served_none front;
+    played = none_played custody is_open front;
     keeps = keeps_none custody front;
   }
 
@@ -79,9 +46,7 @@ module _ {R : Type 0} (custody : R → Custody) (is_open : (s : R) → (custody 
   pub makes_more : (old mid new : Front R) (calls more : Calls) → Makes custody calls old mid → Makes custody more mid new → Makes custody (joined calls more) old new
   makes_more old mid new calls more first later = record {
     played =
-        played_on (front_is_sound custody new) (front_is_sound custody mid) (front_state custody old) (front_state custody mid) (front_state custody new)
-        calls.events more.events calls.outcomes more.outcomes later.keeps.sound first.played later.played;
-    served = served_more old mid new calls.events more.events calls.outcomes more.outcomes first.served later.served;
+        played_on custody is_open old mid new calls.events more.events calls.outcomes more.outcomes first.played later.played;
     keeps = keeps_more custody old mid new first.keeps later.keeps;
   }
 
@@ -91,8 +56,7 @@ module _ {R : Type 0} (custody : R → Custody) (is_open : (s : R) → (custody 
     -- they did nothing
     pub works_none : (front : Front R) (network : N) → Works custody done no_calls [] front front network network
     works_none front network = record {
-      played = none_played (front_is_sound custody front) (front_state custody front);
-      served = served_none front;
+      played = none_played custody is_open front;
       keeps = keeps_none custody front;
       grows = grows_none (done network);
     }
@@ -103,8 +67,7 @@ module _ {R : Type 0} (custody : R → Custody) (is_open : (s : R) → (custody 
     works_same front_old front_new network_old network_new same unchanged =
         subst (λ (f : Front R). Works custody done no_calls [] front_old f network_old network_new) (sym same)
         (record {
-          played = none_played (front_is_sound custody front_old) (front_state custody front_old);
-          served = served_none front_old;
+          played = none_played custody is_open front_old;
           keeps = keeps_none custody front_old;
           grows = grows_same (done network_old) (done network_new) unchanged;
         })
@@ -113,7 +76,7 @@ module _ {R : Type 0} (custody : R → Custody) (is_open : (s : R) → (custody 
     pub works_of : (calls : Calls) (traffic : List Traffic) (front_old front_new : Front R) (network_old network_new : N) → Makes custody calls front_old front_new
         → Grows (done network_old) (done network_new) traffic → Works custody done calls traffic front_old front_new network_old network_new
     works_of calls traffic front_old front_new network_old network_new makes grows =
-        record { played = makes.played; served = makes.served; keeps = makes.keeps; grows = grows }
+        record { played = makes.played; keeps = makes.keeps; grows = grows }
 
     -- they did this, and more after it
     pub works_more : (calls more : Calls) (traffic later : List Traffic) (front_old front_mid front_new : Front R) (network_old network_mid network_new : N)
@@ -122,9 +85,8 @@ module _ {R : Type 0} (custody : R → Custody) (is_open : (s : R) → (custody 
         → Works custody done (joined calls more) (traffic ++ later) front_old front_new network_old network_new
     works_more calls more traffic later front_old front_mid front_new network_old network_mid network_new sound first after = record {
       played =
-          played_on (front_is_sound custody front_new) (front_is_sound custody front_mid) (front_state custody front_old) (front_state custody front_mid)
-          (front_state custody front_new) calls.events more.events calls.outcomes more.outcomes sound first.played after.played;
-      served = served_more front_old front_mid front_new calls.events more.events calls.outcomes more.outcomes first.served after.served;
+          played_on custody is_open front_old front_mid front_new calls.events more.events calls.outcomes more.outcomes first.played
+          after.played;
       keeps = keeps_more custody front_old front_mid front_new first.keeps after.keeps;
       grows = grows_trans (done network_old) (done network_mid) (done network_new) traffic later first.grows after.grows;
     }
@@ -135,7 +97,6 @@ module _ {R : Type 0} (custody : R → Custody) (is_open : (s : R) → (custody 
         → Works custody done calls traffic front_old front_new network_old network_new
     works_then_same calls traffic front_old front_new network_old network_mid network_new works same = record {
       played = works.played;
-      served = works.served;
       keeps = works.keeps;
       grows = grows_then_same (done network_old) (done network_mid) (done network_new) traffic works.grows same;
     }
@@ -145,13 +106,15 @@ module _ {R : Type 0} (custody : R → Custody) (is_open : (s : R) → (custody 
         → Works custody done calls traffic front_old front_new network_old network_new
     same_then_works calls traffic front_old front_new network_old network_mid network_new same works = record {
       played = works.played;
-      served = works.served;
       keeps = works.keeps;
       grows = same_then_grows (done network_old) (done network_mid) (done network_new) traffic same works.grows;
     }
 
 -- a front made one call, by `Front::step`
 pub makes_one : {R : Type 0} (custody : R → Custody) (e : Event) (o : Outcome) (old new : Front R)
-    → IsPlayed (front_is_sound custody new) (front_state custody old) (front_state custody new) (e ∷ []) (o ∷ []) → PlaysServed custody old new (e ∷ []) (o ∷ [])
-    → Keeps custody old new → Makes custody (record { events = e ∷ []; outcomes = o ∷ [] }) old new
-makes_one custody e o old new played served keeps = record { played = played; served = served; keeps = keeps }
+    → IsPlayed custody old new (e ∷ []) (o ∷ []) → Makes custody (record { events = e ∷ []; outcomes = o ∷ [] }) old new
+makes_one custody e o old new played =
+    let keeper = played.served.keeper in
+    let keeps : Keeps custody old new =
+    record { sound = keeper.sound; clean = keeper.clean; was_open = keeper.was_open; stays = keeper.stays } in
+    record { played = played; keeps = keeps }

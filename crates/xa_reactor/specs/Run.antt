@@ -1,6 +1,8 @@
 -- The run of a reactor: turns, one after another; and what they come to for each connection.
-use Rattle.std.specs.Prelude.{◌≡◌, ◌≢◌, ◌⊎◌, ℕ, List, [], ◌∷◌, ◌++◌, map, Option, Some, None, if◌then◌else◌, nat_eq}
-use Rattle.std.specs.List.{flat_map}
+use Rattle.std.specs.Prelude.{◌≡◌, ◌≢◌, ◌⊎◌, ℕ, true, List, [], ◌∷◌, ◌++◌, map, Option, Some, None, if◌then◌else◌}
+use Rattle.std.specs.Prelude.{nat_eq}
+use Rattle.std.specs.List.{Contains, flat_map}
+use Rattle.std.specs.declared.time.Duration.{Duration}
 use Rattle.xa_http.specs.declared.fault.SessionFault.{SessionFault}
 use Rattle.xa_http.specs.declared.message.Message.{Message}
 use Rattle.xa_http.specs.declared.session.Next.{Next}
@@ -35,7 +37,7 @@ AreTurns (turn ∷ turns) old new = (mid : Lanes) × IsTurn turn old mid × AreT
 
 -- Connections were served at once, turn after turn; `begun` was done of a turn that was broken off. All of their
 -- messages, in the order in which they were cut off, are one run of the server, with its headline beside refusals and
--- its work (`Works`, by `IsPlayed` and `PlaysServed`). Nothing else was read or written at any place.
+-- its work (`Works`, by `IsPlayed`). Nothing else was read or written at any place.
 pub record IsServedAtOnce {R N : Type 0} (custody : R → Custody) (done : N → Option (List Traffic))
     (front_old front_new : Front R) (network_old network_new : N) : Type 0 where
   pub turns : List Turn
@@ -47,11 +49,17 @@ pub record IsServedAtOnce {R N : Type 0} (custody : R → Custody) (done : N →
   pub works : Works custody done (calls_of (deeds_of turns ++ begun)) (traffic_of (deeds_of turns ++ begun)) front_old
       front_new network_old network_new
 
--- connections were served at once, turn after turn, until all had ended
+-- the program was told to end: when a turn began that was known
+abbrev pub AreToldToEnd : List Turn → Type 0
+AreToldToEnd turns = (turn : Turn) × Contains turns turn × (turn.board.end ≡ true)
+
+-- connections were served at once, turn after turn, until all had ended; and the program was told to end, or had been
+-- before
 pub record IsServedWhole {R N : Type 0} (custody : R → Custody) (done : N → Option (List Traffic))
-    (front_old front_new : Front R) (network_old network_new : N) : Type 0 where
+    (leaving : Option Duration) (front_old front_new : Front R) (network_old network_new : N) : Type 0 where
   pub turns : List Turn
   pub are_turns : AreTurns turns no_lanes no_lanes
+  pub told : (leaving ≢ None) ⊎ AreToldToEnd turns
   pub works : Works custody done (calls_of (deeds_of turns)) (traffic_of (deeds_of turns)) front_old front_new
       network_old network_new
 
@@ -108,8 +116,8 @@ pub record Sits (conn : Conn) (deeds : List Deed) (exchanges : List (Message × 
   pub in_line : IsOpen conn lines_new after
   -- replies go out whole, once and in order: what was under way before, and the replies since, are what was sent since
   -- and what is under way
-  pub sent : was.outgoing ++ flat_map answer_bytes (answers_to conn deeds)
-      ≡ sent_at conn.number (traffic_of deeds) ++ lane.outgoing
+  pub sent : was.outgoing.left ++ flat_map answer_bytes (answers_to conn deeds)
+      ≡ sent_at conn.number (traffic_of deeds) ++ lane.outgoing.left
   -- the messages are the first of its stream: of what it held before and of the bytes that came to it since; and it
   -- holds the rest
   pub cuts : Cuts (fed stream (read_on conn deeds)) (map (λ exchange. exchange.0) exchanges) rest

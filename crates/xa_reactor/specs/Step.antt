@@ -1,5 +1,7 @@
 -- A step: what is done for one connection in its share of a turn.
-use Rattle.std.specs.Prelude.{◌≡◌, ◌≢◌, ◌⊎◌, ℕ, Bool, true, List, [], ◌∷◌, ◌++◌, Option, Some, None, Result, Ok, Err}
+use Rattle.std.specs.Prelude.{◌≡◌, ◌≢◌, ◌⊎◌, ◌≤◌, ℕ, Bool, true, List, [], ◌∷◌, ◌++◌, length}
+use Rattle.std.specs.Prelude.{Option, Some, None, Result, Ok, Err}
+use Rattle.std.specs.Duration.{as_nanos}
 use Rattle.std.specs.List.{Contains}
 use Rattle.xa_http.specs.Stream.{Stream}
 use Rattle.xa_records.specs.Keeper.{Custody}
@@ -9,19 +11,20 @@ use Rattle.xa_server.specs.declared.event.Event.TheVariants as event
 use Rattle.xa_server.specs.declared.event.Outcome.{Outcome}
 use Rattle.xa_server.specs.declared.event.Outcome.TheVariants as outcome
 use Rattle.xa_server.specs.declared.front.Front.{Front}
+use Rattle.xa_server.specs.declared.holding.Holding.TheVariants as holding
 use Rattle.xa_server.specs.declared.lines.Conn.{Conn}
-use Rattle.xa_server.specs.Front.{IsPlayed, front_is_clean, front_is_open, front_is_sound, front_state}
+use Rattle.xa_server.specs.Front.{IsPlayed, front_is_clean, front_is_open, front_is_sound}
 use Rattle.xa_server.specs.Lines.{IsOpen, Lines, with_line}
-use Rattle.xa_server.specs.Serving.{PlaysServed}
 use Rattle.xa_server.specs.Transfers.{Grows}
 use Rattle.xa_reactor.specs.declared.lane.Lane.{Lane}
+use Rattle.xa_reactor.specs.declared.lane.Share.{Share}
 use Rattle.xa_reactor.specs.declared.limits.Stage.{Stage}
-use Rattle.xa_reactor.specs.declared.limits.Stage.TheVariants.{Parting}
+use Rattle.xa_reactor.specs.declared.limits.Stage.TheVariants.{Outgoing, Parting}
 use Rattle.xa_reactor.specs.declared.progress.Progress.{Progress}
 use Rattle.xa_reactor.specs.declared.progress.Progress.TheVariants.{Waits, Goes, Ends}
-use Rattle.xa_reactor.specs.declared.progress.Reason.TheVariants.{Ended, Failed, Late, DrivenOut, WantOfMemory}
-use Rattle.xa_reactor.specs.Sending.{AreSent}
-use Rattle.xa_reactor.specs.Timing.{KeepsTime}
+use Rattle.xa_reactor.specs.declared.progress.Reason.TheVariants.{Ended, Failed, Idle, Late, DrivenOut, WantOfMemory}
+use Rattle.xa_reactor.specs.Sending.{AreSent, IsHeldOn, UnderWay, then_under_way}
+use Rattle.xa_reactor.specs.Timing.{KeepsMark, KeepsTime}
 use Rattle.xa_reactor.specs.Traffic.{AreAt, HasFailedIn, Traffic, received, received_at, sent_at}
 
 -- calls of a front, and what each gave
@@ -50,16 +53,29 @@ IsAsked conn answer (event.Answer other moment ∷ []) (outcome.Answered (Ok giv
 IsAsked conn answer (event.Answer other moment ∷ []) (outcome.Answered (Err _) ∷ []) = (other ≡ conn) × (answer ≡ None)
 IsAsked conn answer _ _ = ⊥
 
--- a step: what was read and written at the place of a connection; what was read, of which what came to its stream;
--- and what it was answered after that
+-- a step: at which time it was taken, behind the answer if there was one; whether a connection ends with the reply that
+-- it is sent then; what was read and written at the place of a connection; what was read, of which what came to its
+-- stream; and what it was answered after that
 pub record Step : Type 0 where
   pub conn : Conn
+  pub at : ℕ
+  pub parts : Bool
   pub traffic : List Traffic
   pub read : List ℕ
   pub dropped : List ℕ
   pub answer : Option Answer
   pub fed : Calls
   pub asked : Calls
+
+-- why a connection is parted with behind a reply: that is its last; the program ends; or its session has ended
+abbrev pub PartsFor : Bool → Bool → Lane → Type 0
+PartsFor last ends lane = (last ≡ true) ⊎ ((ends ≡ true) ⊎ (lane.holding ≡ holding.Ended))
+
+-- a connection was parted with behind a reply that was sent whole
+pub record PartsBehind (step : Step) (was : UnderWay) (new : Lane) : Type 0 where
+  pub whole : new.outgoing.left ≡ []
+  pub reply : (was.left ≢ []) ⊎ (step.answer ≢ None)
+  pub why : PartsFor (then_under_way was step.answer).last step.parts new
 
 -- what a step does to its connection
 pub record IsStepOn (step : Step) (old new : Lane) : Type 0 where
@@ -68,15 +84,21 @@ pub record IsStepOn (step : Step) (old new : Lane) : Type 0 where
   pub asked : IsAsked step.conn step.answer step.asked.events step.asked.outcomes
   pub received : received_at step.conn.number step.traffic ≡ step.read ++ step.dropped
   -- replies are sent whole, once and in order, each before the next message is answered
-  pub sent : AreSent old.outgoing step.answer (sent_at step.conn.number step.traffic) new.outgoing
+  pub sent : AreSent old.outgoing.left step.answer (sent_at step.conn.number step.traffic) new.outgoing.left
+  -- a reply is held until all of it is sent
+  pub held : IsHeldOn (then_under_way old.outgoing step.answer) new.outgoing
   -- nothing is read unless all that was under way is sent: so a peer that takes no reply is read from no more
   pub unread : (received_at step.conn.number step.traffic ≡ [])
-      ⊎ ((more : List ℕ) × (sent_at step.conn.number step.traffic ≡ old.outgoing ++ more))
+      ⊎ ((more : List ℕ) × (sent_at step.conn.number step.traffic ≡ old.outgoing.left ++ more))
   -- what comes behind the last reply is dropped
   pub parted : old.stage ≡ Parting → step.read ≡ []
-  -- it is parted with only behind a reply that was sent whole
-  pub parts : new.stage ≡ Parting
-      → (old.stage ≡ Parting) ⊎ ((new.outgoing ≡ []) × ((old.outgoing ≢ []) ⊎ (step.answer ≢ None)))
+  -- it is parted with only behind a reply that was sent whole, and was its last
+  pub parts : new.stage ≡ Parting → (old.stage ≡ Parting) ⊎ PartsBehind step old.outgoing new
+  -- its time is counted anew only if something else is waited for
+  pub time : KeepsTime step.at step.answer old new
+  -- and that in which 65,536 bytes of a reply are taken only with a reply, or if so many were
+  pub marks : new.stage ≡ Outgoing
+      → KeepsMark step.at (length (sent_at step.conn.number step.traffic)) step.answer old new
   -- no other place was read from or written to
   pub there : AreAt step.conn.number step.traffic
 
@@ -92,9 +114,7 @@ pub record Keeps {R : Type 0} (custody : R → Custody) (front_old front_new : F
 -- a front made these calls, and a network did these things
 pub record Works {R N : Type 0} (custody : R → Custody) (done : N → Option (List Traffic)) (calls : Calls)
     (traffic : List Traffic) (front_old front_new : Front R) (network_old network_new : N) : Type 0 where
-  pub played : IsPlayed (front_is_sound custody front_new) (front_state custody front_old)
-      (front_state custody front_new) calls.events calls.outcomes
-  pub served : PlaysServed custody front_old front_new calls.events calls.outcomes
+  pub played : IsPlayed custody front_old front_new calls.events calls.outcomes
   pub keeps : Keeps custody front_old front_new
   pub grows : Grows (done network_old) (done network_new) traffic
 
@@ -110,9 +130,10 @@ abbrev pub IsEnd : ℕ → List Traffic → Lane → Progress → Type 0
 IsEnd place traffic lane Waits = Unit {0}
 IsEnd place traffic lane Goes = Unit {0}
 IsEnd place traffic lane (Ends Ended) =
-    (Contains traffic (received place []) × (lane.outgoing ≡ [])) ⊎ (lane.stage ≡ Parting)
+    (Contains traffic (received place []) × (lane.outgoing.left ≡ [])) ⊎ (lane.stage ≡ Parting)
 IsEnd place traffic lane (Ends Failed) = HasFailedIn traffic
 IsEnd place traffic lane (Ends WantOfMemory) = Unit {0}
+IsEnd place traffic lane (Ends Idle) = ⊥
 IsEnd place traffic lane (Ends Late) = ⊥
 IsEnd place traffic lane (Ends DrivenOut) = ⊥
 
@@ -133,16 +154,17 @@ EndsAs place traffic lane (Err error) = Unit {0}
 
 -- a connection had its share: that is one step of it, in which a message is answered only if there was room for its
 -- reply, and nothing else
-pub record IsStep {R N E : Type 0} (custody : R → Custody) (done : N → Option (List Traffic)) (conn : Conn) (now : ℕ)
-    (has_room : Bool) (result : Result Progress E) (old new : Lane) (front_old front_new : Front R)
-    (network_old network_new : N) : Type 0 where
+pub record IsStep {R N E : Type 0} (custody : R → Custody) (done : N → Option (List Traffic)) (share : Share)
+    (result : Result Progress E) (old new : Lane) (front_old front_new : Front R) (network_old network_new : N)
+    : Type 0 where
   pub step : Step
-  pub its : step.conn ≡ conn
+  pub its : step.conn ≡ share.conn
+  pub later : as_nanos share.now ≤ step.at
+  pub parts : step.parts ≡ share.parts
   pub is_step : IsStepOn step old new
-  pub room : (step.answer ≡ None) ⊎ (has_room ≡ true)
+  pub room : (step.answer ≡ None) ⊎ (share.has_room ≡ true)
   pub ends : EndsAs step.conn.number step.traffic new result
   pub drops : DropsAs step.dropped new.stage result
-  pub time : KeepsTime now step.answer old new
   pub works : Works custody done (joined step.fed step.asked) step.traffic front_old front_new network_old network_new
 
 -- a connection that is open stays open, and no other changes

@@ -1,9 +1,10 @@
 -- A turn: connections are opened, each that is open has one share, and some are closed.
-use Rattle.std.specs.Prelude.{◌≡◌, ◌⊎◌, ◌≤◌, ◌+◌, ◌-◌, ◌%◌, ℕ, zero, suc, Bool, true, false, List, [], ◌∷◌, ◌++◌}
+use Rattle.std.specs.Prelude.{◌≡◌, ◌≢◌, ◌⊎◌, ◌≤◌, ◌+◌, ◌-◌, ◌%◌, ℕ, zero, suc, Bool, true, false, List, [], ◌∷◌, ◌++◌}
 use Rattle.std.specs.Prelude.{length, min, replicate, slice_index_or, slice_set, Option, Some, None, Ok, option_map}
-use Rattle.std.specs.Prelude.{if◌then◌else◌}
+use Rattle.std.specs.Prelude.{if◌then◌else◌, is_some}
 use Rattle.std.specs.Duration.{as_nanos}
 use Rattle.std.specs.List.{Contains, flat_map}
+use Rattle.std.specs.declared.time.Duration.{Duration}
 use Rattle.xa_records.specs.Keeper.{Custody}
 use Rattle.xa_server.specs.declared.event.Event.TheVariants as event
 use Rattle.xa_server.specs.declared.event.Outcome.TheVariants as outcome
@@ -14,11 +15,13 @@ use Rattle.xa_reactor.specs.declared.board.Board.{Board}
 use Rattle.xa_reactor.specs.declared.board.Ready.{Ready}
 use Rattle.xa_reactor.specs.declared.lane.Lane.{Lane}
 use Rattle.xa_reactor.specs.declared.limits.Limits.{Limits}
-use Rattle.xa_reactor.specs.declared.limits.Stage.TheVariants.{Parting}
+use Rattle.xa_reactor.specs.declared.limits.Stage.TheVariants.{Parting, Quiet}
+use Rattle.xa_reactor.specs.declared.limits.Terms.{Terms}
 use Rattle.xa_reactor.specs.declared.progress.Reason.{Reason}
-use Rattle.xa_reactor.specs.declared.progress.Reason.TheVariants.{Ended, Failed, Late, DrivenOut, WantOfMemory}
+use Rattle.xa_reactor.specs.declared.progress.Reason.TheVariants.{Ended, Failed, Idle, Late, DrivenOut, WantOfMemory}
+use Rattle.xa_reactor.specs.Sending.{none_under_way}
 use Rattle.xa_reactor.specs.Step.{Calls, IsStepOn, Step, Works, no_calls, joined}
-use Rattle.xa_reactor.specs.Timing.{IsFresh, IsLate, KeepsTime}
+use Rattle.xa_reactor.specs.Timing.{IsFresh, IsLate, IsParted}
 use Rattle.xa_reactor.specs.Traffic.{HasFailedIn, Traffic, received, seated, vacated}
 
 -- ---- places
@@ -35,12 +38,12 @@ no_lanes = replicate 64 None
 abbrev pub lane_at : ℕ → Lanes → Option Lane
 lane_at place lanes = slice_index_or lanes place None
 
--- how many bytes are under way to a connection, if it is open
+-- how many bytes are held for the reply to a connection, if it is open
 abbrev pub bytes_of : Option Lane → ℕ
 bytes_of None = 0
-bytes_of (Some lane) = length lane.outgoing
+bytes_of (Some lane) = lane.outgoing.held
 
--- how many bytes of replies are under way
+-- how many bytes are held for the replies that are under way
 abbrev pub under_way : Lanes → ℕ
 under_way [] = 0
 under_way (lane ∷ lanes) = bytes_of lane + under_way lanes
@@ -94,10 +97,10 @@ abbrev pub traffic_of : List Deed → List Traffic
 traffic_of deeds = flat_map traffic_in deeds
 
 -- What a deed does to the connections: one is opened where none is; one has its share, in which a message is answered
--- only if at most 32 MiB of replies are under way; or one is closed. No other is touched.
+-- only if at most 32 MiB of replies are held; or one is closed. No other is touched.
 abbrev pub IsDone : Deed → Lanes → Lanes → Type 0
 IsDone (opens conn) old new =
-    (lane : Lane) × (lane_at conn.number old ≡ None) × (lane.outgoing ≡ [])
+    (lane : Lane) × (lane_at conn.number old ≡ None) × (lane.outgoing ≡ none_under_way)
     × (new ≡ slice_set old conn.number (Some lane))
 IsDone (steps step) old new =
     (was is : Lane) × (lane_at step.conn.number old ≡ Some was) × IsStepOn step was is
@@ -156,26 +159,34 @@ AreTaken board now _ old new = ⊥
 -- ---- shares
 
 -- why a connection was closed behind a step: its stream has ended and nothing is under way to its peer, or it was
--- parted with; a read or a write failed; or it is late. Want of memory can't be told from outside
-abbrev pub EndsBy : Limits → ℕ → Step → Lane → Reason → Type 0
-EndsBy limits now step lane Ended =
-    (Contains step.traffic (received step.conn.number []) × (lane.outgoing ≡ [])) ⊎ (lane.stage ≡ Parting)
-EndsBy limits now step lane Failed = HasFailedIn step.traffic
-EndsBy limits now step lane Late = IsLate limits now lane
-EndsBy limits now step lane DrivenOut = ⊥
-EndsBy limits now step lane WantOfMemory = Unit {0}
+-- parted with; a read or a write failed; or it is late, and of one that is idle nothing had come. Want of memory can't
+-- be told from outside
+abbrev pub EndsBy : Terms → Step → Lane → Reason → Type 0
+EndsBy terms step lane Ended =
+    (Contains step.traffic (received step.conn.number []) × (lane.outgoing.left ≡ [])) ⊎ (lane.stage ≡ Parting)
+EndsBy terms step lane Failed = HasFailedIn step.traffic
+EndsBy terms step lane Idle = (lane.stage ≡ Quiet) × IsLate terms lane
+EndsBy terms step lane Late = (lane.stage ≢ Quiet) × IsLate terms lane
+EndsBy terms step lane DrivenOut = ⊥
+EndsBy terms step lane WantOfMemory = Unit {0}
+
+-- a step of a turn: it was taken at no earlier time, and a connection ends with the reply that it is sent as in others
+abbrev pub IsStepIn : Terms → Step → Type 0
+IsStepIn terms step = (as_nanos terms.began ≤ step.at) × (step.parts ≡ terms.parts)
 
 -- What is done for a place in a turn: nothing, if nobody is there; else one step, behind which the connection may be
--- closed. Bytes are dropped only behind the last reply, or for want of memory, by which it is closed.
-abbrev pub IsShareOf : Limits → ℕ → ℕ → Option Lane → List Deed → Option Lane → Type 0
-IsShareOf limits now place None [] None = Unit {0}
-IsShareOf limits now place (Some was) (steps step ∷ []) (Some is) =
-    (step.conn.number ≡ place) × KeepsTime now step.answer was is × ((step.dropped ≡ []) ⊎ (is.stage ≡ Parting))
-IsShareOf limits now place (Some was) (steps step ∷ closes conn reason ∷ []) None =
-    (step.conn.number ≡ place) × (conn ≡ step.conn)
-    × ((is : Lane) × IsStepOn step was is × KeepsTime now step.answer was is × EndsBy limits now step is reason
+-- closed, and is if it was parted with and is late. Bytes are dropped only behind the last reply, or for want of
+-- memory, by which it is closed.
+abbrev pub IsShareOf : Terms → ℕ → Option Lane → List Deed → Option Lane → Type 0
+IsShareOf terms place None [] None = Unit {0}
+IsShareOf terms place (Some was) (steps step ∷ []) (Some is) =
+    (step.conn.number ≡ place) × IsStepIn terms step × IsParted terms is
+    × ((step.dropped ≡ []) ⊎ (is.stage ≡ Parting))
+IsShareOf terms place (Some was) (steps step ∷ closes conn reason ∷ []) None =
+    (step.conn.number ≡ place) × (conn ≡ step.conn) × IsStepIn terms step
+    × ((is : Lane) × IsStepOn step was is × EndsBy terms step is reason
     × ((step.dropped ≡ []) ⊎ ((is.stage ≡ Parting) ⊎ (reason ≡ WantOfMemory))))
-IsShareOf limits now place was deeds is = ⊥
+IsShareOf terms place was deeds is = ⊥
 
 -- the places from one on, round, so many
 unfoldable pub rotated : ℕ → ℕ → List ℕ
@@ -183,21 +194,20 @@ rotated first zero = []
 rotated first (suc count) = rotated first count ++ ((first + count) % 64 ∷ [])
 
 -- these places had their shares, one after another
-abbrev pub AreShared : Limits → ℕ → List ℕ → List Deed → Lanes → Lanes → Type 0
-AreShared limits now [] deeds old new = (deeds ≡ []) × (new ≡ old)
-AreShared limits now (place ∷ places) deeds old new =
+abbrev pub AreShared : Terms → List ℕ → List Deed → Lanes → Lanes → Type 0
+AreShared terms [] deeds old new = (deeds ≡ []) × (new ≡ old)
+AreShared terms (place ∷ places) deeds old new =
     (first rest : List Deed) × (mid : Lanes) × (deeds ≡ first ++ rest)
-    × IsShareOf limits now place (lane_at place old) first (lane_at place mid) × AreDone first old mid
-    × AreShared limits now places rest mid new
+    × IsShareOf terms place (lane_at place old) first (lane_at place mid) × AreDone first old mid
+    × AreShared terms places rest mid new
 
 -- ---- the turn
 
--- a turn: by which limits, when and from which place on it was taken, what was known to be ready when it began, and
--- what was done
+-- a turn: what holds for all its shares, what was known to be ready when it began, from which place on shares were
+-- given, and what was done
 pub record Turn : Type 0 where
-  pub limits : Limits
+  pub terms : Terms
   pub board : Board
-  pub now : ℕ
   pub first : ℕ
   pub taken : List Deed
   pub shared : List Deed
@@ -210,29 +220,46 @@ deeds_in turn = turn.taken ++ turn.shared
 -- places from `first` on
 pub record IsTurn (turn : Turn) (old new : Lanes) : Type 0 where
   pub mid : Lanes
-  pub takes : AreTaken turn.board turn.now turn.taken old mid
+  pub takes : AreTaken turn.board (as_nanos turn.terms.began) turn.taken old mid
   pub opened : AreDone turn.taken old mid
-  pub shares : AreShared turn.limits turn.now (rotated turn.first 64) turn.shared mid new
+  pub shares : AreShared turn.terms (rotated turn.first 64) turn.shared mid new
 
--- the limits that hold once no more connections are taken: for a message a second is waited, if no less
+-- the limits that hold once the program was told to end: for a message's first byte a second is waited, if no less; and
+-- for the rest of it no longer than before, and not for ever
 abbrev pub least_idle : Option ℕ → Option ℕ
 least_idle None = Some 1_000_000_000
 least_idle (Some idle) = Some (min idle 1_000_000_000)
 
+abbrev pub least_message : Option ℕ → Option ℕ
+least_message None = Some 10_000_000_000
+least_message (Some message) = Some message
+
 -- the limits of a turn are those that are set, or those of a program that ends
 pub record AreLimits (limits set : Limits) (leaves : Bool) : Type 0 where
-  pub message : option_map as_nanos limits.message ≡ option_map as_nanos set.message
   pub idle : option_map as_nanos limits.idle
       ≡ (if leaves then least_idle (option_map as_nanos set.idle) else option_map as_nanos set.idle)
+  pub message : option_map as_nanos limits.message
+      ≡ (if leaves then least_message (option_map as_nanos set.message) else option_map as_nanos set.message)
+
+-- a program that was told to end then has waited for a second
+abbrev pub HasLeft : Option Duration → ℕ → Type 0
+HasLeft None now = ⊥
+HasLeft (Some since) now = 1_000_000_000 ≤ now - as_nanos since
+
+-- what holds for the shares of a turn that began then; a connection ends with the reply that it is sent only a second
+-- after the program was told to end
+pub record AreTerms (terms : Terms) (now : Duration) (set : Limits) (leaving : Option Duration) : Type 0 where
+  pub began : terms.began ≡ now
+  pub limits : AreLimits terms.limits set (is_some leaving)
+  pub parts : terms.parts ≡ true → HasLeft leaving (as_nanos now)
 
 module _ {R N : Type 0} (custody : R → Custody) (done : N → Option (List Traffic)) where
-  -- a turn was taken at that time by a front and over a network, of which that was known to be ready
-  pub record TakesTurn (board : Board) (now : ℕ) (set : Limits) (leaves : Bool) (old new : Lanes)
+  -- a turn was taken that began then, by a front and over a network, of which that was known to be ready
+  pub record TakesTurn (board : Board) (now : Duration) (set : Limits) (leaving : Option Duration) (old new : Lanes)
       (front_old front_new : Front R) (network_old network_new : N) : Type 0 where
     pub turn : Turn
     pub told : turn.board ≡ board
-    pub at : turn.now ≡ now
-    pub limits : AreLimits turn.limits set leaves
+    pub terms : AreTerms turn.terms now set leaving
     pub is_turn : IsTurn turn old new
     pub works : Works custody done (calls_of (deeds_in turn)) (traffic_of (deeds_in turn)) front_old front_new
         network_old network_new

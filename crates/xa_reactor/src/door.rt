@@ -15,6 +15,8 @@ pub struct Door {
     failures: u32,
     /// When it is tried again, if it isn't at once.
     again: Option<Duration>,
+    /// Whether no connection is taken any more.
+    pub is_shut: bool,
 }
 
 impl Door {
@@ -23,6 +25,7 @@ impl Door {
         Door {
             failures: 0,
             again: None,
+            is_shut: false,
         }
     }
 

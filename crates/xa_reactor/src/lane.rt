@@ -2,27 +2,28 @@
 ghost use Rattle.std.specs.Prelude.{◌≡◌, ◌≢◌, ◌≤◌, ◌-◌, ℕ, [], true, false};
 ghost use Rattle.std.specs.Duration.{as_nanos};
 ghost use Rattle.xa_server.specs.Front.{front_is_sound};
-ghost use Rattle.xa_reactor.specs.declared.limits.Limits.{Limits};
 ghost use Rattle.xa_reactor.specs.declared.limits.Stage.TheVariants as stages;
+ghost use Rattle.xa_reactor.specs.declared.limits.Terms.{Terms};
+ghost use Rattle.xa_reactor.specs.Sending.{none_under_way};
 ghost use Rattle.xa_reactor.specs.Step.{IsStep, Lasts, Step};
-ghost use Rattle.xa_reactor.specs.Timing.{IsFresh, IsLate};
+ghost use Rattle.xa_reactor.specs.Timing.{IsFresh, IsLate, IsParted};
 ghost use Rattle.xa_reactor.specs.Turn.{EndsBy};
-ghost use Rattle.xa_reactor.specs.handling.Going.{Answers, AnswersAndSends, Asks, EndsAlike, IsGoing};
-ghost use Rattle.xa_reactor.specs.handling.Going.{SendsAndReads, answer_in, answer_of_outcome};
+ghost use Rattle.xa_reactor.specs.handling.Going.{AnswersAndSends, Asks, EndsAlike, IsGoing, SendsAndReads};
+ghost use Rattle.xa_reactor.specs.handling.Going.{TakesAnswer, answer_asked, answer_in, answer_of_outcome};
 
 mod reading;
 mod writing;
 
 use crate::board::Ready;
 use crate::halt::Halt;
-use crate::limits::{Limits, Stage, has_passed, left, slow_limit};
+use crate::limits::{Limits, Stage, Terms, has_passed, left, slow_limit};
 use crate::network::Network;
 use crate::outgoing::Outgoing;
 use crate::progress::{Progress, Reason};
+use crate::timer::{Timer, time_by};
 use std::time::Duration;
 use xa_records::Records;
 use xa_server::{Answer, Clock, Conn, Event, Front, FrontError, Holding, Outcome};
-use xa_value::Moment;
 
 /// How many bytes are read at once.
 pub const PIECE_BYTES: usize = 65_536;
@@ -32,12 +33,25 @@ pub const PIECE_BYTES: usize = 65_536;
 pub struct Share {
     /// Whose it is.
     pub conn: Conn,
-    /// When the turn began.
+    /// The time: when the turn began, or later.
     pub now: Duration,
     /// Whether another reply may be under way.
     pub has_room: bool,
     /// Whether a connection ends with the reply that it is sent.
     pub parts: bool,
+}
+
+impl Share {
+    /// The same at the time that the timer tells now.
+    fn at<T: Timer>(self, timer: &mut T) -> Share
+        ensures same { result ≡ record self { now = result.now } }
+        ensures later { as_nanos self.now ≤ as_nanos result.now }
+    {
+        Share {
+            now: time_by(timer, self.now),
+            ..self
+        }
+    }
 }
 
 /// Whether a connection is to be closed.
@@ -61,15 +75,18 @@ fn answer_of(outcome: Outcome) -> Result<Option<Answer>, FrontError>
     }
 }
 
-/// Asks for the next answer to a connection.
-fn ask<R: Records>(
+/// Asks for the next answer to a connection, at the clock's moment.
+fn ask<R: Records, C: Clock>(
     front: &mut Front<R>,
+    clock: &mut C,
     conn: Conn,
-    moment: Moment,
-) -> Result<Option<Answer>, FrontError>
-    ensures { Asks R.custody conn (answer_in result) front.old front.new }
+) -> Result<Result<Option<Answer>, FrontError>, Halt>
+    ensures { Asks R.custody conn (answer_asked result) front.old front.new }
 {
-    answer_of(front.step(&Event::Answer(conn, moment)))
+    let Some(moment) = clock.now() else {
+        return Err(Halt::NoClock);
+    };
+    Ok(answer_of(front.step(&Event::Answer(conn, moment))))
 }
 
 /// A connection that is open.
@@ -92,7 +109,8 @@ pub struct Lane {
 impl Lane {
     /// A connection of which nothing has come.
     pub(crate) fn new(now: Duration) -> Lane
-        ensures { IsFresh (as_nanos now) result }
+        ensures fresh { IsFresh (as_nanos now) result }
+        ensures nothing { result.outgoing ≡ none_under_way }
     {
         Lane {
             outgoing: Outgoing::nothing(),
@@ -110,6 +128,7 @@ impl Lane {
         ensures holding { self.new.holding ≡ self.old.holding }
         ensures stage { self.new.stage ≡ stage }
         ensures since { self.new.since ≡ now }
+        ensures mark { self.new.mark ≡ now }
     {
         self.stage = stage;
         self.since = now;
@@ -135,20 +154,23 @@ impl Lane {
     }
 
     /// Whether it was waited for as long as its stage may last.
-    pub(crate) fn is_late(&self, limits: &Limits, now: Duration) -> bool
-        ensures { result ≡ true → IsLate limits.now (as_nanos now) self.now }
+    pub(crate) fn is_late(&self, terms: &Terms) -> bool
+        ensures late { result ≡ true → IsLate terms.now self.now }
+        ensures parted { result ≡ false → IsParted terms.now self.now }
     {
-        has_passed(limits.of(self.stage), self.since, now) || self.is_slow(now)
+        has_passed(terms.limits.of(self.stage), self.since, terms.began)
+            || self.is_slow(terms.began)
     }
 
-    /// Why it is closed if it is late: one that was parted with has ended.
+    /// Why it is closed if it is late: one of which nothing had come was idle, and one that was parted with
+    /// has ended.
     pub(crate) fn reason_if_late(&self) -> Reason
-        ensures { (limits : Limits) (now : ℕ) (step : Step) → IsLate limits now self.now
-            → EndsBy limits now step self.now result }
+        ensures { (terms : Terms) (step : Step) → IsLate terms self.now → EndsBy terms step self.now result }
     {
         match self.stage {
+            Stage::Quiet => Reason::Idle,
+            Stage::Incoming | Stage::Outgoing => Reason::Late,
             Stage::Parting => Reason::Ended,
-            Stage::Quiet | Stage::Incoming | Stage::Outgoing => Reason::Late,
         }
     }
 
@@ -158,57 +180,51 @@ impl Lane {
         self.holding == Holding::Whole || ready.readable
     }
 
-    /// Has its next message answered, at the clock's moment.
-    fn answer_next<R: Records, C: Clock>(
-        &mut self,
-        front: &mut Front<R>,
-        clock: &mut C,
-        share: Share,
-    ) -> Result<Progress, Halt>
-        requires { self.old.outgoing ≡ [] }
-        ensures { Answers R.custody share.conn (as_nanos share.now) result self.old self.new
-            front.old front.new }
+    /// Takes what was given for its next message: if that is an answer, the time of its reply begins.
+    fn take_answer(&mut self, given: Result<Option<Answer>, FrontError>, now: Duration) -> Progress
+        ensures { TakesAnswer (answer_in given) (as_nanos now) result self.old self.new }
     {
-        let Some(moment) = clock.now() else {
-            return Err(Halt::NoClock);
-        };
-        match ask(front, share.conn, moment) {
+        match given {
             Ok(Some(answer)) => {
                 self.outgoing = Outgoing::of(answer);
                 self.holding = Holding::Part;
-                self.enter(Stage::Outgoing, share.now);
-                Ok(Progress::Goes)
+                self.enter(Stage::Outgoing, now);
+                Progress::Goes
             }
             Ok(None) => {
                 self.holding = Holding::Part;
-                Ok(Progress::Goes)
+                Progress::Waits
             }
-            Err(_) => Ok(Progress::Ends(Reason::WantOfMemory)),
+            Err(_) => Progress::Ends(Reason::WantOfMemory),
         }
     }
 
     /// Whether it waits until fewer bytes of replies are under way: it holds a whole message, the last reply
     /// was sent, and it wasn't parted with.
     pub(crate) fn wants_room(&self) -> bool
-        ensures { result ≡ true → (self.now.outgoing ≡ []) × (self.now.stage ≢ stages.Parting) }
+        ensures { result ≡ true → (self.now.outgoing.left ≡ []) × (self.now.stage ≢ stages.Parting) }
     {
         self.holding == Holding::Whole && self.outgoing.is_empty() && self.stage != Stage::Parting
+    }
+
+    /// Whether something can be done for it at once.
+    fn can_go(&self, ready: Ready, has_room: bool) -> bool {
+        if !self.outgoing.is_empty() {
+            ready.writable
+        } else if self.holding == Holding::Whole {
+            has_room
+        } else {
+            ready.readable
+        }
     }
 
     /// What can be done for it after its share.
     fn progress_after(&self, last: Progress, ready: Ready, has_room: bool) -> Progress
         ensures { EndsAlike last result }
     {
-        let can_go = if !self.outgoing.is_empty() {
-            ready.writable
-        } else if self.holding == Holding::Whole {
-            has_room
-        } else {
-            ready.readable
-        };
         match last {
             Progress::Ends(reason) => Progress::Ends(reason),
-            Progress::Waits | Progress::Goes if can_go => Progress::Goes,
+            Progress::Waits | Progress::Goes if self.can_go(ready, has_room) => Progress::Goes,
             Progress::Waits | Progress::Goes => Progress::Waits,
         }
     }
@@ -222,8 +238,8 @@ impl Lane {
         room: &mut [u8; PIECE_BYTES],
         share: Share,
     ) -> Progress
-        ensures { SendsAndReads R.custody N.done share.conn (as_nanos share.now) result self.old self.new
-            front.old front.new network.old network.new }
+        ensures { SendsAndReads R.custody N.done share result self.old self.new front.old front.new
+            network.old network.new }
     {
         let sent = self.send_some(front, network, ready, share);
         if sent != Progress::Goes || !self.outgoing.is_empty() || self.holding == Holding::Whole {
@@ -237,22 +253,26 @@ impl Lane {
         self.outgoing.wants_storage() && !front.server.is_open()
     }
 
-    /// Has its next message answered, and sends some of the reply, by one write.
-    fn answer_and_send<R: Records, N: Network, C: Clock>(
+    /// Has its next message answered, and sends some of the reply, by one write. An answer may take long: the
+    /// time of its reply begins behind it.
+    fn answer_and_send<R: Records, N: Network, C: Clock, T: Timer>(
         &mut self,
         front: &mut Front<R>,
         network: &mut N,
         clock: &mut C,
+        timer: &mut T,
         ready: &mut Ready,
         share: Share,
     ) -> Result<Progress, Halt>
-        requires { self.old.outgoing ≡ [] }
-        ensures { AnswersAndSends R.custody N.done share.conn (as_nanos share.now) result self.old self.new
+        requires { self.old.outgoing.left ≡ [] }
+        ensures { AnswersAndSends R.custody N.done share result self.old self.new
             front.old front.new network.old network.new }
     {
-        let answered = self.answer_next(front, clock, share)?;
-        if matches!(answered, Progress::Ends(_)) {
-            return Ok(answered);
+        let given = ask(front, clock, share.conn)?;
+        let share = share.at(timer);
+        let taken = self.take_answer(given, share.now);
+        if taken != Progress::Goes {
+            return Ok(self.progress_after(taken, *ready, share.has_room));
         }
         let is_shut = self.is_shut(front);
         let sent = self.send_some(front, network, ready, share);
@@ -263,25 +283,31 @@ impl Lane {
     }
 
     /// Gives the connection its share: at most one read, one answer and two writes. Nothing is read and
-    /// nothing answered while a reply is under way: so a peer that takes none is read from no more.
-    pub(crate) fn go<R: Records, N: Network, C: Clock>(
+    /// nothing answered while a reply is under way: so a peer that takes none is read from no more. Others
+    /// may have had long shares before it, so the timer is asked.
+    pub(crate) fn go<R: Records, N: Network, C: Clock, T: Timer>(
         &mut self,
         front: &mut Front<R>,
         network: &mut N,
         clock: &mut C,
+        timer: &mut T,
         ready: &mut Ready,
         room: &mut [u8; PIECE_BYTES],
         share: Share,
     ) -> Result<Progress, Halt>
-        ensures step { IsStep R.custody N.done share.conn (as_nanos share.now) share.has_room result
-            self.old self.new front.old front.new network.old network.new }
+        ensures step { IsStep R.custody N.done share result self.old self.new front.old front.new
+            network.old network.new }
         ensures sound { front_is_sound R.custody front.new → front_is_sound R.custody front.old }
         ensures lasts { Lasts share.conn front.old.lines front.new.lines }
     {
+        if !self.can_go(*ready, share.has_room) {
+            return Ok(Progress::Waits);
+        }
+        let share = share.at(timer);
         let read = self.send_and_read(front, network, ready, room, share);
         if has_ended(read) || !self.wants_room() || !share.has_room {
             return Ok(self.progress_after(read, *ready, share.has_room));
         }
-        self.answer_and_send(front, network, clock, ready, share)
+        self.answer_and_send(front, network, clock, timer, ready, share)
     }
 }

@@ -18,8 +18,8 @@ use std::time::Duration;
 /// How many connections may be open at once: as many as a front has.
 pub const PLACES: usize = 64;
 
-/// How many bytes of replies may be under way before another message is answered: 32 MiB. So there are
-/// never more than those and one reply.
+/// How many bytes of replies may be held before another message is answered: 32 MiB. So there are never more
+/// than those and one reply, however little of them is left to be sent.
 const MOST_UNDER_WAY: usize = 33_554_432;
 
 /// For how many milliseconds a connection owes nothing before it may be driven out: its peer may just be
@@ -44,12 +44,12 @@ impl Model for Lanes {
     ghost invariant = { λ l. length l.lanes.items ≡ 64 };
 }
 
-/// How many bytes are under way to the connection at a place, if one is open there.
+/// How many bytes are held for the reply to the connection at a place, if one is open there.
 fn bytes_of(lane: &Option<Lane>) -> usize
     ensures { result ≡ bytes_of lane.now }
 {
     match lane {
-        Some(lane) => lane.outgoing.len(),
+        Some(lane) => lane.outgoing.held(),
         None => 0,
     }
 }

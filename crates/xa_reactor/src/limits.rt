@@ -1,8 +1,8 @@
 //! For how long a connection is waited for.
-ghost use Rattle.std.specs.Prelude.{◌≡◌, Some, min, option_map, true};
+ghost use Rattle.std.specs.Prelude.{◌≡◌, Some, false, min, option_map, true};
 ghost use Rattle.std.specs.Duration.{as_nanos};
 ghost use Rattle.xa_reactor.specs.Timing.{HasPassed, left_of, limit_in};
-ghost use Rattle.xa_reactor.specs.Turn.{AreLimits, least_idle};
+ghost use Rattle.xa_reactor.specs.Turn.{AreLimits, least_idle, least_message};
 
 use std::time::Duration;
 
@@ -18,6 +18,9 @@ const PARTING_SECONDS: u64 = 2;
 
 /// For how many seconds the first byte of a message is waited for once no more connections are taken.
 const LEAVING_SECONDS: u64 = 1;
+
+/// For how many seconds a message is waited for then, if no limit is set.
+const LAST_SECONDS: u64 = 10;
 
 /// What is waited for.
 #[derive(Clone, Copy, Debug, PartialEq, Eq)]
@@ -39,6 +42,18 @@ pub struct Limits {
     pub idle: Option<Duration>,
     /// For a message, from its first byte until it is whole.
     pub message: Option<Duration>,
+}
+
+/// What holds for all shares of a turn.
+#[derive(Clone, Copy)]
+pub struct Terms {
+    /// When the turn began. What was ready then is known; so by that time a connection is late, however long
+    /// the turn lasts.
+    pub began: Duration,
+    /// For how long a connection is waited for.
+    pub limits: Limits,
+    /// Whether a connection ends with the reply that it is sent.
+    pub parts: bool,
 }
 
 /// The less of two times, of which each may be for ever.
@@ -69,7 +84,9 @@ pub(crate) fn left(limit: Duration, since: Duration, now: Duration) -> Duration
 
 /// Whether a limit that began then has passed.
 pub(crate) fn has_passed(limit: Option<Duration>, since: Duration, now: Duration) -> bool
-    ensures { result ≡ true → HasPassed (option_map as_nanos limit) (as_nanos since) (as_nanos now) }
+    ensures passed { result ≡ true → HasPassed (option_map as_nanos limit) (as_nanos since) (as_nanos now) }
+    ensures other { result ≡ false → HasPassed (option_map as_nanos limit) (as_nanos since) (as_nanos now)
+        → ⊥ }
 {
     match limit {
         Some(limit) => left(limit, since, now).is_zero(),
@@ -102,13 +119,23 @@ impl Limits {
         }
     }
 
+    /// For how long a message is waited for by a program that ends: as ever, but not for ever.
+    fn message_leaving(&self) -> Duration
+        ensures { Some (as_nanos result) ≡ least_message (option_map as_nanos self.now.message) }
+    {
+        match self.message {
+            Some(message) => message,
+            None => Duration::from_secs(LAST_SECONDS),
+        }
+    }
+
     /// The limits of a program that ends.
     pub(crate) fn leaving(&self) -> Limits
         ensures { AreLimits result self.now true }
     {
         Limits {
             idle: Some(self.idle_leaving()),
-            message: self.message,
+            message: Some(self.message_leaving()),
         }
     }
 }
@@ -120,10 +147,10 @@ pub(crate) fn slow_limit() -> Duration
     Duration::from_secs(SLOW_SECONDS)
 }
 
-/// Whether the time of leaving is over: a connection ends with the reply that it is sent from then on.
-pub(crate) fn has_left(since: Option<Duration>, now: Duration) -> bool {
-    match since {
-        Some(since) => left(Duration::from_secs(LEAVING_SECONDS), since, now).is_zero(),
-        None => false,
-    }
+/// How much is left of the time of a program that ends: from then on a connection ends with the reply that it
+/// is sent, and none is taken.
+pub(crate) fn leaving_left(since: Duration, now: Duration) -> Duration
+    ensures { as_nanos result ≡ left_of 1_000_000_000 (as_nanos since) (as_nanos now) }
+{
+    left(Duration::from_secs(LEAVING_SECONDS), since, now)
 }

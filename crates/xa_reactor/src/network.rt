@@ -9,6 +9,7 @@ use crate::board::Board;
 use crate::progress::Reason;
 use std::io;
 use std::time::Duration;
+use xa_server::RefusedMessage;
 
 /// How an attempt to take a connection ended.
 #[derive(Clone, Copy, Debug, PartialEq, Eq)]
@@ -67,4 +68,9 @@ pub trait Network {
     /// Takes no connection any more: who comes later is refused at once.
     fn shut_door(&mut self)
         ensures { done self.new ≡ done self.old };
+
+    /// Tells of a message that was refused. By default nobody is told.
+    fn tell_of_refused(&mut self, refused: &RefusedMessage)
+        ensures { done self.new ≡ done self.old }
+    {}
 }

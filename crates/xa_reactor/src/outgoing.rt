@@ -1,6 +1,6 @@
 //! The reply that is under way to the peer of a connection.
-ghost use Rattle.std.specs.Prelude.{◌≡◌, ◌<◌, ◌==◌, [], length, Some};
-ghost use Rattle.xa_reactor.specs.Sending.{IsSentOf, answer_bytes};
+ghost use Rattle.std.specs.Prelude.{◌≡◌, ◌<◌, ◌==◌, length, Some};
+ghost use Rattle.xa_reactor.specs.Sending.{IsSentOf, answer_bytes, none_under_way, under_way_of};
 
 use crate::network::Network;
 use std::io::ErrorKind;
@@ -29,12 +29,16 @@ pub struct Outgoing {
 }
 
 impl Model for Outgoing {
-    ghost use Rattle.std.specs.Prelude.{◌≤◌, ℕ, List, length, drop};
-    ghost use Rattle.xa_reactor.specs.Sending.{answer_bytes};
+    ghost use Rattle.std.specs.Prelude.{◌≤◌, length, drop};
+    ghost use Rattle.xa_reactor.specs.Sending.{UnderWay, answer_bytes, is_last};
 
-    ghost Value = { List ℕ };
+    ghost Value = { UnderWay };
 
-    ghost view = { λ o. drop o.sent (answer_bytes o.answer) };
+    ghost view = { λ o. record {
+      left = drop o.sent (answer_bytes o.answer);
+      held = length (answer_bytes o.answer);
+      last = is_last o.answer;
+    } };
 
     ghost invariant = { λ o. o.sent ≤ length (answer_bytes o.answer) };
 }
@@ -52,7 +56,7 @@ fn bytes_of_answer(answer: &Option<Answer>) -> &[u8]
 impl Outgoing {
     /// Nothing is under way.
     pub(crate) fn nothing() -> Outgoing
-        ensures { result ≡ [] }
+        ensures { result ≡ none_under_way }
     {
         Outgoing {
             answer: None,
@@ -62,7 +66,7 @@ impl Outgoing {
 
     /// The reply of this answer is under way, whole.
     pub(crate) fn of(answer: Answer) -> Outgoing
-        ensures { result ≡ answer_bytes (Some answer) }
+        ensures { result ≡ under_way_of (Some answer) }
     {
         Outgoing {
             answer: Some(answer),
@@ -70,22 +74,24 @@ impl Outgoing {
         }
     }
 
-    /// How many bytes are under way.
-    pub(crate) fn len(&self) -> usize
-        ensures { result ≡ length self.now }
+    /// How many bytes are held for it: all of the reply, until it is sent whole.
+    pub(crate) fn held(&self) -> usize
+        ensures { result ≡ self.now.held }
     {
-        bytes_of_answer(&self.answer).len() - self.sent
+        bytes_of_answer(&self.answer).len()
     }
 
-    /// Whether nothing is under way.
+    /// Whether nothing is left to be sent.
     pub(crate) fn is_empty(&self) -> bool
-        ensures { result ≡ (length self.now == 0) }
+        ensures { result ≡ (length self.now.left == 0) }
     {
-        self.len() == 0
+        self.held() - self.sent == 0
     }
 
-    /// Whether the reply that is under way, or was the last time, is the last of its connection.
-    pub(crate) fn is_last(&self) -> bool {
+    /// Whether the reply is the last of its connection.
+    pub(crate) fn is_last(&self) -> bool
+        ensures { result ≡ self.now.last }
+    {
         matches!(&self.answer, Some(answer) if answer.last)
     }
 
@@ -96,7 +102,7 @@ impl Outgoing {
 
     /// Sends some of it to a place, by one write that doesn't wait.
     pub(crate) fn send<N: Network>(&mut self, network: &mut N, place: usize) -> Sending
-        requires { 0 < length self.old }
+        requires { 0 < length self.old.left }
         ensures { IsSentOf result place self.old self.new (N.done network.old) (N.done network.new) }
     {
         match network.send(place, &bytes_of_answer(&self.answer)[self.sent..]) {

@@ -9,7 +9,9 @@ pub enum Reason {
     Failed,
     /// There was no memory for what was read, or for an answer.
     WantOfMemory,
-    /// It was waited for as long as its stage may last.
+    /// Nothing had come for as long as it is waited for.
+    Idle,
+    /// It was waited for as long as its stage may last: for the rest of a message, or that a reply is taken.
     Late,
     /// All places were taken and another waited, and of those that owed nothing none was idle for longer.
     DrivenOut,

@@ -9,7 +9,7 @@ use crate::world::{World, limits_of};
 use std::alloc::Global;
 use std::fmt::Write;
 use std::time::Duration;
-use xa_reactor::{Halt, Limits, Reactor};
+use xa_reactor::{Halt, Limits, Reactor, Timer};
 use xa_records::{Digest, PlainRecords};
 use xa_server::{Front, Server};
 
@@ -124,12 +124,16 @@ impl Row {
     {
         let mut room = [0; PIECE_BYTES];
         self.reactor.wait(&mut self.world.network, None)?;
+        let Some(now) = self.world.timer.elapsed() else {
+            return Err(Halt::NoTimer);
+        };
         self.reactor.turn(
             &mut self.front,
             &mut self.world.network,
             &mut self.world.clock,
+            &mut self.world.timer,
             &mut room,
-            self.world.now,
+            now,
         )
     }
 

@@ -4,7 +4,7 @@ use crate::network::{Memory, NOT_READY};
 use crate::no_answer::NoAnswer;
 use std::alloc::Global;
 use std::time::Duration;
-use xa_reactor::{Limits, PLACES, Ready};
+use xa_reactor::{Limits, PLACES, Ready, Timer};
 use xa_server::Clock;
 use xa_value::Moment;
 
@@ -21,6 +21,23 @@ impl Clock for RowClock {
     }
 }
 
+/// A timer that tells what a row says, and each time so much more.
+#[derive(Clone, Copy)]
+pub struct RowTimer {
+    /// What it tells next.
+    now: Duration,
+    /// How much passes behind that.
+    step: Duration,
+}
+
+impl Timer for RowTimer {
+    fn elapsed(&mut self) -> Option<Duration> {
+        let told = self.now;
+        self.now = told.saturating_add(self.step);
+        Some(told)
+    }
+}
+
 /// What is around a reactor.
 #[derive(Drop)]
 pub struct World {
@@ -28,16 +45,19 @@ pub struct World {
     pub network: Memory,
     /// What the clock tells.
     pub clock: RowClock,
-    /// The time.
-    pub now: Duration,
+    /// What the timer tells.
+    pub timer: RowTimer,
+}
+
+/// A time in milliseconds.
+fn milliseconds_of(text: &str) -> Result<Duration, NoAnswer> {
+    Ok(Duration::from_millis(number_of(text)? as u64))
 }
 
 /// A limit in milliseconds; 0 is none.
 fn limit_of(text: &str) -> Result<Option<Duration>, NoAnswer> {
-    match number_of(text)? {
-        0 => Ok(None),
-        milliseconds => Ok(Some(Duration::from_millis(milliseconds as u64))),
-    }
+    let limit = milliseconds_of(text)?;
+    Ok((!limit.is_zero()).then_some(limit))
 }
 
 /// A field's two parts.
@@ -70,14 +90,18 @@ impl World {
             clock: RowClock {
                 moment: Moment::new(0),
             },
-            now: Duration::ZERO,
+            timer: RowTimer {
+                now: Duration::ZERO,
+                step: Duration::ZERO,
+            },
         }
     }
 
     /// Does what a field says.
     pub fn happens(&mut self, alloc: Global, word: &str, text: &str) -> Result<(), NoAnswer> {
         match word {
-            "time" => self.now = Duration::from_millis(number_of(text)? as u64),
+            "time" => self.timer.now = milliseconds_of(text)?,
+            "passes" => self.timer.step = milliseconds_of(text)?,
             "clock" => self.clock.moment = moment_of(text)?,
             "no-clock" => self.clock.moment = None,
             "end" => self.network.end = true,

@@ -19,6 +19,8 @@ use Rattle.xa_records.specs.DomainState.{DomainState}
 use Rattle.xa_records.specs.Keeper.{Custody}
 use Rattle.xa_records.specs.Kept.{Domain, Kept, state_of}
 use Rattle.xa_records.specs.Readings.{gate_of_domain}
+use Rattle.xa_server.specs.declared.cause.Cause.TheVariants as cause
+use Rattle.xa_server.specs.declared.cause.Cause.TheVariants.{Wanting}
 use Rattle.xa_server.specs.declared.error_code.ErrorCode.{ErrorCode}
 use Rattle.xa_server.specs.declared.error_code.ErrorCode.TheVariants as error
 use Rattle.xa_server.specs.declared.revision.Revision.{Revision}
@@ -146,8 +148,9 @@ told_same old new (Err (Failed failure)) meant same = same
 pub keeper_left : (custody : Custody) (view : Viewed) (body : List ℕ) (moment : ℤ) (result : Result (List ℕ) HandlingError) → IsResponseReply (response_of view body moment) result → OnlyReads custody custody result
 keeper_left custody view body moment (Ok bytes) meant = record { sound = λ sound. sound; clean = λ clean. clean; stays = λ clean sound on. sound; leaves = λ clean sound left is. is; counts = refl; was_open = λ on. on; stays_open = λ other on. on }
 keeper_left custody view body moment (Err (Error code)) meant = record { sound = λ sound. sound; clean = λ clean. clean; stays = λ clean sound on. sound; leaves = λ clean sound left is. is; counts = refl; was_open = λ on. on; stays_open = λ other on. on }
-keeper_left custody view body moment (Err (Failed Memory)) meant = record { sound = λ sound. sound; clean = λ clean. clean; stays = λ clean sound on. sound; leaves = λ clean sound left is. is; counts = refl; was_open = λ on. on; stays_open = λ other on. on }
-keeper_left custody view body moment (Err (Failed Store)) meant = let none : Store ≡ Memory = meant in absurd cc
+keeper_left custody view body moment (Err (Failed (Wanting Memory))) meant = record { sound = λ sound. sound; clean = λ clean. clean; stays = λ clean sound on. sound; leaves = λ clean sound left is. is; counts = refl; was_open = λ on. on; stays_open = λ other on. on }
+keeper_left custody view body moment (Err (Failed (cause.OverLimit over))) meant = record { sound = λ sound. sound; clean = λ clean. clean; stays = λ clean sound on. sound; leaves = λ clean sound left is. is; counts = refl; was_open = λ on. on; stays_open = λ other on. on }
+keeper_left custody view body moment (Err (Failed (Wanting Store))) meant = let none : Store ≡ Memory = meant in absurd cc
 
 pub views_left : (result : Result (List ℕ) HandlingError) (claim : Type 0) → claim → OnErr result claim
 views_left (Ok bytes) claim holds = tt

@@ -11,15 +11,13 @@ use Rattle.std.proofs.lemmas.List.Elements.{All-nil, All-cons}
 use Rattle.xa_http.specs.Stream.{Stream, fed}
 use Rattle.xa_http.proofs.SizeLemmas.{waiting_short}
 use Rattle.xa_records.specs.Keeper.{Custody}
-use Rattle.xa_server.specs.Alone.{Event}
 use Rattle.xa_server.specs.Connection.{TakesPiece}
 use Rattle.xa_server.specs.declared.drive_end.DriveEnd.{DriveEnd}
-use Rattle.xa_server.specs.declared.drive_end.DriveEnd.TheVariants.{Ended, ReadFault, TooManyReads, Memory, Shut}
+use Rattle.xa_server.specs.declared.drive_end.DriveEnd.TheVariants.{Ended, ReadFault, TooManyReads, Memory}
 use Rattle.xa_server.specs.declared.front.Front.{Front}
 use Rattle.xa_server.specs.declared.front_error.FrontError.{FrontError}
 use Rattle.xa_server.specs.declared.front_error.FrontError.TheVariants as refused
 use Rattle.xa_server.specs.declared.lines.Conn.{Conn}
-use Rattle.xa_server.specs.declared.replies.Reply.{Reply}
 use Rattle.xa_server.specs.Driven.{Ends, HasAnswered, IsConnection, IsConnectionOf, IsDrivenWithin, IsWaiting, Known}
 use Rattle.xa_server.specs.Driven.{ReadsLast, Situation}
 use Rattle.xa_server.specs.handling.Driving.{HasEnded, IsNextAnswered, IsReadAs, ReadsOnce}
@@ -54,20 +52,18 @@ module _ (s t : Stream) (l m : Option (List ℕ)) (r q : Option (List ReadEnd)) 
       → length room ≡ 65_536 → t ≡ s → ReadConsumes l m result room → Grows r q (read_end result room ∷ [])
       → ReadsOnce (Err Ended) s t l m r q
   ended_read result count room is none space kept bytes grows =
-      let same : result ≡ Ok 0 = is ∙ ap {B = Result ℕ Error} (λ (n : ℕ). Ok n) none in
-      let came : ReadConsumes {E = Error} l m (Ok 0) room = subst (λ (o : Result ℕ Error). ReadConsumes l m o room) same bytes in
-      let empty : Grows r q (gave (length room) [] ∷ [])
-      = subst (λ (o : Result ℕ Error). Grows r q (read_end o room ∷ [])) same grows in
+      let came = rw (is, none) at bytes in
       record {
         read = gave 65_536 [];
         left = came.0;
-        reads = subst (λ (n : ℕ). Grows r q (gave n [] ∷ [])) space empty;
+        reads = rw (is, none, space) at grows;
         is_read = (refl, came.1 refl (omega (arith, space)), kept);
       }
 
   -- a piece came, and was taken
   pub read_taken : (room : ℕ) (piece : List ℕ) → room ≡ 65_536 → 0 < length piece → length piece ≤ room
-      → Consumes l m piece → Grows r q (gave room piece ∷ []) → TakesPiece piece s (Ok tt) t → ReadsOnce (Ok tt) s t l m r q
+      → Consumes l m piece → Grows r q (gave room piece ∷ []) → TakesPiece piece s (Ok tt) t
+      → ReadsOnce (Ok tt) s t l m r q
   read_taken room piece full some few consumes grows takes = record {
     read = gave room piece;
     left = subst (λ (bs : List ℕ). Consumes l m bs) (sym (append-nil piece)) consumes;
@@ -114,7 +110,8 @@ module _ {R : Type 0} (custody : R → Custody) (a : Situation R) (t : Stream) (
 
   -- or it has ended by it
   ends_read : (spare : ℕ) (end : DriveEnd) → 0 < spare → IsWaiting a.stream
-      → ReadsOnce (Err end) a.stream t a.known.left m a.known.reads q → HasEnded custody end spare a (after_read a t m q)
+      → ReadsOnce (Err end) a.stream t a.known.left m a.known.reads q
+      → HasEnded custody end spare a (after_read a t m q)
   ends_read spare end some waits is = idle custody spare end a (after_read a t m q) refl (by_end end is.is_read)
     where
       last : (read : ReadEnd) → is.read ≡ read → t ≡ a.stream → ReadsLast read a (after_read a t m q)
@@ -124,22 +121,26 @@ module _ {R : Type 0} (custody : R → Custody) (a : Situation R) (t : Stream) (
         same = ap (λ (u : Stream). after_read a u m q) same;
       }
 
-      by_end : (e : DriveEnd) → IsReadAs (Err e) is.read m a.stream t → Ends custody e spare a (after_read a t m q) [] []
+      by_end : (e : DriveEnd) → IsReadAs (Err e) is.read m a.stream t
+          → Ends custody e spare a (after_read a t m q) [] []
       by_end Ended (by, end_of, same) = inr (inr (last (gave 65_536 []) by same, waits, end_of, some))
       by_end ReadFault (kind, other, by, same) = (kind, other, last (unread kind) by same, waits, some)
       by_end Memory (piece, by, on, takes) =
-          inr (inr (piece, subst (λ (r : ReadEnd). IsReadOn r) by on, last (gave 65_536 piece) by takes.1, waits, takes, some))
+          inr (inr (piece, subst IsReadOn by on, last (gave 65_536 piece) by takes.1, waits, takes, some))
       by_end _ none = absurd none
 
 -- ---- one turn: a message is answered, or more is read
 
 module _ {R : Type 0} (custody : R → Custody) (n : ℕ) (a b : Situation R) (first : HasAnswered custody n a b) where
-  pub next_goes : (goes : Bool) (c : Situation R) → goes ≡ true → IsNextAnswered custody (Ok goes) b c → HasAnswered custody n a c
+  pub next_goes : (goes : Bool) (c : Situation R) → goes ≡ true → IsNextAnswered custody (Ok goes) b c
+      → HasAnswered custody n a c
   next_goes goes c on later =
-      goes_trans custody n 0 n a b c (omega arith) first (subst (λ (x : Bool). IsNextAnswered custody (Ok x) b c) on later)
+      goes_trans custody n 0 n a b c (omega arith) first
+      (subst (λ (x : Bool). IsNextAnswered custody (Ok x) b c) on later)
 
-  pub read_more : (c : Situation R) (t : Stream) (m : Option (List ℕ)) (q : Option (List ReadEnd)) → (c ≡ b) × IsWaiting c.stream
-      → ReadsOnce (Ok tt) c.stream t c.known.left m c.known.reads q → HasAnswered custody (n + 1) a (after_read c t m q)
+  pub read_more : (c : Situation R) (t : Stream) (m : Option (List ℕ)) (q : Option (List ReadEnd))
+      → (c ≡ b) × IsWaiting c.stream → ReadsOnce (Ok tt) c.stream t c.known.left m c.known.reads q
+      → HasAnswered custody (n + 1) a (after_read c t m q)
   read_more c t m q (same, waits) is =
       goes_trans custody n 1 (n + 1) a b (after_read c t m q) refl first
       (subst (λ (x : Situation R). HasAnswered custody 1 x (after_read c t m q)) same (goes_read custody c t m q is))
@@ -161,8 +162,8 @@ module _ {R : Type 0} (custody : R → Custody) (n : ℕ) (a b : Situation R) (f
         driven custody is_open n 0 1_000_000 TooManyReads a b c (omega (arith, all)) first
         (idle custody 0 TooManyReads b c (ap (λ (x : Situation R). x.server) same) (same, held, refl))
 
-    pub read_last : (end : DriveEnd) (c : Situation R) (t : Stream) (m : Option (List ℕ)) (q : Option (List ReadEnd)) → n < 1_000_000
-        → (c ≡ b) × IsWaiting c.stream → ReadsOnce (Err end) c.stream t c.known.left m c.known.reads q
+    pub read_last : (end : DriveEnd) (c : Situation R) (t : Stream) (m : Option (List ℕ)) (q : Option (List ReadEnd))
+        → n < 1_000_000 → (c ≡ b) × IsWaiting c.stream → ReadsOnce (Err end) c.stream t c.known.left m c.known.reads q
         → IsDrivenWithin custody 1_000_000 end a (after_read c t m q)
     read_last end c t m q few (same, waits) is =
         let spare : ℕ = 1_000_000 - n in
@@ -186,15 +187,3 @@ module _ {R : Type 0} (custody : R → Custody) (conn : Conn) (a b : Front R) (x
   pub shut_driven : line_at conn a.lines ≡ None → b ≡ a → y ≡ x → IsConnection custody Ended conn a b x y
   shut_driven none same known =
       subst (λ (line : Option Stream). IsConnectionOf custody line Ended conn a b x y) (sym none) (refl, same, known)
-
--- at `Shut` the keeper can't go on
-pub shut_at : {R : Type 0} (custody : R → Custody) (most : ℕ) (end : DriveEnd) (a b : Situation R) → end ≡ Shut
-    → IsDrivenWithin custody most end a b → b.known.is_open ≡ false
-shut_at custody most end a b shut is =
-    closed is.last_events is.last_replies
-    (subst (λ (e : DriveEnd). Ends custody e is.spare is.left b is.last_events is.last_replies) shut is.ends)
-  where
-    closed : (events : List Event) (replies : List Reply) → Ends custody Shut is.spare is.left b events replies
-        → b.known.is_open ≡ false
-    closed (event ∷ []) (reply ∷ []) ends = ends.2
-    closed _ _ none = absurd none

@@ -10,6 +10,8 @@ use Rattle.xa_http.specs.Routes.{route_of}
 use Rattle.xa_records.specs.declared.refusal.Failure.TheVariants.{Memory, Store}
 use Rattle.xa_records.specs.Kept.{IsChanged, Kept}
 use Rattle.xa_server.specs.Crash.{IsStepMade}
+use Rattle.xa_server.specs.declared.cause.Cause.TheVariants as cause
+use Rattle.xa_server.specs.declared.cause.Cause.TheVariants.{Wanting}
 use Rattle.xa_server.specs.declared.received_message.ReceivedMessage.{ReceivedMessage}
 use Rattle.xa_server.specs.declared.replies.Reply.{Reply}
 use Rattle.xa_server.specs.declared.replies.Reply.TheVariants.{Refused}
@@ -58,10 +60,11 @@ step_left before after received kept (Some name) leaves left may = elim (leaves 
 ]
 
 -- only a message that failed for want of storage is refused so
-pub refused_so : (result : Result (List ℕ) HandlingError) (reply : Reply) → IsReplyOf result reply → ¬ (reply ≡ Refused Store) → ¬ IsErrOf result (Failed Store)
+pub refused_so : (result : Result (List ℕ) HandlingError) (reply : Reply) → IsReplyOf result reply → ¬ (reply ≡ Refused Store) → ¬ IsErrOf result (Failed (Wanting Store))
 refused_so (Ok bytes) reply is other failed = absurd cc
-refused_so (Err (Failed Memory)) reply is other failed = absurd cc
-refused_so (Err (Failed Store)) reply is other failed = other is
+refused_so (Err (Failed (Wanting Memory))) reply is other failed = absurd cc
+refused_so (Err (Failed (cause.OverLimit over))) reply is other failed = absurd cc
+refused_so (Err (Failed (Wanting Store))) reply is other failed = other is
 refused_so (Err (Error code)) reply is other failed = absurd cc
 
 -- a message that asks for nothing that is served, or of which that wasn't found out, isn't counted

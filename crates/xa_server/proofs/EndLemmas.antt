@@ -20,17 +20,16 @@ use Rattle.xa_server.specs.declared.drive_end.DriveEnd.TheVariants.{Ended, Write
 use Rattle.xa_server.specs.declared.event.Answer.{Answer}
 use Rattle.xa_server.specs.declared.replies.Reply.{Reply}
 use Rattle.xa_server.specs.declared.replies.Reply.TheVariants.{Refused}
-use Rattle.xa_server.specs.Connection.{HandsOn, IsOneRun, ServesFirst, fault_answer, messages_of}
+use Rattle.xa_server.specs.Alone.{Event}
+use Rattle.xa_server.specs.Connection.{ServesFirst, fault_answer, messages_of}
 use Rattle.xa_server.specs.Driven.{Ends, HasAnswered, MessageLast, Situation}
-use Rattle.xa_server.specs.handling.Driving.{HasEnded, IsNextAnswered, IsSentAs}
+use Rattle.xa_server.specs.handling.Driving.{IsNextAnswered, IsSentAs}
 use Rattle.xa_server.specs.Replies.{bytes_of}
 use Rattle.xa_server.specs.Served.{may_go_on}
 use Rattle.xa_server.specs.Serving.{HaveServed}
 use Rattle.xa_server.specs.Transfers.{Grows, IsReadOn, IsWritten, ReadEnd, WriteEnd}
-use Rattle.xa_server.specs.World.{server_state}
-use Rattle.xa_server.proofs.ConnectionLemmas.{fed_nothing, serves_run}
+use Rattle.xa_server.proofs.ConnectionLemmas.{fed_nothing}
 use Rattle.xa_server.proofs.DrivingLemmas.{idle, none_gone}
-use Rattle.xa_server.proofs.ServingLemmas.{serves_of}
 use Rattle.xa_server.proofs.TransferLemmas.{grows_none, one_sent}
 
 -- the clock has told something, and nothing else has changed
@@ -49,49 +48,47 @@ shut_refused _ open_now shut = absurd (false≢true (sym shut))
 module _ {R : Type 0} (custody : R → Custody) (a : Situation R) where
   -- ---- no message was answered
 
-  -- the connection has ended before any
-  ended : (end : DriveEnd) (b : Situation R) → ((spare : ℕ) → HasEnded custody end spare a b) → IsNextAnswered custody (Err end) a b
-  ended end b ends = (a, none_gone custody a, ends)
-
   -- more bytes are wanted
   pub waits_for_more : IsLook a.stream look.More → IsNextAnswered custody (Ok false) a a
   waits_for_more more = (refl, (more.0, more.1, refl))
 
+  -- the connection has ended without any
+  ended : (end : DriveEnd) (b : Situation R) → b.server ≡ a.server → ((spare : ℕ) → Ends custody end spare a b [] [])
+      → IsNextAnswered custody (Err end) a b
+  ended end b same ends = (a, none_gone custody a, λ spare. idle custody spare end a b same (ends spare))
+
   -- the session had ended
   pub ended_before : IsLook a.stream look.Ended → IsNextAnswered custody (Err Ended) a a
-  ended_before over = ended Ended a λ spare. idle custody spare Ended a a refl (inl (refl, over))
+  ended_before over = ended Ended a refl (λ spare. inl (refl, over))
 
   -- there was no memory
   pub wanted : IsNextAnswered custody (Err Memory) a a
-  wanted = ended Memory a λ spare. idle custody spare Memory a a refl (inl refl)
+  wanted = ended Memory a refl (λ spare. inl refl)
 
   pub wanted_at : (j : Option (List (Option ℤ))) (moment : ℤ) → Grows a.known.told j (Some moment ∷ [])
       → IsNextAnswered custody (Err Memory) a (after_told a j)
-  wanted_at j moment tells = ended Memory (after_told a j) λ spare.
-      idle custody spare Memory a (after_told a j) refl (inr (inl (moment, record { grows = tells; same = refl })))
+  wanted_at j moment tells =
+      ended Memory (after_told a j) refl (λ spare. inr (inl (moment, record { grows = tells; same = refl })))
 
   -- there was no moment
   pub untimed : (j : Option (List (Option ℤ))) → IsLook a.stream look.Message → Grows a.known.told j (None ∷ [])
       → IsNextAnswered custody (Err NoClock) a (after_told a j)
-  untimed j (on, (message, rest, begins)) tells = ended NoClock (after_told a j) λ spare.
-      idle custody spare NoClock a (after_told a j) refl (
-        message,
-        record { held = rest; ended = message.close },
-        (on, begins, refl),
-        record { grows = tells; same = refl },
-      )
+  untimed j (on, (message, rest, begins)) tells =
+      let after : Stream = record { held = rest; ended = message.close } in
+      ended NoClock (after_told a j) refl
+      (λ spare. (message, after, (on, begins, refl), record { grows = tells; same = refl }))
 
   -- a fault was answered
   pub fault_next : (result : Result Bool DriveEnd) (t : Stream) (fault : SessionFault) (d : Option (List ℕ))
       (v : Option (List WriteEnd)) → IsNext a.stream (next.Fault fault) t
-      → IsSentAs (λ whole. IsWritten whole (bytes_of (fault_answer fault).reply) a.known.contents d a.known.writes v) true true
-      result → IsNextAnswered custody result a (after_fault a t d v)
-  fault_next (Err Ended) t fault d v is (written, on, over) = ended Ended (after_fault a t d v) λ spare.
-      idle custody spare Ended a (after_fault a t d v) refl
-      (inr (inl (record { fault = fault; is_next = is; written = written; same = refl })))
-  fault_next (Err WriteFault) t fault d v is written = ended WriteFault (after_fault a t d v) λ spare.
-      idle custody spare WriteFault a (after_fault a t d v) refl
-      (record { fault = fault; is_next = is; written = written; same = refl })
+      → IsSentAs (λ whole. IsWritten whole (bytes_of (fault_answer fault).reply) a.known.contents d a.known.writes v)
+      true true result → IsNextAnswered custody result a (after_fault a t d v)
+  fault_next (Err Ended) t fault d v is (written, on, over) =
+      ended Ended (after_fault a t d v) refl
+      (λ spare. inr (inl (record { fault = fault; is_next = is; written = written; same = refl })))
+  fault_next (Err WriteFault) t fault d v is written =
+      ended WriteFault (after_fault a t d v) refl
+      (λ spare. record { fault = fault; is_next = is; written = written; same = refl })
   fault_next (Err Shut) t fault d v is (written, shut) = absurd (false≢true (sym shut))
   fault_next (Ok true) t fault d v is (written, on, over) = absurd (false≢true (sym over))
   fault_next _ t fault d v is none = absurd none
@@ -99,29 +96,28 @@ module _ {R : Type 0} (custody : R → Custody) (a : Situation R) where
 -- ---- a message was answered
 
 module _ {R : Type 0} (custody : R → Custody) (a b : Situation R) (moment : ℤ) (answer : Answer)
-    (first : ServesFirst (custody b.server.records).sound moment (server_state custody a.server) a.stream answer
-    (server_state custody b.server) b.stream)
-    (handed : HandsOn custody a.server b.server moment (Some a.stream) (Some answer.reply))
+    (first : ServesFirst custody moment a.server a.stream answer b.server b.stream)
     (left : b.known.left ≡ a.known.left) (reads : b.known.reads ≡ a.known.reads)
     (told : Grows a.known.told b.known.told (Some moment ∷ [])) where
-  run : (custody b.server.records).sound
-      → IsOneRun (server_state custody a.server) (server_state custody b.server) ((moment, first.0) ∷ []) (answer.reply ∷ [])
-  run sound =
-      serves_run moment first.0 answer.reply (server_state custody a.server) (server_state custody b.server) (first.3 sound)
+  abbrev events : List Event
+  events = (moment, first.0) ∷ []
 
-  served : HaveServed custody a.server ((moment, first.0) ∷ []) (answer.reply ∷ []) b.server
-  served =
-      let serves =
-      serves_of custody moment a.server b.server a.stream b.stream first.0 answer.reply first.1 (λ sound. (first.3 sound).0)
-      handed in
-      (b.server ∷ [], (serves, refl))
+  abbrev served : HaveServed custody a.server events (answer.reply ∷ []) b.server
+  served = (b.server ∷ [], (first.3, refl))
+
+  -- its reply was written, whole or in part
+  abbrev Writes : Bool → Type 0
+  Writes whole =
+      IsWritten whole (bytes_of answer.reply) a.known.contents b.known.contents a.known.writes b.known.writes
+
+  abbrev may_go : Bool
+  may_go = may_go_on answer.reply (custody b.server.records).is_open
 
   -- the connection goes on after it
-  goes : IsWritten true (bytes_of answer.reply) a.known.contents b.known.contents a.known.writes b.known.writes
-      → may_go_on answer.reply b.known.is_open ≡ true → HasAnswered custody 0 a b
+  goes : Writes true → may_go ≡ true → HasAnswered custody 0 a b
   goes written on = record {
     calls = record { reads = []; writes = written.writes; told = Some moment ∷ [] };
-    events = (moment, first.0) ∷ [];
+    events = events;
     run = answer.reply ∷ [];
     made = record {
       left = subst (λ (z : Option (List ℕ)). Consumes a.known.left z []) (sym left) (Consumes-nil a.known.left);
@@ -131,48 +127,47 @@ module _ {R : Type 0} (custody : R → Custody) (a b : Situation R) (moment : �
       told = told;
     };
     messages =
-        subst (λ (s : Stream). Cuts s (messages_of ((moment, first.0) ∷ [])) b.stream) (sym (fed_nothing a.stream))
+        subst (λ (s : Stream). Cuts s (messages_of events) b.stream) (sym (fed_nothing a.stream))
         (b.stream, first.1, refl);
-    sound = handed.sound;
-    is_run = run;
     served = served;
     read = All-nil IsReadOn;
     counted = refl;
     told = refl;
     written = one_sent (bytes_of answer.reply) written.writes written.taken;
-    keeper = (b.known.is_open, on, refl);
+    went_on = (on, tt);
   }
 
   -- or it has ended
-  ends_with : (whole : Bool) (end : DriveEnd)
-      → IsWritten whole (bytes_of answer.reply) a.known.contents b.known.contents a.known.writes b.known.writes
+  ends_with : (whole : Bool) (end : DriveEnd) → Writes whole
       → (MessageLast custody whole a b (moment, first.0) answer.reply
-      → (spare : ℕ) → Ends custody end spare a b ((moment, first.0) ∷ []) (answer.reply ∷ [])) → IsNextAnswered custody (Err end) a b
-  ends_with whole end written ends = (
-    a,
-    none_gone custody a,
-    λ spare. record {
-      events = (moment, first.0) ∷ [];
-      replies = answer.reply ∷ [];
-      ends = ends (record { first = first.1; serves = first.3; told = told; written = written; left = left; reads = reads }) spare;
-      sound = handed.sound;
-      is_run = run;
-      served = served;
-    },
-  )
+      → (spare : ℕ) → Ends custody end spare a b events (answer.reply ∷ [])) → IsNextAnswered custody (Err end) a b
+  ends_with whole end written ends =
+      let last : MessageLast custody whole a b (moment, first.0) answer.reply = record {
+        first = first.1;
+        serves = first.3;
+        told = told;
+        written = written;
+        left = left;
+        reads = reads;
+      } in (
+        a,
+        none_gone custody a,
+        λ spare. record { events = events; replies = answer.reply ∷ []; ends = ends last spare; served = served },
+      )
 
-  pub message_next : (result : Result Bool DriveEnd)
-      → IsSentAs (λ whole. IsWritten whole (bytes_of answer.reply) a.known.contents b.known.contents a.known.writes b.known.writes)
-      (may_go_on answer.reply b.known.is_open) answer.last result → IsNextAnswered custody result a b
+  pub message_next : (result : Result Bool DriveEnd) → IsSentAs Writes may_go answer.last result
+      → IsNextAnswered custody result a b
   message_next (Ok true) (written, on, over) = goes written on
   message_next (Err Ended) (written, on, over) =
       (b, goes written on, λ spare. idle custody spare Ended b b refl (inl (refl, sym first.2 ∙ over)))
   message_next (Err WriteFault) written = ends_with false WriteFault written (λ last spare. last)
-  message_next (Err Shut) (written, shut) = ends_with true Shut written (λ last spare.
-      (last, (shut_refused answer.reply b.known.is_open shut).0, (shut_refused answer.reply b.known.is_open shut).1))
+  message_next (Err Shut) (written, shut) =
+      let refused = shut_refused answer.reply (custody b.server.records).is_open shut in
+      ends_with true Shut written (λ last spare. (last, refused.0, refused.1))
   message_next _ none = absurd none
 
 -- it holds less
-pub holds_less : (s t looked : Stream) (message : Message) → looked ≡ s → IsFirst looked message t → length t.held < length s.held
+pub holds_less : (s t looked : Stream) (message : Message) → looked ≡ s → IsFirst looked message t
+    → length t.held < length s.held
 holds_less s t looked message same first =
     omega (arith, first_shrinks s message t (subst (λ (u : Stream). IsFirst u message t) same first))

@@ -28,4 +28,3 @@ pub mod NextLemmas
 pub mod FrontLawLemmas
 pub mod InterruptionLemmas
 pub mod ServingLemmas
-pub mod PlayedLemmas

@@ -6,30 +6,22 @@ use Rattle.xa_server.specs.Connection.{TakesPiece}
 use Rattle.xa_server.specs.declared.front_error.FrontError.{FrontError}
 use Rattle.xa_server.specs.declared.front_error.FrontError.TheVariants.{Memory, Full}
 use Rattle.xa_server.specs.declared.lines.Conn.{Conn}
-use Rattle.xa_server.specs.Driven.{KeepsOpen}
-use Rattle.xa_server.specs.Lines.{IsHeld, IsOpen, Lines, line_at, with_line}
+use Rattle.xa_server.specs.Lines.{IsHeld, IsOpen, Lines, with_line}
 
 -- with the stream that it has, nothing changes
-pub line_kept : (conn : Conn) (old new : Lines) (s t : Stream) → IsOpen conn old s → new ≡ with_line conn (Some t) old → t ≡ s → new ≡ old
+pub line_kept : (conn : Conn) (old new : Lines) (s t : Stream) → IsOpen conn old s → new ≡ with_line conn (Some t) old
+    → t ≡ s → new ≡ old
 line_kept conn old new s t opens put same =
-    put ∙ ap (λ (u : Stream). with_line conn (Some u) old) same ∙ ap (λ (l : Option Stream). with_line conn l old) (sym opens) ∙ set-get_or old conn.number None
+    put ∙ ap (λ (u : Stream). with_line conn (Some u) old) same
+    ∙ ap (λ (l : Option Stream). with_line conn l old) (sym opens) ∙ set-get_or old conn.number None
 
 -- a piece came to one
-pub held_at : (conn : Conn) (piece : List ℕ) (old new : Lines) (s t : Stream) (result : Result (Unit {0}) FrontError) → IsOpen conn old s
-    → new ≡ with_line conn (Some t) old → TakesPiece piece s result t → IsHeld conn piece old result new
+pub held_at : (conn : Conn) (piece : List ℕ) (old new : Lines) (s t : Stream) (result : Result (Unit {0}) FrontError)
+    → IsOpen conn old s → new ≡ with_line conn (Some t) old → TakesPiece piece s result t
+    → IsHeld conn piece old result new
 held_at conn piece old new s t (Ok done) opens put takes = (s, t, opens, takes, put)
-held_at conn piece old new s t (Err Memory) opens put takes = (s, opens, (takes.0, refl), line_kept conn old new s t opens put takes.1)
-held_at conn piece old new s t (Err Full) opens put takes = (s, opens, (takes.0, refl), line_kept conn old new s t opens put takes.1)
+held_at conn piece old new s t (Err Memory) opens put (few, same) =
+    (s, opens, (few, refl), line_kept conn old new s t opens put same)
+held_at conn piece old new s t (Err Full) opens put (many, same) =
+    (s, opens, (many, refl), line_kept conn old new s t opens put same)
 held_at conn piece old new s t _ opens put takes = absurd takes
-
--- one that was driven stays open
-pub kept_open : (conn : Conn) (old new : Lines) (t : Stream) → new ≡ with_line conn (Some t) old → KeepsOpen conn old new
-unfolding KeepsOpen
-kept_open conn old new t put = λ stream opens. (t, put)
-
-pub kept_shut : (conn : Conn) (old new : Lines) → line_at conn old ≡ None → KeepsOpen conn old new
-unfolding KeepsOpen
-kept_shut conn old new none = λ stream opens. absurd (shut stream opens)
-  where
-    shut : (stream : Stream) → IsOpen conn old stream → ⊥
-    shut stream opens = let e : None ≡ Some stream = sym none ∙ opens in cc

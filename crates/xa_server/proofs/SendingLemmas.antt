@@ -6,19 +6,20 @@ use Rattle.std.specs.Io.KnownBytes.{Appends, Keeps}
 use Rattle.std.specs.IoError.{error_kind}
 use Rattle.std.specs.declared.io.Error.{Error}
 use Rattle.std.proofs.KnownBytes.{Appends-kept, Appends-nil, Appends-trans}
-use Rattle.std.proofs.lemmas.List.{append-nil, append_assoc, length-take-le, take-append-drop}
+use Rattle.std.proofs.lemmas.List.{append-nil, append_assoc, length-take-le, nil_from_length, take-append-drop}
+use Rattle.std.proofs.lemmas.List.Concat.{flat_map-append}
 use Rattle.std.proofs.lemmas.List.Elements.{All-nil, All-cons, All-append}
 use Rattle.xa_server.specs.handling.Sending.{HasWritten, LeavesOf, SendsOnce, SendsPart}
-use Rattle.xa_server.specs.Transfers.{Grows, IsTaken, IsWritten, IsWrittenOn, WriteEnd, bytes_taken, flush_end, flushed}
-use Rattle.xa_server.specs.Transfers.{took, unflushed, unwritten}
-use Rattle.xa_server.proofs.TransferLemmas.{grows_none, grows_trans, taken_trans}
+use Rattle.xa_server.specs.Transfers.{Grows, IsBrokenOff, IsGivenUp, IsTaken, IsWritten, IsWrittenOn, WriteEnd}
+use Rattle.xa_server.specs.Transfers.{bytes_sent, bytes_taken, flush_end, flushed, took, unflushed, unwritten}
+use Rattle.xa_server.proofs.TransferLemmas.{grows_none, grows_trans}
 
 written_on : (ws vs : List WriteEnd) (a b c : Option (List ℕ)) (k l m : Option (List WriteEnd)) → HasWritten ws a b k l
     → HasWritten vs b c l m → HasWritten (ws ++ vs) a c k m
 written_on ws vs a b c k l m first later = record {
   grows = grows_trans k l m ws vs first.grows later.grows;
   appends =
-      subst (Appends a c) (sym (taken_trans ws vs))
+      rw (flat_map-append bytes_sent ws vs)
       (Appends-trans a b c (bytes_taken ws) (bytes_taken vs) first.appends later.appends);
 }
 
@@ -66,77 +67,60 @@ nothing_sent bytes a k = record {
   written = record { grows = grows_none k; appends = Appends-nil a };
 }
 
-nothing : (bytes : List ℕ) → length bytes ≡ 0 → bytes ≡ []
-nothing [] none = refl
-nothing (byte ∷ bytes) none = absurd (omega (arith, none))
-
-pub stopped_sending : (bytes left : List ℕ) (tried : ℕ) (a b : Option (List ℕ)) (k l : Option (List WriteEnd))
-    → SendsPart bytes left tried a b k l → tried ≡ 2 ^ 64 - 1 → IsWritten false bytes a b k l
-stopped_sending bytes left tried a b k l before often = record {
-  writes = before.tries;
-  taken = record {
-    tries = before.tries;
-    rest = left;
-    on = before.on;
-    part = before.part;
-    given_up = inr (before.counted ∙ often, refl);
-  };
-  grows = before.written.grows;
-  appends = before.written.appends;
-}
-
-module _ (bytes left : List ℕ) (tried : ℕ) (a b c : Option (List ℕ)) (k l m : Option (List WriteEnd))
+module _ (bytes left : List ℕ) (tried : ℕ) (a b : Option (List ℕ)) (k l : Option (List WriteEnd))
     (before : SendsPart bytes left tried a b k l) where
-  -- ---- one after another
+  broken_off : (writes : List WriteEnd) → IsGivenUp before.tries writes → IsBrokenOff bytes writes
+  broken_off writes given_up =
+      record { tries = before.tries; rest = left; on = before.on; part = before.part; given_up = given_up }
 
-  pub sent_more : (rest : List ℕ) → SendsOnce left (Some rest) b c l m → SendsPart bytes rest (tried + 1) a c k m
-  sent_more rest here = record {
-    tries = before.tries ++ here.write ∷ [];
-    on = All-append IsWrittenOn before.tries (here.write ∷ []) before.on
-        (All-cons IsWrittenOn here.write [] here.leaves.0 (All-nil IsWrittenOn));
-    counted = length-append before.tries (here.write ∷ []) ∙ ap (λ (n : ℕ). n + 1) before.counted;
-    part =
-        before.part ∙ ap (λ (bs : List ℕ). bytes_taken before.tries ++ bs) here.leaves.1
-        ∙ sym (append_assoc (bytes_taken before.tries) (bytes_taken (here.write ∷ [])) rest)
-        ∙ ap (λ (bs : List ℕ). bs ++ rest) (sym (taken_trans before.tries (here.write ∷ [])));
-    written = written_on before.tries (here.write ∷ []) a b c k l m before.written here.written;
+  -- so many were made that no more are
+  pub stopped_sending : tried ≡ 2 ^ 64 - 1 → IsWritten false bytes a b k l
+  stopped_sending often = record {
+    writes = before.tries;
+    taken = broken_off before.tries (inr (before.counted ∙ often, refl));
+    grows = before.written.grows;
+    appends = before.written.appends;
   }
 
-  -- ---- the end of it
+  -- ---- one after another
 
-  ends_with : (ok : Bool) (last : WriteEnd) → IsTaken ok bytes (before.tries ++ last ∷ []) → HasWritten (last ∷ []) b c l m
-      → IsWritten ok bytes a c k m
-  ends_with ok last taken here =
-      let all = written_on before.tries (last ∷ []) a b c k l m before.written here in
-      record { writes = before.tries ++ last ∷ []; taken = taken; grows = all.grows; appends = all.appends }
+  module _ (c : Option (List ℕ)) (m : Option (List WriteEnd)) where
+    pub sent_more : (rest : List ℕ) → SendsOnce left (Some rest) b c l m → SendsPart bytes rest (tried + 1) a c k m
+    sent_more rest here = record {
+      tries = before.tries ++ here.write ∷ [];
+      on = All-append IsWrittenOn before.tries (here.write ∷ []) before.on
+          (All-cons IsWrittenOn here.write [] here.leaves.0 (All-nil IsWrittenOn));
+      counted = length-append before.tries (here.write ∷ []) ∙ ap (λ (n : ℕ). n + 1) before.counted;
+      part =
+          before.part ∙ ap (λ (bs : List ℕ). bytes_taken before.tries ++ bs) here.leaves.1
+          ∙ sym (append_assoc (bytes_taken before.tries) (bytes_taken (here.write ∷ [])) rest)
+          ∙ ap (λ (bs : List ℕ). bs ++ rest) (sym (flat_map-append bytes_sent before.tries (here.write ∷ [])));
+      written = written_on before.tries (here.write ∷ []) a b c k l m before.written here.written;
+    }
 
-  pub failed_sending : SendsOnce left None b c l m → IsWritten false bytes a c k m
-  failed_sending here = ends_with false here.write (record {
-    tries = before.tries;
-    rest = left;
-    on = before.on;
-    part = before.part;
-    given_up = inl (here.write, here.leaves.0, refl);
-  }) here.written
+    -- ---- the end of it
 
-  -- all was taken, and flushed
-  pub all_sent : (result : Result (Unit {0}) Error) → length left ≡ 0 → Keeps b c → Grows l m (flush_end result ∷ [])
-      → IsWritten (is_ok result) bytes a c k m
-  all_sent result none kept grows = by_end result grows
-    where
-      whole : bytes ≡ bytes_taken before.tries
-      whole =
-          before.part ∙ ap (λ (bs : List ℕ). bytes_taken before.tries ++ bs) (nothing left none)
-          ∙ append-nil (bytes_taken before.tries)
+    ends_with : (ok : Bool) (last : WriteEnd) → IsTaken ok bytes (before.tries ++ last ∷ [])
+        → HasWritten (last ∷ []) b c l m → IsWritten ok bytes a c k m
+    ends_with ok last taken here =
+        let all = written_on before.tries (last ∷ []) a b c k l m before.written here in
+        record { writes = before.tries ++ last ∷ []; taken = taken; grows = all.grows; appends = all.appends }
 
-      by_end : (r : Result (Unit {0}) Error) → Grows l m (flush_end r ∷ []) → IsWritten (is_ok r) bytes a c k m
-      by_end (Ok done) grew =
-          ends_with true flushed (record { tries = before.tries; on = before.on; whole = sym whole; all = refl })
-          (no_bytes bytes b c l m flushed refl kept grew)
-      by_end (Err error) grew = ends_with false (unflushed (error_kind error)) (record {
-        tries = before.tries;
-        rest = left;
-        on = before.on;
-        part = before.part;
-        given_up = inl (unflushed (error_kind error), tt, refl);
-      }) (no_bytes bytes b c l m (unflushed (error_kind error)) refl kept grew)
+    pub failed_sending : SendsOnce left None b c l m → IsWritten false bytes a c k m
+    failed_sending here =
+        ends_with false here.write
+        (broken_off (before.tries ++ here.write ∷ []) (inl (here.write, here.leaves.0, refl))) here.written
+
+    -- all was taken, and flushed
+    pub all_sent : (result : Result (Unit {0}) Error) → length left ≡ 0 → Keeps b c → Grows l m (flush_end result ∷ [])
+        → IsWritten (is_ok result) bytes a c k m
+    all_sent (Ok done) none kept grows =
+        let whole : bytes ≡ bytes_taken before.tries
+        = before.part ∙ ap (λ (bs : List ℕ). bytes_taken before.tries ++ bs) (nil_from_length left none)
+        ∙ append-nil (bytes_taken before.tries) in
+        ends_with true flushed (record { tries = before.tries; on = before.on; whole = sym whole; all = refl })
+        (no_bytes bytes b c l m flushed refl kept grows)
+    all_sent (Err error) none kept grows =
+        let last = unflushed (error_kind error) in
+        ends_with false last (broken_off (before.tries ++ last ∷ []) (inl (last, tt, refl)))
+        (no_bytes bytes b c l m last refl kept grows)

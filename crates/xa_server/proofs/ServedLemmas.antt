@@ -4,6 +4,8 @@ use Rattle.std.specs.Prelude.{OnErr}
 use Rattle.xa_records.specs.declared.refusal.Failure.TheVariants.{Memory, Store}
 use Rattle.xa_records.specs.Kept.{IsChanged, Kept, state_of}
 use Rattle.xa_server.specs.Alone.{Event}
+use Rattle.xa_server.specs.declared.cause.Cause.TheVariants as cause
+use Rattle.xa_server.specs.declared.cause.Cause.TheVariants.{Wanting}
 use Rattle.xa_server.specs.declared.error_code.ErrorCode.{ErrorCode}
 use Rattle.xa_server.specs.declared.received_message.ReceivedMessage.{ReceivedMessage}
 use Rattle.xa_server.specs.declared.replies.Reply.{Reply}
@@ -82,8 +84,9 @@ served received old new (Err (Error code)) reply answered (inr is) operator =
 -- the keeper's count, by what goes back
 pub counted : (old new : ℕ) (result : Result (List ℕ) HandlingError) (reply : Reply) → Counts old new result → IsReplyOf result reply → CountsReply old new reply
 counted old new (Ok bytes) reply counts is = subst (CountsReply old new) (sym is) counts
-counted old new (Err (Failed Memory)) reply counts is = subst (CountsReply old new) (sym is) counts
-counted old new (Err (Failed Store)) reply counts is = subst (CountsReply old new) (sym is) counts
+counted old new (Err (Failed (Wanting Memory))) reply counts is = subst (CountsReply old new) (sym is) counts
+counted old new (Err (Failed (Wanting Store))) reply counts is = subst (CountsReply old new) (sym is) counts
+counted old new (Err (Failed (cause.OverLimit over))) reply counts is = subst (CountsReply old new) (sym is) counts
 counted old new (Err (Error code)) reply counts (inl is) = subst (CountsReply old new) (sym is) counts
 counted old new (Err (Error code)) reply counts (inr is) = subst (CountsReply old new) (sym is) counts
 

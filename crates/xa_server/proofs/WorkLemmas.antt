@@ -11,11 +11,12 @@ use Rattle.xa_http.specs.declared.route.RouteFault.{RouteFault}
 use Rattle.xa_http.specs.declared.route.Route.{Route}
 use Rattle.xa_http.specs.Routes.{route_of}
 use Rattle.xa_records.specs.declared.gate.Gate.{Gate}
-use Rattle.xa_records.specs.declared.refusal.Failure.{Failure}
 use Rattle.xa_records.specs.declared.refusal.Failure.TheVariants.{Memory}
 use Rattle.xa_records.specs.Kept.{Domain, Kept}
 use Rattle.xa_records.specs.Readings.{gate_of, gate_of_domain}
 use Rattle.xa_server.specs.Alone.{Event}
+use Rattle.xa_server.specs.declared.cause.Cause.{Cause}
+use Rattle.xa_server.specs.declared.cause.Cause.TheVariants.{Wanting}
 use Rattle.xa_server.specs.declared.replies.Reply.{Reply}
 use Rattle.xa_server.specs.declared.revision.Revision.{Revision}
 use Rattle.xa_server.specs.declared.received_message.ReceivedMessage.{ReceivedMessage}
@@ -32,14 +33,14 @@ use Rattle.xa_server.specs.World.{World}
 
 -- ---- a message that failed, or was turned away, before anything was done
 
-failed_ask : (key : Key) (held : Option (List ℕ)) (worked : Option Responded) (failure : Failure) (decisions : DecisionsModel) → IsAsked key held worked (Err (Failed failure)) decisions decisions
-failed_ask key None worked failure decisions = refl
-failed_ask key (Some body) worked failure decisions = inl refl
+failed_ask : (key : Key) (held : Option (List ℕ)) (worked : Option Responded) (why : Cause) (decisions : DecisionsModel) → IsAsked key held worked (Err (Failed why)) decisions decisions
+failed_ask key None worked why decisions = refl
+failed_ask key (Some body) worked why decisions = inl refl
 
-pub failed : (asked : Option Domain) (body : List ℕ) (moment : ℤ) (failure : Failure) (decisions : DecisionsModel) → WorksOf asked body moment (Err (Failed failure)) decisions decisions
-failed None body moment failure decisions = refl
-failed (Some domain) body moment failure decisions =
-    failed_ask (cache_key domain body) (cached_body (cache_key domain body) body decisions) (evaluated_response domain.state body moment) failure decisions
+pub failed : (asked : Option Domain) (body : List ℕ) (moment : ℤ) (why : Cause) (decisions : DecisionsModel) → WorksOf asked body moment (Err (Failed why)) decisions decisions
+failed None body moment why decisions = refl
+failed (Some domain) body moment why decisions =
+    failed_ask (cache_key domain body) (cached_body (cache_key domain body) body decisions) (evaluated_response domain.state body moment) why decisions
 
 -- ---- a message that was let in
 
@@ -68,7 +69,7 @@ asked_work received kept route result old new asks work = rw asks work
 pub unasked_work : (received : ReceivedMessage) (kept : Kept) (error : OrMemory RouteFault) (decisions : DecisionsModel) → Gives {X = Route} (Err error) (route_of received.message.now)
     → WorksMessage received kept (Err (error_of_route error)) decisions decisions
 unasked_work received kept or_memory.Memory decisions gives =
-    failed (domain_of_message kept received.message.now (route_of received.message.now)) received.message.now.body received.moment Memory decisions
+    failed (domain_of_message kept received.message.now (route_of received.message.now)) received.message.now.body received.moment (Wanting Memory) decisions
 unasked_work received kept (or_memory.Error fault) decisions gives = rw gives refl
 
 -- ---- what goes back

@@ -1,6 +1,6 @@
 -- A connection: what it takes and what it is answered, once and several times.
 use Rattle.std.specs.Prelude.{◌≡◌, ◌≢◌, ◌+◌, ◌<◌, ◌≤◌, ◌⊎◌, ℕ, ℤ, true, false, List, [], ◌∷◌, ◌++◌, length, map}
-use Rattle.std.specs.Prelude.{Option, Some, None, option_map, Result, Ok, Err, IsTrue}
+use Rattle.std.specs.Prelude.{Option, Some, None, option_map, Result, Ok, Err}
 use Rattle.std.specs.declared.alloc.AllocError.{AllocError}
 use Rattle.xa_http.specs.declared.fault.SessionFault.{SessionFault}
 use Rattle.xa_http.specs.declared.message.Message.{Message}
@@ -9,11 +9,8 @@ use Rattle.xa_http.specs.declared.session.Next.{Next}
 use Rattle.xa_http.specs.declared.session.Next.TheVariants as next
 use Rattle.xa_http.specs.Messages.{Cuts, IsFirst, IsLook, IsNext}
 use Rattle.xa_http.specs.Stream.{Stream, fed}
-use Rattle.xa_records.specs.declared.refusal.Failure.TheVariants.{Store}
 use Rattle.xa_records.specs.Keeper.{Custody}
-use Rattle.xa_records.specs.Kept.{Kept}
-use Rattle.xa_server.specs.Alone.{Event, message_of, moment_of}
-use Rattle.xa_server.specs.Crash.{IsStepMade}
+use Rattle.xa_server.specs.Alone.{Event, message_of}
 use Rattle.xa_server.specs.declared.connection.Answered.{Answered}
 use Rattle.xa_server.specs.declared.connection.Answered.TheVariants as answered
 use Rattle.xa_server.specs.declared.event.Answer.{Answer}
@@ -22,14 +19,14 @@ use Rattle.xa_server.specs.declared.front_error.FrontError.TheVariants.{Memory, 
 use Rattle.xa_server.specs.declared.holding.Holding.{Holding}
 use Rattle.xa_server.specs.declared.holding.Holding.TheVariants as holding
 use Rattle.xa_server.specs.declared.replies.Reply.{Reply}
-use Rattle.xa_server.specs.declared.replies.Reply.TheVariants.{Sent, Refused}
+use Rattle.xa_server.specs.declared.replies.Reply.TheVariants.{Sent}
 use Rattle.xa_server.specs.ErrorCode.{code_of_session_fault, error_reply}
+use Rattle.xa_server.specs.Interruption.{ServesMessage}
 use Rattle.xa_server.specs.Isolation.{IsIsolated, IsIsolatedBesideRefusals}
-use Rattle.xa_server.specs.Owner.{owner}
 use Rattle.xa_server.specs.Replies.{bytes_of}
-use Rattle.xa_server.specs.Served.{CountsReply, IsRun, IsServed}
-use Rattle.xa_server.specs.Work.{IsWork, IsWorkOfRun}
-use Rattle.xa_server.specs.World.{ServerModel, ServerState, World, world}
+use Rattle.xa_server.specs.Served.{IsRun}
+use Rattle.xa_server.specs.Work.{IsWorkOfRun}
+use Rattle.xa_server.specs.World.{ServerModel, ServerState}
 
 -- ---- one piece
 
@@ -54,18 +51,7 @@ IsHolding stream holding.Whole =
     IsLook stream look.Message ⊎ ((fault : SessionFault) × IsLook stream (look.Fault fault))
 IsHolding stream holding.Ended = stream.ended ≡ true
 
--- what a connection holds, if it is there
-abbrev pub IsHoldingOf : Option Stream → Holding → Type 0
-IsHoldingOf None holding = ⊥
-IsHoldingOf (Some stream) holding = IsHolding stream holding
-
 -- ---- one answer
-
--- a server has served a message: its world went over, and the work was done
-abbrev pub Serves : ℤ → Message → Reply → ServerState → ServerState → Type 0
-Serves moment message reply old new =
-    IsServed old.world new.world moment message reply
-    × IsWork old.world.kept moment message reply old.decisions new.decisions
 
 -- the answer to a message; it is the last if the session has ended with it
 abbrev pub answer_after : Stream → Reply → Answer
@@ -81,13 +67,9 @@ answer_of (answered.Reply answer) = Some answer
 answer_of answered.Waits = None
 answer_of answered.Ended = None
 
--- the reply of an answer, if there is one
-abbrev pub reply_if : Option Answer → Option Reply
-reply_if answer = option_map (λ a. a.reply) answer
-
 -- the reply that a connection is answered, if it is one
 abbrev pub reply_of : Answered → Option Reply
-reply_of answered = reply_if (answer_of answered)
+reply_of answered = option_map (λ answer. answer.reply) (answer_of answered)
 
 -- what a connection is answered, by what its session gives next; `after` is the rest of its stream
 abbrev pub IsGiven : Next → Stream → Answered → Type 0
@@ -97,87 +79,36 @@ IsGiven next.More after given = given ≡ answered.Waits
 IsGiven next.Ended after given = given ≡ answered.Ended
 
 -- what the server does by what a session gives: it serves a message, with that reply, and else does nothing
-abbrev pub ServesNext : ℤ → ServerState → Option Next → Option Reply → ServerState → Type 0
-ServesNext moment old (Some (next.Message message)) (Some reply) new = Serves moment message reply old new
-ServesNext moment old _ reply new = new ≡ old
+abbrev pub ServesNext : {R : Type 0} → (R → Custody) → ℤ → ServerModel R → Option Next → Option Reply → ServerModel R
+    → Type 0
+ServesNext custody moment old (Some (next.Message message)) (Some reply) new =
+    ServesMessage custody old new (moment, message) reply
+ServesNext custody moment old _ reply new = new ≡ old
 
--- the next of a connection was answered, by what its session gave; or there was no memory, and nothing was done. What
--- the server did is said if `sound` holds
-abbrev pub AnswersNext : Type 0 → ℤ → ServerState → Stream → Result Answered AllocError → ServerState → Stream → Type 0
-AnswersNext sound moment old stream (Ok answered) new after =
+-- the next of a connection was answered, by what its session gave; or there was no memory, and nothing was done
+abbrev pub AnswersNext : {R : Type 0} → (R → Custody) → ℤ → ServerModel R → Stream → Result Answered AllocError
+    → ServerModel R → Stream → Type 0
+AnswersNext custody moment old stream (Ok answered) new after =
     (given : Next) × IsNext stream given after × IsGiven given after answered
-    × (sound → ServesNext moment old (Some given) (reply_of answered) new)
-AnswersNext sound moment old stream (Err _) new after = (stream.ended ≡ false) × (new ≡ old) × (after ≡ stream)
+    × ServesNext custody moment old (Some given) (reply_of answered) new
+AnswersNext custody moment old stream (Err _) new after = (stream.ended ≡ false) × (new ≡ old) × (after ≡ stream)
 
 -- the message that stands first was served
-abbrev pub ServesFirst : Type 0 → ℤ → ServerState → Stream → Answer → ServerState → Stream → Type 0
-ServesFirst sound moment old stream answer new after =
+abbrev pub ServesFirst : {R : Type 0} → (R → Custody) → ℤ → ServerModel R → Stream → Answer → ServerModel R → Stream
+    → Type 0
+ServesFirst custody moment old stream answer new after =
     (message : Message) × IsFirst stream message after × (answer.last ≡ after.ended)
-    × (sound → Serves moment message answer.reply old new)
+    × ServesMessage custody old new (moment, message) answer.reply
 
 -- the session has ended by the fault that stands first
 abbrev pub EndsBy : SessionFault → Stream → Answer → Stream → Type 0
 EndsBy fault old answer new = IsNext old (next.Fault fault) new × (answer ≡ fault_answer fault)
-
--- the reply in a result, if there is one
-abbrev pub reply_in : Result Answered AllocError → Option Reply
-reply_in (Ok answered) = reply_of answered
-reply_in (Err _) = None
-
--- ---- what the keeper is told by an answer
-
--- how often the keeper has failed by a call: once more if a message was refused for want of storage, and else no more
-abbrev pub CountsReplyIf : ℕ → ℕ → Option Reply → Type 0
-CountsReplyIf old new (Some reply) = CountsReply old new reply
-CountsReplyIf old new None = new ≡ old
-
--- a message is the first of a stream that may not be there
-abbrev pub IsFirstOf : Option Stream → Message → Type 0
-IsFirstOf None message = ⊥
-IsFirstOf (Some stream) message = (rest : Stream) × IsFirst stream message rest
-
--- no message is whole at the front of a stream that may not be there
-abbrev pub HasNoFirst : Option Stream → Type 0
-HasNoFirst line = (message : Message) → ¬ IsFirstOf line message
-
--- what a crash after an answer may leave: what it might have left before, or all with the step made that the first
--- message of the stream makes
-abbrev pub LeavesNext : (Kept → Type 0) → (Kept → Type 0) → World → ℤ → Option Stream → Type 0
-LeavesNext before after old moment line =
-    (left : Kept) → after left
-    → before left ⊎ ((message : Message) × IsFirstOf line message × IsStepMade old left moment message (owner message))
-
--- what is told of the keeper after the next of a stream that may not be there was answered, with that reply
-pub record IsHandedOn (old new : Custody) (before : World) (moment : ℤ) (line : Option Stream) (reply : Option Reply)
-    : Type 0 where
-  -- if the keeper is sound, it was; if the disk has given back what was written, it had before
-  pub sound : new.sound → old.sound
-  pub clean : new.clean → old.clean
-  -- the keeper stays sound while it can go on, and a crash may leave this, if it was sound and the disk has given back
-  -- what was written
-  pub stays : new.clean → old.sound → IsTrue new.is_open → new.sound
-  pub crash : new.clean → old.sound → LeavesNext old.may_leave new.may_leave before moment line
-  -- the keeper's calls that failed for want of storage are counted
-  pub counts : CountsReplyIf old.faults new.faults reply
-  -- only a message that was refused for want of storage leaves it so that it can't go on
-  pub was_open : IsTrue new.is_open → IsTrue old.is_open
-  pub stays_open : ¬ (reply ≡ Some (Refused Store)) → IsTrue old.is_open → IsTrue new.is_open
-
--- `IsHandedOn` of the keeper of a server
-abbrev pub HandsOn : {R : Type 0} → (R → Custody) → ServerModel R → ServerModel R → ℤ → Option Stream → Option Reply
-    → Type 0
-HandsOn custody old new moment line reply =
-    IsHandedOn (custody old.records) (custody new.records) (world custody old) moment line reply
 
 -- ---- one answer after another
 
 -- the messages of events
 abbrev pub messages_of : List Event → List Message
 messages_of events = map message_of events
-
--- the moments of events
-abbrev pub moments_of : List Event → List ℤ
-moments_of events = map moment_of events
 
 -- messages were answered by one run of the server, with its work; and each domain's replies in it are those of its own
 -- machine, used by it alone
@@ -186,12 +117,6 @@ pub record IsOneRun (old new : ServerState) (events : List Event) (replies : Lis
   pub work : IsWorkOfRun old.world old.decisions events replies new.world new.decisions
   pub headline : IsIsolated old.world new.world events replies
   pub beside_refusals : IsIsolatedBesideRefusals old.world new.world events replies
-
--- the messages at the front of a stream were answered, each at its moment, by one run; `rest` is what follows them
-pub record AreAnswered (old new : ServerState) (stream rest : Stream) (events : List Event) (replies : List Reply)
-    : Type 0 where
-  pub messages : Cuts stream (messages_of events) rest
-  pub run : IsOneRun old new events replies
 
 -- what a session answers after the last whole message: the fault by which it ends, or that it wants more bytes, or
 -- that it has ended with that message

@@ -1,13 +1,13 @@
 -- Many connections over one server: what an answer is, and what one event after another does.
-use Rattle.std.specs.Prelude.{◌≡◌, ℕ, ℤ, false, List, [], ◌∷◌, ◌++◌, Option, Some, None, Result, Ok, Err, IsTrue}
+use Rattle.std.specs.Prelude.{◌≡◌, ℤ, false, List, [], ◌∷◌, ◌++◌, Option, Some, None, option_map, Result, Ok, Err}
+use Rattle.std.specs.Prelude.{IsTrue}
 use Rattle.xa_http.specs.declared.session.Next.{Next}
 use Rattle.xa_http.specs.declared.session.Next.TheVariants as next
 use Rattle.xa_http.specs.Messages.{IsNext}
 use Rattle.xa_http.specs.Stream.{Stream}
-use Rattle.xa_records.specs.declared.refusal.Failure.TheVariants.{Store}
 use Rattle.xa_records.specs.Keeper.{Custody}
 use Rattle.xa_server.specs.Alone as messages
-use Rattle.xa_server.specs.Connection.{CountsReplyIf, IsGiven, IsOneRun, ServesNext, answer_of, reply_if}
+use Rattle.xa_server.specs.Connection.{IsGiven, ServesNext, answer_of}
 use Rattle.xa_server.specs.declared.connection.Answered.{Answered}
 use Rattle.xa_server.specs.declared.event.Answer.{Answer}
 use Rattle.xa_server.specs.declared.event.Event.{Event}
@@ -19,8 +19,8 @@ use Rattle.xa_server.specs.declared.front_error.FrontError.{FrontError}
 use Rattle.xa_server.specs.declared.front_error.FrontError.TheVariants.{Memory, NoSuchConnection}
 use Rattle.xa_server.specs.declared.lines.Conn.{Conn}
 use Rattle.xa_server.specs.declared.replies.Reply.{Reply}
-use Rattle.xa_server.specs.declared.replies.Reply.TheVariants.{Refused}
 use Rattle.xa_server.specs.Lines.{IsClosed, IsHeld, IsOpen, IsOpened, Lines, line_at, with_line}
+use Rattle.xa_server.specs.Serving.{AreServed}
 use Rattle.xa_server.specs.World.{ServerState, server_state}
 
 -- what is known of a front: its server, and its connections
@@ -46,7 +46,7 @@ front_is_open custody front = IsTrue (custody front.server.records).is_open
 
 -- the reply in the result of an answer, if there is one
 abbrev pub reply_in_result : Result (Option Answer) FrontError → Option Reply
-reply_in_result (Ok answer) = reply_if answer
+reply_in_result (Ok answer) = option_map (λ answer. answer.reply) answer
 reply_in_result (Err _) = None
 
 -- a connection is answered, and no other changes; `given` is what its session gave. Or nothing is done
@@ -59,11 +59,12 @@ AnswersAt conn old None (Err Memory) new =
     (stream : Stream) × IsOpen conn old stream × (stream.ended ≡ false) × (new ≡ old)
 AnswersAt conn old _ _ new = ⊥
 
--- a connection is answered by the server of a front. What that did is said if `sound` holds
-abbrev pub AnswersLine : Type 0 → Conn → ℤ → FrontState → Result (Option Answer) FrontError → FrontState → Type 0
-AnswersLine sound conn moment old result new =
+-- a connection is answered by the server of a front
+abbrev pub AnswersLine : {R : Type 0} → (R → Custody) → Conn → ℤ → Front R → Result (Option Answer) FrontError → Front R
+    → Type 0
+AnswersLine custody conn moment old result new =
     (given : Option Next) × AnswersAt conn old.lines given result new.lines
-    × (sound → ServesNext moment old.server given (reply_in_result result) new.server)
+    × ServesNext custody moment old.server given (reply_in_result result) new.server
 
 -- what an event does to the connections, and its outcome; `given` is what a session gave, if one was asked
 abbrev pub Does : Event → Lines → Option Next → Outcome → Lines → Type 0
@@ -101,30 +102,11 @@ abbrev pub replies_given : List (Option Next) → List Outcome → List Reply
 replies_given (given ∷ nexts) (outcome ∷ outcomes) = reply_given given outcome ++ replies_given nexts outcomes
 replies_given _ _ = []
 
--- events were played: each did what it does, one after another. The messages that they cut off, of all connections in
--- order, are one run of the server, in which each domain's replies are those of its own machine, used by it alone,
--- whatever comes on which connection and in which pieces; that is said if `sound` holds
-pub record IsPlayed (sound : Type 0) (old new : FrontState) (events : List Event) (outcomes : List Outcome)
-    : Type 0 where
+-- Events were played: each did what it does, one after another. The messages that they cut off, of all connections in
+-- order, were served one after another: they are one run of the server, in which each domain's replies are those of its
+-- own machine, used by it alone, whatever comes on which connection and in which pieces.
+pub record IsPlayed {R : Type 0} (custody : R → Custody) (old new : Front R) (events : List Event)
+    (outcomes : List Outcome) : Type 0 where
   pub nexts : List (Option Next)
   pub plays : Plays events outcomes nexts old.lines new.lines
-  pub run : sound → IsOneRun old.server new.server (messages_cut events nexts) (replies_given nexts outcomes)
-
--- ---- what calls tell of the keeper
-
--- the reply in an outcome, if there is one
-abbrev pub reply_in_outcome : Outcome → Option Reply
-reply_in_outcome (outcome.Answered result) = reply_in_result result
-reply_in_outcome _ = None
-
--- none of the events cut off a message that was refused for want of storage
-abbrev pub NoneRefusedByStore : List Outcome → Type 0
-NoneRefusedByStore [] = Unit {0}
-NoneRefusedByStore (outcome ∷ outcomes) =
-    ¬ (reply_in_outcome outcome ≡ Some (Refused Store)) × NoneRefusedByStore outcomes
-
--- how often the keeper has failed by events: once more for each message that was refused for want of storage
-abbrev pub CountsOutcomes : ℕ → ℕ → List Outcome → Type 0
-CountsOutcomes old new [] = new ≡ old
-CountsOutcomes old new (outcome ∷ outcomes) =
-    (mid : ℕ) × CountsReplyIf old mid (reply_in_outcome outcome) × CountsOutcomes mid new outcomes
+  pub served : AreServed custody old.server new.server (messages_cut events nexts) (replies_given nexts outcomes)

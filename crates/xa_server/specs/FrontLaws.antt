@@ -15,9 +15,8 @@ use Rattle.xa_server.specs.declared.event.Outcome.TheVariants as outcome
 use Rattle.xa_server.specs.declared.front.Front.{Front}
 use Rattle.xa_server.specs.declared.lines.Conn.{Conn}
 use Rattle.xa_server.specs.declared.replies.Reply.{Reply}
-use Rattle.xa_server.specs.Front.{IsPlayed, Plays, front_is_sound, front_state}
+use Rattle.xa_server.specs.Front.{IsPlayed, Plays}
 use Rattle.xa_server.specs.Lines.{IsOpen, Lines}
-use Rattle.xa_server.specs.Serving.{PlaysServed}
 
 -- what is done to a connection's session by an event of a connection: the step, if they are the same
 abbrev pub own_step : Conn → Conn → Step → List Step
@@ -72,18 +71,10 @@ LinesAreStreams =
     × StopsAt rest after
 
 -- the law: if nothing was done, no event was played; and events that were played, and then others, were played
--- together, and the messages that they cut off were served one after another. So calls that were made one after
--- another, each the play of one event, were played
+-- together. So calls that were made one after another, each the play of one event, were played
 abbrev pub PlaysGoOn : {R : Type 0} → (R → Custody) → Type 0
 PlaysGoOn {R} custody =
-    ((front : Front R)
-    → IsPlayed (front_is_sound custody front) (front_state custody front) (front_state custody front) [] []
-    × PlaysServed custody front front [] [])
+    ((front : Front R) → IsPlayed custody front front [] [])
     × ((old mid new : Front R) (events others : List Event) (outcomes rest : List Outcome)
-    → (front_is_sound custody new → front_is_sound custody mid)
-    → (IsPlayed (front_is_sound custody mid) (front_state custody old) (front_state custody mid) events outcomes
-    → IsPlayed (front_is_sound custody new) (front_state custody mid) (front_state custody new) others rest
-    → IsPlayed (front_is_sound custody new) (front_state custody old) (front_state custody new) (events ++ others)
-    (outcomes ++ rest))
-    × (PlaysServed custody old mid events outcomes → PlaysServed custody mid new others rest
-    → PlaysServed custody old new (events ++ others) (outcomes ++ rest)))
+    → IsPlayed custody old mid events outcomes → IsPlayed custody mid new others rest
+    → IsPlayed custody old new (events ++ others) (outcomes ++ rest))

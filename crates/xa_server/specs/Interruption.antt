@@ -8,7 +8,8 @@ use Rattle.xa_server.specs.Crash.{LeavesStep}
 use Rattle.xa_server.specs.declared.replies.Reply.{Reply}
 use Rattle.xa_server.specs.declared.replies.Reply.TheVariants.{Refused}
 use Rattle.xa_server.specs.Isolation.{answered_events}
-use Rattle.xa_server.specs.Served.{IsServed, may_go_on, state}
+use Rattle.xa_server.specs.Served.{CountsReply, IsServed, may_go_on, state}
+use Rattle.xa_server.specs.Work.{IsWork}
 use Rattle.xa_server.specs.World.{ServerModel, World, world}
 
 -- each domain is in the state in which its own machine, used by it alone, leaves it after these messages
@@ -29,6 +30,15 @@ module _ {R : Type 0} (custody : R → Custody) where
     pub crash : (custody new.records).clean → (custody old.records).sound
         → LeavesStep (custody old.records).may_leave (custody new.records).may_leave (world custody old)
         (moment_of event) (message_of event)
+
+  -- a message was served: `Serves`, and the other clauses of `Server::serve`
+  pub record ServesMessage (old new : ServerModel R) (event : Event) (reply : Reply) : Type 0 where
+    pub serves : Serves old new event reply
+    pub sound : (custody new.records).sound → (custody old.records).sound
+    pub was_open : IsTrue (custody new.records).is_open → IsTrue (custody old.records).is_open
+    pub counts : CountsReply (custody old.records).faults (custody new.records).faults reply
+    pub work : (custody new.records).sound
+        → IsWork (custody old.records).kept (moment_of event) (message_of event) reply old.decisions new.decisions
 
   -- messages were served one after another, and after each of them the keeper could go on: that is asked after a
   -- refusal for want of storage, and is so after any other reply

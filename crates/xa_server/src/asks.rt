@@ -30,19 +30,19 @@ ghost use Rattle.xa_server.specs.handling.Views.{added, bytes_of_tree, bytes_of_
 ghost use Rattle.xa_server.specs.Work.{cached_body};
 
 use crate::cached_view::CachedView;
+use crate::cause::Cause;
 use crate::decisions::{Decisions, key_within};
 use crate::error_code::{ABSENT, ErrorCode};
 use crate::handling_error::HandlingError;
-use crate::limits::Limits;
 use crate::replies::decision_reply;
 use crate::resources::{PolicyTexts, Resources};
 use crate::revision::Revision;
 use crate::view::view_of_kept;
 use std::alloc::Global;
 use xa_cache::Key;
-use xa_decide::{RequestBody, View, asks_policies, respond};
+use xa_decide::{Limits, OverLimit, RequestBody, View, asks_policies, respond};
 use xa_notation::NotationError;
-use xa_records::{Failure, KeptView, Records};
+use xa_records::{KeptView, Records};
 use xa_shelf::TextReader;
 use xa_value::{Items, Moment, Text};
 
@@ -89,7 +89,7 @@ fn kept_view<R: Records>(
     Ok(kept)
 }
 
-/// The domain's view under these limits, made of what the keeper has. What this costs grows with the texts
+/// The domain's view, made of what the keeper has. What this costs grows with the texts
 /// of the active documents, which the keeper copies; a keeper in tables reads those of the others, too. It
 /// grows with the rows of attributes, which are put in order. It grows also with the texts of the documents
 /// to which the root leads, each of which is looked up on the shelf or read.
@@ -99,7 +99,6 @@ fn new_view<R: Records>(
     reader: &mut TextReader<'_>,
     records: &mut R,
     ask: &Ask<'_>,
-    limits: Limits,
 ) -> Result<CachedView, HandlingError>
     ensures tells { MakesReady (R.custody records.old) (R.custody records.new) ask.now result }
     ensures estimate { (R.custody records.new).sound
@@ -113,8 +112,7 @@ fn new_view<R: Records>(
     let left = reader.left();
     let view = view_of_kept(alloc, reader, kept)?;
     let bytes_read = left.saturating_sub(reader.left()) as usize;
-    let limited = limits.apply_to(view);
-    Ok(CachedView::new(ask.revision, limited, bytes_read, rows))
+    Ok(CachedView::new(ask.revision, view, bytes_read, rows))
 }
 
 /// The domain's view, made of no more text than may be read for a message. A domain whose policies have
@@ -122,15 +120,15 @@ fn new_view<R: Records>(
 fn new_view_within_limit<R: Records>(
     alloc: Global,
     texts: &mut PolicyTexts,
-    limits: Limits,
+    most: u64,
     records: &mut R,
     ask: &Ask<'_>,
 ) -> Result<CachedView, HandlingError>
     ensures tells { MakesReady (R.custody records.old) (R.custody records.new) ask.now result }
     ensures keeper { OnlyReads (R.custody records.old) (R.custody records.new) result }
 {
-    let mut reader = TextReader::new(&mut texts.shelf, limits.reading);
-    let ready = new_view(alloc, &mut reader, records, ask, limits);
+    let mut reader = TextReader::new(&mut texts.shelf, most);
+    let ready = new_view(alloc, &mut reader, records, ask);
     if reader.is_spent() {
         texts.oversized.remember(ask.revision);
     }
@@ -142,6 +140,7 @@ fn reply_by_view(
     alloc: Global,
     decisions: &mut Decisions,
     view: &View,
+    limits: Limits,
     read: ReadAsk<'_>,
 ) -> Result<Items<u8>, HandlingError>
     requires { HasItsKey read }
@@ -150,7 +149,7 @@ fn reply_by_view(
         (response_asked view.now read.entry.ask.now read.entry.body) result decisions.old decisions.new }
 {
     let ReadAsk { ask, key, body } = read;
-    let responded = respond(alloc, view, &body, ask.moment)?.ok_or(NOT_JSON)?;
+    let responded = respond(alloc, view, &body, ask.moment, limits)?.ok_or(NOT_JSON)?;
     let reply = decision_reply(alloc, responded.body.as_slice())?;
     decisions.note(key, responded);
     Ok(reply)
@@ -179,12 +178,13 @@ fn reply_by_new_view<R: Records>(
     ensures keeper { OnlyReads (R.custody records.old) (R.custody records.new) result }
 {
     if resources.texts.oversized.has(read.ask.revision) {
-        // Over the limit of reading: refused as `Limits` says.
-        return Err(HandlingError::Failed(Failure::Memory));
+        return Err(HandlingError::Failed(Cause::OverLimit(OverLimit::Reading)));
     }
     let limits = resources.limits;
-    let ready = new_view_within_limit(alloc, &mut resources.texts, limits, records, read.ask)?;
-    let reply = reply_by_view(alloc, &mut resources.decisions, &ready.view, read)?;
+    let most = limits.most_to_read();
+    let ready = new_view_within_limit(alloc, &mut resources.texts, most, records, read.ask)?;
+    let decisions = &mut resources.decisions;
+    let reply = reply_by_view(alloc, decisions, &ready.view, limits.deciding, read)?;
     resources.views.keep(ready);
     Ok(reply)
 }
@@ -204,8 +204,8 @@ fn reply_without_policies(
         (response_asked nothing_viewed read.entry.ask.now read.entry.body)
         result decisions.old decisions.new }
 {
-    let nothing = limits.apply_to(View::of_nothing(alloc)?);
-    reply_by_view(alloc, decisions, &nothing, read)
+    let nothing = View::of_nothing(alloc)?;
+    reply_by_view(alloc, decisions, &nothing, limits, read)
 }
 
 /// The reply by a decision that is evaluated: by the cached view, if there is one, for which no text is
@@ -222,15 +222,15 @@ fn reply_to_read<R: Records>(
         resources.old resources.new result }
 {
     let ask = read.ask;
+    let limits = resources.limits.deciding;
     if let Some(view) = resources.views.find(ask.revision) {
-        let reply = reply_by_view(alloc, &mut resources.decisions, view, read)?;
+        let reply = reply_by_view(alloc, &mut resources.decisions, view, limits, read)?;
         resources.views.touch(ask.revision.number);
         return Ok(reply);
     }
     if asks_policies(alloc, &read.body)? {
         return reply_by_new_view(alloc, resources, records, read);
     }
-    let limits = resources.limits;
     reply_without_policies(alloc, &mut resources.decisions, limits, read)
 }
 
@@ -281,8 +281,8 @@ pub(crate) fn reply_to_ask<R: Records>(
     let Some(key) = key_within(alloc, ask.revision, body)? else {
         return evaluated_reply(alloc, resources, records, ask, None, body);
     };
-    let most = resources.limits.reply;
-    if let Some(reply) = resources.decisions.cached_reply(alloc, &key, most)? {
+    let limits = resources.limits.deciding;
+    if let Some(reply) = resources.decisions.cached_reply(alloc, &key, limits)? {
         return Ok(reply);
     }
     evaluated_reply(alloc, resources, records, ask, Some(key), body)

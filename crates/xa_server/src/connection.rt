@@ -1,14 +1,12 @@
 //! A connection: the messages of its own bytes, each answered by a server.
 //!
 //! What stands at the front of its stream is told by a look, which keeps the head that it has read. By it a
-//! message is cut off and served (`serve_first`), or the session ends by a fault (`end_by`). What the keeper
-//! is told follows from the server's clauses (`HandsOn`).
-ghost use Rattle.std.specs.Prelude.{◌≡◌, true, IfOk, OnErr, MatchResult, Ok, Some};
+//! message is cut off and served (`serve_first`), or the session ends by a fault (`end_by`).
+ghost use Rattle.std.specs.Prelude.{◌≡◌, true, IfOk, MatchResult, Ok};
 ghost use Rattle.xa_http.specs.declared.session.Look.TheVariants as look;
 ghost use Rattle.xa_http.specs.Messages.{IsLook};
-ghost use Rattle.xa_server.specs.Connection.{AnswersNext, EndsBy, HandsOn, HasNoFirst, ServesFirst};
-ghost use Rattle.xa_server.specs.Connection.{IsHolding, TakesPiece, answer_of, empty_stream, reply_in};
-ghost use Rattle.xa_server.specs.World.{server_state};
+ghost use Rattle.xa_server.specs.Connection.{AnswersNext, EndsBy, IsHolding, ServesFirst, TakesPiece};
+ghost use Rattle.xa_server.specs.Connection.{answer_of, empty_stream};
 
 use crate::error_code::fault_reply;
 use crate::event::Answer;
@@ -125,18 +123,13 @@ impl Connection {
     /// which its stream ends; nothing if there is neither. The reply to a fault is the same at every
     /// moment. Without memory before the message is cut off, or for the reply to the fault, nothing has
     /// changed. If no message is whole the server isn't asked.
-    #[tactic(auto, using(crate::proofs::NextLemmas::waits_answered, crate::proofs::NextLemmas::ended_answered, crate::proofs::NextLemmas::unasked, crate::proofs::NextLemmas::message_first))]
+    #[tactic(auto, using(crate::proofs::NextLemmas::waits_answered, crate::proofs::NextLemmas::ended_answered))]
     pub fn answer<R: Records>(
         &mut self,
         server: &mut Server<R>,
         moment: Moment,
     ) -> Result<Answered, AllocError>
-        ensures answered { AnswersNext (R.custody server.new.records).sound moment
-            (server_state R.custody server.old) self.old result
-            (server_state R.custody server.new) self.new }
-        ensures err { OnErr result ((server.new ≡ server.old) × (self.new ≡ self.old)) }
-        ensures untouched { HasNoFirst (Some self.old) → server.new ≡ server.old }
-        ensures handed { HandsOn R.custody server.old server.new moment (Some self.old) (reply_in result) }
+        ensures { AnswersNext R.custody moment server.old self.old result server.new self.new }
     {
         match self.session.look()? {
             Look::Message => Ok(Answered::Reply(self.serve_first(server, moment)?)),
@@ -153,12 +146,9 @@ impl Connection {
         moment: Moment,
     ) -> Result<Answer, AllocError>
         requires { IsLook self.old look.Message }
-        ensures served { IfOk result (λ answer. ServesFirst (R.custody server.new.records).sound moment
-            (server_state R.custody server.old) self.old answer
-            (server_state R.custody server.new) self.new) }
-        ensures handed { IfOk result (λ answer.
-            HandsOn R.custody server.old server.new moment (Some self.old) (Some answer.reply)) }
-        ensures err { OnErr result ((server.new ≡ server.old) × (self.new ≡ self.old)) }
+        ensures { MatchResult result
+            (λ answer. ServesFirst R.custody moment server.old self.old answer server.new self.new)
+            (λ _. (server.new ≡ server.old) × (self.new ≡ self.old)) }
     {
         // The look has read the head, and the session has kept it: it isn't read again.
         let Next::Message(message) = self.session.next()? else {

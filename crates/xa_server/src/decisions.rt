@@ -1,6 +1,8 @@
 //! The cached decisions, with their counts.
 ghost use Rattle.std.specs.Prelude.{◌≡◌, option_map, IfOk};
 ghost use Rattle.xa_cache.specs.Bodies.{found};
+ghost use Rattle.xa_decide.specs.declared.limits.OverLimit.TheVariants.{Reply};
+ghost use Rattle.xa_decide.specs.Limits.{IfOver, IsLonger};
 ghost use Rattle.xa_server.specs.handling.Asking.{IsLookedUp, IsNoted, key_within};
 ghost use Rattle.xa_server.specs.Decisions.{nothing_cached};
 ghost use Rattle.xa_server.specs.Work.{IsKept, key_of_revision};
@@ -11,9 +13,9 @@ use crate::revision::Revision;
 use std::alloc::{AllocError, Global};
 use std::marker::Model;
 use xa_cache::{Cache, Key, fits};
-use xa_decide::Responded;
+use xa_decide::{Limits, OverLimit, Responded};
 use xa_records::Digest;
-use xa_value::Items;
+use xa_value::{Items, OrMemory};
 
 /// The most bytes of a request whose decision is looked up and cached: of a longer one none is cached, so no
 /// key is made for it. The cache has this limit, too (`xa_cache::fits`), and `cached_body` in `specs/Work`.
@@ -70,21 +72,24 @@ impl Decisions {
     }
 
     /// The reply by the decision that is cached under the key, which is now the most recently used. A body
-    /// of more bytes than `most` is `AllocError`, as when it is evaluated.
+    /// that is over the limit is refused, as when it is evaluated.
     pub(crate) fn cached_reply(
         &mut self,
         alloc: Global,
         key: &Key,
-        most: u64,
-    ) -> Result<Option<Items<u8>>, AllocError>
+        limits: Limits,
+    ) -> Result<Option<Items<u8>>, OrMemory<OverLimit>>
         ensures found { IfOk result (λ reply.
             reply ≡ option_map decision_reply (found key.now self.old.cached)) }
         ensures moves { IsLookedUp (found key.now self.old.cached) key.now self.old self.new }
+        ensures over { IfOver result (λ over.
+            (over ≡ Reply) × IsLonger limits.reply (found key.now self.old.cached)) }
     {
         match self.cache.look(key) {
-            // Over the limit of the response: refused as `Limits` says.
-            Some(body) if body.len() as u64 > most => Err(AllocError),
-            Some(body) => Ok(Some(decision_reply(alloc, body)?)),
+            Some(body) => {
+                limits.check_reply(body)?;
+                Ok(Some(decision_reply(alloc, body)?))
+            }
             None => Ok(None),
         }
     }

@@ -4,15 +4,16 @@
 //! These functions aren't methods of `Server`: each takes what it may touch, memory, resources or the keeper,
 //! and so its contract needn't say that the rest stays. `Resources` and the keeper stand apart, since most
 //! functions are given one of them alone.
-ghost use Rattle.std.specs.Prelude.{IsTrue};
+ghost use Rattle.std.specs.Prelude.{◌≡◌, IfSome, IsTrue, Some};
 ghost use Rattle.xa_http.specs.declared.route.Route.TheVariants as to;
+ghost use Rattle.xa_http.specs.Routes.{named_by};
 ghost use Rattle.xa_records.specs.DomainName.{is_domain_name};
 ghost use Rattle.xa_server.specs.handling.Asking.{SharesMessage, SharesRoute};
 ghost use Rattle.xa_server.specs.handling.Replying.{AnswersMessageIfSound, AnswersRouteIfSound, ChangesRoute};
 ghost use Rattle.xa_server.specs.handling.Replying.{HandlesChange, KeepsMessage, KeepsRoute, OnlyForgets};
 ghost use Rattle.xa_server.specs.handling.Replying.{OnlyReads, domain_named};
 ghost use Rattle.xa_server.specs.Machine.{by_document_command, by_domain_command, by_operator_command};
-ghost use Rattle.xa_server.specs.Owner.{name_if};
+ghost use Rattle.xa_server.specs.Owner.{name_if, owner};
 
 use crate::admission::{admit, admit_ask, admit_operator};
 use crate::asks::{Ask, reply_to_ask};
@@ -28,7 +29,9 @@ use crate::readings::{list_documents, list_domains, show_document, show_source};
 use crate::received_message::ReceivedMessage;
 use crate::resources::Resources;
 use std::alloc::Global;
-use xa_http::{DocumentCommand, DocumentParts, DomainCommand, OperatorCommand, Route, Routes};
+use xa_http::{
+    DocumentCommand, DocumentParts, DomainCommand, Message, OperatorCommand, Route, Routes,
+};
 use xa_policy::DocumentKey;
 use xa_records::Records;
 use xa_value::{Items, Text};
@@ -236,4 +239,38 @@ pub(crate) fn reply_to_message<R: Records>(
 {
     let route = routes.route(alloc, received.message)?;
     reply_to_route(alloc, resources, records, received, route)
+}
+
+/// The part of the path that names a domain, if the route has one.
+fn part_of(route: Route) -> Option<Items<u8>>
+    ensures { result ≡ named_by route }
+{
+    match route {
+        Route::Domains => None,
+        Route::Operator {
+            domain,
+            command: _command,
+        } => Some(domain),
+        Route::Decide { domain } => Some(domain),
+        Route::Domain {
+            domain,
+            command: _command,
+        } => Some(domain),
+        Route::Document {
+            domain,
+            parts: _parts,
+            command: _command,
+        } => Some(domain),
+    }
+}
+
+/// The domain that the message's path names; none if it names none, or if there is no memory to tell it.
+#[tactic(auto, unfolding(crate::specs::Owner::owner))]
+pub(crate) fn domain_of(alloc: Global, routes: &Routes, message: &Message) -> Option<Text>
+    ensures { IfSome result (λ name. owner message.now ≡ Some name) }
+{
+    let Ok(route) = routes.route(alloc, message) else {
+        return None;
+    };
+    name_if(part_of(route)?)
 }

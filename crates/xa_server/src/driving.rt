@@ -7,12 +7,9 @@
 //! 4. `answer_next`: what stands at the front of the stream? By a look, without a clock. A message is
 //!    answered at the clock's moment, a fault at any, both by the connection (`IsNextAnswered`).
 //! 5. `send_answer`: is the reply sent whole, and does the connection go on? (`IsSentAs`)
-ghost use Rattle.std.specs.Prelude.{◌≡◌, ◌<◌, ℕ, false, true, List, length, Option, Ok};
-ghost use Rattle.xa_server.specs.declared.drive_end.DriveEnd.TheVariants as drive_end;
-ghost use Rattle.xa_server.specs.Driven.{IsConnection, IsDrivenWithin, IsWaiting, KeepsOpen, seen_by};
-ghost use Rattle.xa_server.specs.Driven.{situation};
-ghost use Rattle.xa_server.specs.Front.{front_is_clean, front_is_open, front_is_sound};
-ghost use Rattle.xa_server.specs.handling.Driving.{IsNextAnswered, IsSentAs, LeavesKeeper, ReadsOnce};
+ghost use Rattle.std.specs.Prelude.{◌≡◌, ◌<◌, ℕ, true, List, length, Option, Ok};
+ghost use Rattle.xa_server.specs.Driven.{IsConnection, IsDrivenWithin, IsWaiting, seen_by, situation};
+ghost use Rattle.xa_server.specs.handling.Driving.{IsNextAnswered, IsSentAs, ReadsOnce};
 ghost use Rattle.xa_server.specs.Replies.{bytes_of};
 ghost use Rattle.xa_server.specs.Served.{may_go_on};
 ghost use Rattle.xa_server.specs.Transfers.{IsWritten, ReadEnd};
@@ -86,11 +83,10 @@ fn answer_next<R: Records, W: Writer, C: Clock>(
     clock: &mut C,
 ) -> Result<bool, DriveEnd>
     ensures answered { (left : Option (List ℕ)) (reads : Option (List ReadEnd))
-        → let at = situation R.custody W.Writer C.Clock left reads in
-        IsNextAnswered R.custody result (at server.old connection.old writer.old clock.old)
-        (at server.new connection.new writer.new clock.new) }
+        → IsNextAnswered R.custody result
+        (situation W.Writer C.Clock left reads server.old connection.old writer.old clock.old)
+        (situation W.Writer C.Clock left reads server.new connection.new writer.new clock.new) }
     ensures fewer { result ≡ Ok true → length connection.new.held < length connection.old.held }
-    ensures keeper { LeavesKeeper (R.custody server.old.records) (R.custody server.new.records) }
 {
     match connection.look()? {
         Look::Message => {
@@ -142,11 +138,11 @@ fn drive_open<R: Records, I: Reader, W: Writer, C: Clock>(
     writer: &mut W,
     clock: &mut C,
 ) -> DriveEnd
-    ensures driven { let at = situation R.custody W.Writer C.Clock in
-        IsDrivenWithin R.custody 1_000_000 result
-        (at (I.remaining reader.old) (I.reads reader.old) server.old connection.old writer.old clock.old)
-        (at (I.remaining reader.new) (I.reads reader.new) server.new connection.new writer.new clock.new) }
-    ensures keeper { LeavesKeeper (R.custody server.old.records) (R.custody server.new.records) }
+    ensures { IsDrivenWithin R.custody 1_000_000 result
+        (situation W.Writer C.Clock (I.remaining reader.old) (I.reads reader.old) server.old connection.old
+        writer.old clock.old)
+        (situation W.Writer C.Clock (I.remaining reader.new) (I.reads reader.new) server.new connection.new
+        writer.new clock.new) }
 {
     let mut piece = [0; PIECE_BYTES];
     let mut reads = 0;
@@ -172,7 +168,7 @@ fn drive_open<R: Records, I: Reader, W: Writer, C: Clock>(
 /// sent. At most 65,536 bytes are read at once, and at most 1,000,000 times. An interrupted read is one of
 /// these, and the next follows it. A connection that isn't open has ended: nothing is read, and nothing
 /// changes.
-#[tactic(auto, using(crate::proofs::CourseLemmas::shut_driven, crate::proofs::LineLemmas::kept_open, crate::proofs::LineLemmas::kept_shut))]
+#[tactic(auto, using(crate::proofs::CourseLemmas::shut_driven))]
 pub fn drive<R: Records, I: Reader, W: Writer, C: Clock>(
     front: &mut Front<R>,
     conn: Conn,
@@ -180,17 +176,9 @@ pub fn drive<R: Records, I: Reader, W: Writer, C: Clock>(
     writer: &mut W,
     clock: &mut C,
 ) -> DriveEnd
-    ensures connection { let seen = seen_by R.custody W.Writer C.Clock in
-        IsConnection R.custody result conn front.old front.new
-        (seen (I.remaining reader.old) (I.reads reader.old) front.old.server writer.old clock.old)
-        (seen (I.remaining reader.new) (I.reads reader.new) front.new.server writer.new clock.new) }
-    ensures stays_open { KeepsOpen conn front.old.lines front.new.lines }
-    ensures shut { result ≡ drive_end.Shut → (R.custody front.new.server.records).is_open ≡ false }
-    ensures sound { front_is_sound R.custody front.new → front_is_sound R.custody front.old }
-    ensures clean { front_is_clean R.custody front.new → front_is_clean R.custody front.old }
-    ensures stays { front_is_clean R.custody front.new → front_is_sound R.custody front.old
-        → front_is_open R.custody front.new → front_is_sound R.custody front.new }
-    ensures was_open { front_is_open R.custody front.new → front_is_open R.custody front.old }
+    ensures { let seen = seen_by W.Writer C.Clock in IsConnection R.custody result conn front.old front.new
+        (seen (I.remaining reader.old) (I.reads reader.old) writer.old clock.old)
+        (seen (I.remaining reader.new) (I.reads reader.new) writer.new clock.new) }
 {
     let Some(connection) = front.lines.get_mut(conn) else {
         return DriveEnd::Ended;

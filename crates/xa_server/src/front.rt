@@ -3,16 +3,11 @@
 //! A front is a server beside its connections, and each of its calls is one of theirs: `Connection` has what
 //! is proved of it, and a front says that no other connection has changed. Who serves one connection alone
 //! borrows it (`lines`), and makes the same calls, as `drive` does. `play` makes a list of calls, by `step`.
-ghost use Rattle.std.specs.Prelude.{◌≡◌, [], ◌∷◌, IfOk, IsTrue, OnErr, MatchResult, Some};
-ghost use Rattle.xa_records.specs.declared.refusal.Failure.TheVariants.{Store};
-ghost use Rattle.xa_server.specs.Connection.{CountsReplyIf, HandsOn, HasNoFirst, IsHoldingOf};
-ghost use Rattle.xa_server.specs.Front.{AnswersLine, IsPlayed, front_is_clean, front_is_open, front_is_sound};
-ghost use Rattle.xa_server.specs.Front.{CountsOutcomes, NoneRefusedByStore, front_state, reply_in_outcome};
-ghost use Rattle.xa_server.specs.Front.{reply_in_result};
+ghost use Rattle.std.specs.Prelude.{◌≡◌, [], ◌∷◌, IfOk, IsSomeAnd, OnErr, MatchResult};
+ghost use Rattle.xa_server.specs.Connection.{IsHolding};
+ghost use Rattle.xa_server.specs.Front.{AnswersLine, IsPlayed};
 ghost use Rattle.xa_server.specs.FrontLaws.{LinesAreStreams, PlaysGoOn};
-ghost use Rattle.xa_server.specs.Serving.{PlaysServed};
 ghost use Rattle.xa_server.specs.Lines.{IsClosed, IsHeld, IsOpened, all_open, line_at, none_open};
-ghost use Rattle.xa_server.specs.declared.replies.Reply.TheVariants.{Refused};
 
 use crate::event::{Answer, Event, Outcome};
 use crate::front_error::FrontError;
@@ -99,7 +94,8 @@ impl<R: Records> Front<R> {
     /// What the connection holds of its stream. Nothing is changed. Fails with `NoSuchConnection`, if it
     /// isn't open; else with `Memory` alone.
     pub fn holding(&mut self, conn: Conn) -> Result<Holding, FrontError>
-        ensures holding { IfOk result (IsHoldingOf (line_at conn self.old.lines)) }
+        ensures holding { IfOk result (λ holding.
+            IsSomeAnd (line_at conn self.old.lines) (λ stream. IsHolding stream holding)) }
         ensures same { self.new ≡ self.old }
     {
         match self.lines.get_mut(conn) {
@@ -113,14 +109,10 @@ impl<R: Records> Front<R> {
     /// message is cut off, or for the reply to the fault, nothing has changed. The reply to a fault is
     /// the same at every moment. Fails with `NoSuchConnection`, if it isn't open; else with `Memory`
     /// alone.
-    #[tactic(auto, using(crate::proofs::NextLemmas::unanswered_at, crate::proofs::NextLemmas::unasked))]
+    #[tactic(auto, using(crate::proofs::NextLemmas::unanswered_at))]
     pub fn answer(&mut self, conn: Conn, moment: Moment) -> Result<Option<Answer>, FrontError>
-        ensures answered { AnswersLine (front_is_sound R.custody self.new) conn moment
-            (front_state R.custody self.old) result (front_state R.custody self.new) }
+        ensures answered { AnswersLine R.custody conn moment self.old result self.new }
         ensures err { OnErr result (self.new ≡ self.old) }
-        ensures untouched { HasNoFirst (line_at conn self.old.lines) → self.new.server ≡ self.old.server }
-        ensures handed { HandsOn R.custody self.old.server self.new.server moment
-            (line_at conn self.old.lines) (reply_in_result result) }
     {
         let Some(connection) = self.lines.get_mut(conn) else {
             return Err(FrontError::NoSuchConnection);
@@ -140,20 +132,8 @@ impl<R: Records> Front<R> {
 
     /// Makes one call, and gives what it has given: that is to play one event, and takes no memory for a
     /// list.
-    #[tactic(auto, using(crate::proofs::PlayLemmas::unasked_played, crate::proofs::PlayLemmas::answered))]
     pub fn step(&mut self, event: &Event<'_>) -> Outcome
-        ensures played { IsPlayed (front_is_sound R.custody self.new) (front_state R.custody self.old)
-            (front_state R.custody self.new) (event.now ∷ []) (result ∷ []) }
-        ensures served { PlaysServed R.custody self.old self.new (event.now ∷ []) (result ∷ []) }
-        ensures sound { front_is_sound R.custody self.new → front_is_sound R.custody self.old }
-        ensures clean { front_is_clean R.custody self.new → front_is_clean R.custody self.old }
-        ensures stays { front_is_clean R.custody self.new → front_is_sound R.custody self.old
-            → front_is_open R.custody self.new → front_is_sound R.custody self.new }
-        ensures was_open { front_is_open R.custody self.new → front_is_open R.custody self.old }
-        ensures stays_open { ¬ (reply_in_outcome result ≡ Some (Refused Store))
-            → front_is_open R.custody self.old → front_is_open R.custody self.new }
-        ensures counts { CountsReplyIf (R.custody self.old.server.records).faults
-            (R.custody self.new.server.records).faults (reply_in_outcome result) }
+        ensures { IsPlayed R.custody self.old self.new (event.now ∷ []) (result ∷ []) }
     {
         match event {
             Event::Begin => Outcome::Begun(self.open()),
@@ -168,19 +148,8 @@ impl<R: Records> Front<R> {
     /// refused messages had never come. What becomes of the connections doesn't depend on the keeper.
     /// Room for all outcomes is taken first, and without it nothing is done.
     pub fn play(&mut self, events: &[Event<'_>]) -> Result<Vec<Outcome>, AllocError>
-        ensures played { IfOk result (λ outcomes. IsPlayed (front_is_sound R.custody self.new)
-            (front_state R.custody self.old) (front_state R.custody self.new) events.now outcomes.items) }
-        ensures served { IfOk result (λ outcomes.
-            PlaysServed R.custody self.old self.new events.now outcomes.items) }
-        ensures sound { front_is_sound R.custody self.new → front_is_sound R.custody self.old }
-        ensures clean { front_is_clean R.custody self.new → front_is_clean R.custody self.old }
-        ensures stays { front_is_clean R.custody self.new → front_is_sound R.custody self.old
-            → front_is_open R.custody self.new → front_is_sound R.custody self.new }
-        ensures was_open { front_is_open R.custody self.new → front_is_open R.custody self.old }
-        ensures stays_open { IfOk result (λ outcomes. NoneRefusedByStore outcomes.items
-            → front_is_open R.custody self.old → front_is_open R.custody self.new) }
-        ensures counts { IfOk result (λ outcomes. CountsOutcomes (R.custody self.old.server.records).faults
-            (R.custody self.new.server.records).faults outcomes.items) }
+        ensures played { IfOk result (λ outcomes.
+            IsPlayed R.custody self.old self.new events.now outcomes.items) }
         ensures err { OnErr result (self.new ≡ self.old) }
     {
         let mut outcomes = Vec::with_capacity(self.alloc, events.len())?;

@@ -3,13 +3,16 @@ ghost use Rattle.std.specs.Prelude.{◌≡◌};
 ghost use Rattle.xa_http.specs.declared.route.RouteFault.{RouteFault};
 ghost use Rattle.xa_notation.specs.declared.notation_error.NotationError.{NotationError};
 ghost use Rattle.xa_records.specs.declared.refusal.Failure.TheVariants.{Memory};
+ghost use Rattle.xa_server.specs.declared.cause.Cause.TheVariants.{Wanting};
 ghost use Rattle.xa_server.specs.declared.error_code.ErrorCode.{ErrorCode};
 ghost use Rattle.xa_server.specs.declared.handling_error.HandlingError.TheVariants.{Error, Failed};
-ghost use Rattle.xa_server.specs.handling.HandlingError.{error_of_body, error_of_change};
+ghost use Rattle.xa_server.specs.handling.HandlingError.{cause_of_limit, error_of_body, error_of_change};
 ghost use Rattle.xa_server.specs.handling.HandlingError.{error_of_route};
 
+use crate::cause::Cause;
 use crate::error_code::ErrorCode;
 use std::alloc::AllocError;
+use xa_decide::OverLimit;
 use xa_http::RouteFault;
 use xa_notation::NotationError;
 use xa_records::{ChangeError, Failure};
@@ -21,22 +24,22 @@ pub(crate) enum HandlingError {
     /// The error answer.
     Error(ErrorCode),
     /// No answer: there is no memory for one, or a limit was reached, or the storage failed.
-    Failed(Failure),
+    Failed(Cause),
 }
 
 impl From<AllocError> for HandlingError {
-    ghost from_gives = { λ _ given. given ≡ Failed Memory };
+    ghost from_gives = { λ _ given. given ≡ Failed (Wanting Memory) };
 
     fn from(_error: AllocError) -> HandlingError {
-        HandlingError::Failed(Failure::Memory)
+        HandlingError::Failed(Cause::Wanting(Failure::Memory))
     }
 }
 
 impl From<Failure> for HandlingError {
-    ghost from_gives = { λ failure given. given ≡ Failed failure };
+    ghost from_gives = { λ failure given. given ≡ Failed (Wanting failure) };
 
     fn from(failure: Failure) -> HandlingError {
-        HandlingError::Failed(failure)
+        HandlingError::Failed(Cause::Wanting(failure))
     }
 }
 
@@ -53,7 +56,7 @@ impl From<ChangeError> for HandlingError {
 
     fn from(error: ChangeError) -> HandlingError {
         match error {
-            ChangeError::Failed(failure) => HandlingError::Failed(failure),
+            ChangeError::Failed(failure) => HandlingError::Failed(Cause::Wanting(failure)),
             ChangeError::Refused(refusal) => HandlingError::Error(ErrorCode::Keeper(refusal)),
         }
     }
@@ -64,7 +67,7 @@ impl From<OrMemory<NotationError>> for HandlingError {
 
     fn from(error: OrMemory<NotationError>) -> HandlingError {
         match error {
-            OrMemory::Memory => HandlingError::Failed(Failure::Memory),
+            OrMemory::Memory => HandlingError::Failed(Cause::Wanting(Failure::Memory)),
             OrMemory::Error(fault) => HandlingError::Error(ErrorCode::Body(fault)),
         }
     }
@@ -75,8 +78,19 @@ impl From<OrMemory<RouteFault>> for HandlingError {
 
     fn from(error: OrMemory<RouteFault>) -> HandlingError {
         match error {
-            OrMemory::Memory => HandlingError::Failed(Failure::Memory),
+            OrMemory::Memory => HandlingError::Failed(Cause::Wanting(Failure::Memory)),
             OrMemory::Error(fault) => HandlingError::Error(ErrorCode::from(fault)),
+        }
+    }
+}
+
+impl From<OrMemory<OverLimit>> for HandlingError {
+    ghost from_gives = { λ error given. given ≡ Failed (cause_of_limit error) };
+
+    fn from(error: OrMemory<OverLimit>) -> HandlingError {
+        match error {
+            OrMemory::Memory => HandlingError::Failed(Cause::Wanting(Failure::Memory)),
+            OrMemory::Error(over) => HandlingError::Failed(Cause::OverLimit(over)),
         }
     }
 }

@@ -5,9 +5,9 @@
 //! `document_key`), asks `admission` whether the message is let in, and goes on to `changes`, `readings` or
 //! `asks`.
 //! `admission` asks `authorization` and `gates`; `asks` asks `decisions`, `views`, `view` and `oversized`. A
-//! `cached_view` is that of a `revision` of its domain, and decides under `limits`. All that is cached stands
-//! in `resources`. What is not answered with success is a `handling_error`; the bytes of replies come from
-//! `replies` and `error_code`.
+//! `cached_view` is that of a `revision` of its domain. All that is cached stands in `resources`, and the
+//! `limits` of a message. What is not answered with success is a `handling_error`: an error answer, or a
+//! `cause` of a refusal. The bytes of replies come from `replies` and `error_code`.
 //!
 //! Files of connections: a `connection` cuts its messages from its own bytes, and has a server answer them. A
 //! `front` is a server beside its connections, the `lines`. Its calls are values of `event`, its refusals are
@@ -22,6 +22,7 @@ mod admission;
 mod asks;
 mod authorization;
 mod cached_view;
+mod cause;
 mod changes;
 mod clock;
 mod connection;
@@ -54,6 +55,7 @@ mod view;
 mod views;
 mod writer;
 
+pub use cause::{Cause, RefusedMessage};
 pub use clock::Clock;
 pub use connection::{Answered, Connection};
 pub use drive_end::DriveEnd;

@@ -10,8 +10,7 @@ const MAX_DOMAINS: usize = 512;
 
 /// Domains whose root leads to more text than a message may have read, each by its number, with the epoch
 /// at which that was found. A message that asks such policies is refused at once, and they aren't read
-/// for it again. No clause speaks of these domains, since such a message is answered as if memory were
-/// wanting, which may be answered to any.
+/// for it again. No clause speaks of these domains, since such a message is refused, as any may be.
 #[derive(Drop)]
 pub(crate) struct Oversized {
     /// The epochs, each under its domain's number.

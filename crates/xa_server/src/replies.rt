@@ -20,8 +20,7 @@ pub enum Reply {
     /// The bytes of the reply.
     Sent(Items<u8>),
     /// No answer of its own; nothing has changed. `Store`: the storage failed. `Memory`: there was none, or a
-    /// limit of the server's was reached (`Server::with_work_limit`, `with_reply_limit`,
-    /// `with_reading_limit`).
+    /// limit of the server's was reached; `Server::take_refused` tells which of both.
     Refused(Failure),
 }
 

@@ -7,12 +7,13 @@ ghost use Rattle.xa_server.specs.Resources.{empty_resources};
 
 use crate::decisions::Decisions;
 use crate::gates::Gates;
-use crate::limits::Limits;
+use crate::limits::MessageLimits;
 use crate::oversized::Oversized;
 use crate::revision::Revision;
 use crate::views::Views;
 use std::alloc::{AllocError, Global};
 use std::marker::Model;
+use xa_decide::Limits;
 use xa_records::{Digest, Gate};
 use xa_shelf::Shelf;
 use xa_value::Text;
@@ -39,7 +40,7 @@ pub(crate) struct Resources {
     /// also makes the gate the most recently used.
     gates: Gates,
     /// What the decision on a message may cost.
-    pub(crate) limits: Limits,
+    pub(crate) limits: MessageLimits,
 }
 
 impl Model for Resources {
@@ -69,12 +70,19 @@ impl Resources {
             views: Views::new(alloc)?,
             decisions: Decisions::new(alloc, operator)?,
             gates: Gates::new(alloc)?,
-            limits: Limits::none(),
+            limits: MessageLimits::none(),
         })
     }
 
-    /// From now on with these limits. The cached views had others; none is cached any longer.
+    /// From now on with these limits of deciding. All that is cached stays.
     pub(crate) fn set_limits(&mut self, limits: Limits)
+        ensures { self.new ≡ self.old }
+    {
+        self.limits.deciding = limits;
+    }
+
+    /// From now on with this limit of reading. No view is cached any longer: more may have been read for it.
+    pub(crate) fn set_reading_limit(&mut self, bytes: Option<u64>)
         ensures { self.new ≡ record {
           decisions = self.old.decisions;
           views = record {
@@ -87,7 +95,7 @@ impl Resources {
     {
         self.views.clear();
         self.texts.oversized.clear();
-        self.limits = limits;
+        self.limits.reading = bytes;
     }
 
     /// The revision of the domain of that name, if its gate is remembered and one of its tokens has that

@@ -5,14 +5,15 @@ ghost use Rattle.xa_server.specs.Isolation.{TwoWorldsAgree, TwoWorldsAgreeBeside
 ghost use Rattle.xa_server.specs.declared.replies.Reply.TheVariants.{Refused};
 ghost use Rattle.xa_server.specs.handling.Replying.{IsReplyOf};
 
-use crate::dispatch::reply_to_message;
+use crate::cause::{Cause, RefusedMessage};
+use crate::dispatch::{domain_of, reply_to_message};
 use crate::handling_error::HandlingError;
-use crate::limits::Limits;
 use crate::received_message::ReceivedMessage;
 use crate::replies::Reply;
 use crate::resources::Resources;
 use std::alloc::{AllocError, AllocFailed, Global};
 use std::marker::Model;
+use xa_decide::{Limits, OverLimit};
 use xa_http::{Message, Routes};
 use xa_records::{Digest, Failure, Records};
 use xa_value::{Items, Moment};
@@ -30,6 +31,8 @@ pub struct Server<R: Records> {
     records: R,
     /// What all domains share.
     resources: Resources,
+    /// The last message that was refused, until it is taken. No clause speaks of it.
+    refused: Option<RefusedMessage>,
 }
 
 impl<R: Records> Model for Server<R> {
@@ -77,6 +80,7 @@ impl<R: Records> Server<R> {
             operator,
             records,
             resources,
+            refused: None,
         })
     }
 
@@ -117,7 +121,17 @@ impl<R: Records> Server<R> {
             &mut self.records,
             &received,
         );
-        reply_of(self.alloc, answered)
+        let over = over_limit_of(&answered);
+        let reply = reply_of(self.alloc, answered);
+        note_refused(
+            self.alloc,
+            &self.routes,
+            &mut self.refused,
+            &reply,
+            over,
+            message,
+        );
+        reply
     }
 
     /// Answers the messages one after another, each at its moment. Whatever the other domains do, each
@@ -184,36 +198,45 @@ impl<R: Records> Server<R> {
         self.resources.texts.shelf.readings()
     }
 
+    /// The last message that was refused, if one was since this was asked: why, and of which domain it was. A
+    /// reply tells neither, so that it tells nobody how the machine fares.
+    pub fn take_refused(&mut self) -> Option<RefusedMessage>
+        ensures { self.new ≡ self.old }
+    {
+        self.refused.take()
+    }
+
     /// The same server, which from now on refuses each message whose decision asks for more than `units` of
-    /// work. A unit is a byte of a text or of a value that is made, copied or compared; a step, such as an
-    /// expression or a match, is 32, and a rule that is looked at 80 (`xa_expr::Budget`). Work is counted
-    /// and not timed, and each message begins anew. So the same message on the same state is refused, or is
-    /// not, on every machine, whatever other domains ask. Reading (`with_reading_limit`) and linking
+    /// work; with none it may ask for any. A unit is a byte of a text or of a value that is made, copied or
+    /// compared; a step, such as an expression or a match, is 32, and a rule that is looked at 80. Work is
+    /// counted and not timed, and each message begins anew. So the same message on the same state is refused,
+    /// or is not, on every machine, whatever other domains ask. Reading (`with_reading_limit`) and linking
     /// policies, administration, and cached decisions aren't counted. A refusal is `Reply::Refused` as for
-    /// want of memory: nothing has changed, and the reply is the fixed 503. A server that is new has no
-    /// limit.
-    pub fn with_work_limit(self, units: u64) -> Server<R>
+    /// want of memory: nothing has changed, and the reply is the fixed 503; `take_refused` tells them apart.
+    /// A server that is new has no limit.
+    pub fn with_work_limit(self, units: Option<u64>) -> Server<R>
         ensures { result ≡ self }
     {
         let limits = Limits {
             work: units,
-            ..self.resources.limits
+            ..self.resources.limits.deciding
         };
         self.with_limits(limits)
     }
 
     /// The same server, which from now on refuses each message whose decision has a response of more than
-    /// `bytes`. These are the bytes of the body, with the escapes of its JSON; they are counted before they
-    /// are written. The body follows from the domain's state, the message's body and the moment, and so does
-    /// the refusal, whatever is cached and whatever other domains ask; it is that of `with_work_limit`.
-    /// Documents and lists are shown whatever this is: how large they are is bounded by what a domain may be
-    /// given. A server that is new has no limit.
-    pub fn with_reply_limit(self, bytes: u64) -> Server<R>
+    /// `bytes`. These are the bytes of the body, with the escapes of its JSON: results that are too many are
+    /// refused before the last is made, and never a body that is short enough. The body follows from the
+    /// domain's state, the message's body and the moment, and so does the refusal, whatever is cached and
+    /// whatever other domains ask; it is that of `with_work_limit`. Documents and lists are shown whatever
+    /// this is: how large they are is bounded by what a domain may be given. A server that is new has no
+    /// limit.
+    pub fn with_reply_limit(self, bytes: Option<u64>) -> Server<R>
         ensures { result ≡ self }
     {
         let limits = Limits {
             reply: bytes,
-            ..self.resources.limits
+            ..self.resources.limits.deciding
         };
         self.with_limits(limits)
     }
@@ -222,17 +245,13 @@ impl<R: Records> Server<R> {
     /// than `bytes` together. These are the policies to which the domain's root leads, each once.
     /// Their texts are counted whether their documents are on the shelf or not, and each message begins
     /// anew. So whether it is refused depends on the domain's documents and its root alone. A body that
-    /// doesn't ask the policies, a domain without a root, and a cached decision have nothing read. A
-    /// refusal is `Reply::Refused` as for want of memory: nothing has changed, and the reply is the fixed
-    /// 503. A server that is new has no limit.
-    pub fn with_reading_limit(self, bytes: u64) -> Server<R>
+    /// doesn't ask the policies, a domain without a root, and a cached decision have nothing read. No view is
+    /// cached any longer. A refusal is that of `with_work_limit`. A server that is new has no limit.
+    pub fn with_reading_limit(mut self, bytes: Option<u64>) -> Server<R>
         ensures { result ≡ self }
     {
-        let limits = Limits {
-            reading: bytes,
-            ..self.resources.limits
-        };
-        self.with_limits(limits)
+        self.resources.set_reading_limit(bytes);
+        self
     }
 
     /// The same server, whose decisions are under these limits from now on.
@@ -269,12 +288,49 @@ fn reply_of(alloc: Global, answered: Result<Items<u8>, HandlingError>) -> Reply
 {
     match answered {
         Ok(bytes) => Reply::Sent(bytes),
-        Err(HandlingError::Failed(failure)) => Reply::Refused(failure),
+        Err(HandlingError::Failed(Cause::Wanting(failure))) => Reply::Refused(failure),
+        Err(HandlingError::Failed(Cause::OverLimit(_))) => Reply::Refused(Failure::Memory),
         Err(HandlingError::Error(code)) => match code.reply(alloc) {
             Ok(bytes) => Reply::Sent(bytes),
             Err(_) => Reply::Refused(Failure::Memory),
         },
     }
+}
+
+/// The limit by which a message wasn't answered, if it was one.
+fn over_limit_of(answered: &Result<Items<u8>, HandlingError>) -> Option<OverLimit> {
+    match answered {
+        Err(HandlingError::Failed(Cause::OverLimit(over))) => Some(*over),
+        _ => None,
+    }
+}
+
+/// Notes the message, if it was refused.
+fn note_refused(
+    alloc: Global,
+    routes: &Routes,
+    refused: &mut Option<RefusedMessage>,
+    reply: &Reply,
+    over: Option<OverLimit>,
+    message: &Message,
+) {
+    let Reply::Refused(failure) = reply else {
+        return;
+    };
+    let cause = match over {
+        Some(over) => Cause::OverLimit(over),
+        None => Cause::Wanting(*failure),
+    };
+    let others = match refused {
+        Some(before) => before.others.saturating_add(1),
+        None => 0,
+    };
+    let domain = domain_of(alloc, routes, message);
+    *refused = Some(RefusedMessage {
+        cause,
+        domain,
+        others,
+    });
 }
 
 /// The headline in two worlds: two runs with one operator, one beginning state of a domain and the same

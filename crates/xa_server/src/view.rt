@@ -1,16 +1,18 @@
 //! The view of a domain, made of what the keeper has for it.
 ghost use Rattle.std.specs.Prelude.{◌≡◌, ◌+◌, ◌<◌, false, map, true, IfOk};
+ghost use Rattle.xa_decide.specs.declared.limits.OverLimit.TheVariants.{Reading};
+ghost use Rattle.xa_decide.specs.Limits.{IfOver};
 ghost use Rattle.xa_decide.specs.Reading.{IsNotTooLarge};
 ghost use Rattle.xa_server.specs.View.{viewed};
 ghost use Rattle.xa_server.specs.handling.Viewing.{AreKeyed, active_by_key, read_for};
 
 use std::alloc::{AllocError, Global};
-use xa_decide::View;
+use xa_decide::{OverLimit, View};
 use xa_link::Active;
 use xa_policy::DocumentKey;
 use xa_records::{ActiveText, KeptView};
 use xa_shelf::TextReader;
-use xa_value::Items;
+use xa_value::{Items, OrMemory};
 
 /// The document as references may resolve to it, under its key.
 fn active_by_key(active: ActiveText) -> Active
@@ -43,12 +45,13 @@ pub(crate) fn view_of_kept(
     alloc: Global,
     reader: &mut TextReader<'_>,
     kept: KeptView,
-) -> Result<View, AllocError>
+) -> Result<View, OrMemory<OverLimit>>
     ensures value { AreKeyed kept.texts → IfOk result (λ view. view ≡ viewed kept) }
     ensures read { AreKeyed kept.texts
         → IfOk result (λ view. IsNotTooLarge view.tree → reader.old.left ≡ reader.new.left + read_for kept) }
     ensures refused { AreKeyed kept.texts → reader.old.is_spent ≡ false → reader.new.is_spent ≡ true
         → reader.old.left < read_for kept }
+    ensures over { IfOver result (λ over. (over ≡ Reading) × (reader.new.is_spent ≡ true)) }
 {
     let KeptView {
         texts,

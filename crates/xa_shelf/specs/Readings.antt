@@ -48,3 +48,9 @@ found text old = record { texts = asked_for text old.texts; readings = old.readi
 pub record IsRead (text : List ℕ) (old new : Shelved) : Type 0 where
   pub readings : new.readings ≡ one_more old.readings
   pub texts : (new.texts ≡ old.texts) ⊎ (IsOk (document_of text) × (new.texts ≡ take 128 (text ∷ old.texts)))
+
+-- a text of which an error was told, or want of memory: one that is held now stands first, and another was counted and
+-- isn't held
+abbrev pub unanswered : List ℕ → Shelved → Shelved
+unanswered text old =
+    if is_among text old.texts then found text old else record { texts = old.texts; readings = one_more old.readings }

@@ -4,7 +4,7 @@ ghost use Rattle.std.specs.Prelude.{Ok, IfOk, OnOk, OnErr, IfSome, IsOk, IsErr};
 ghost use Rattle.xa_value.specs.Gives.{Gives};
 ghost use Rattle.xa_notation.specs.Document.{document_of};
 ghost use Rattle.xa_shelf.specs.Readings.{AreDocuments, IsRead, asked_for};
-ghost use Rattle.xa_shelf.specs.Readings.{found, is_among, one_more, texts_of};
+ghost use Rattle.xa_shelf.specs.Readings.{found, is_among, one_more, texts_of, unanswered};
 
 use lru::LruCache;
 use std::alloc::{AllocError, Global};
@@ -52,13 +52,15 @@ impl Shelf {
 
     /// A share of the text's document, or the text's first fault. A text that is found is neither read
     /// nor copied, and its document is now the last asked for. A fault isn't kept, nor a document for which
-    /// there is no memory.
+    /// there is no memory. Clause `err`: what an error leaves, one that tells want of memory, too. No text
+    /// comes or goes by it.
     pub fn get_or_read(&mut self, text: &[u8]) -> Result<Shared<Parsed>, OrMemory<NotationError>>
         ensures value { Gives result (document_of text.now) }
         ensures found { is_among text.now self.old.texts ≡ true → self.new ≡ found text.now self.old }
         ensures read { is_among text.now self.old.texts ≡ false → IsRead text.now self.old self.new }
         ensures faulty { IsErr (document_of text.now)
             → self.new ≡ record { texts = self.old.texts; readings = one_more self.old.readings } }
+        ensures err { OnErr result (self.new ≡ unanswered text.now self.old) }
     {
         // For the proof: the documents' keys are `String`s, so each text that is held is UTF-8.
         let _documents = &self.documents;
@@ -96,6 +98,8 @@ impl Shelf {
         ensures read { IsRead text.now self.old self.new }
         ensures faulty { IsErr (document_of text.now)
             → self.new ≡ record { texts = self.old.texts; readings = one_more self.old.readings } }
+        ensures err { OnErr result
+            (self.new ≡ record { texts = self.old.texts; readings = one_more self.old.readings }) }
     {
         let document = self.read(text.as_bytes())?;
         // Without memory it isn't kept, and is answered all the same.

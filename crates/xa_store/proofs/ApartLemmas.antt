@@ -130,6 +130,7 @@ module _ (version : SchemaVersion) (a : State) (quiet : IsIdle a) (other : a.now
     known = λ rests. absurd (no_rest rests);
     stays = λ clean rests. absurd (no_rest rests);
     sound = λ clean own. absurd (true≢false (sym own));
+    own = λ own. absurd (true≢false (sym own));
   }
   tested d (Err e) survived refused is = record {
     survives = survived;
@@ -139,6 +140,7 @@ module _ (version : SchemaVersion) (a : State) (quiet : IsIdle a) (other : a.now
     known = λ rests. tt;
     stays = λ clean rests. tt;
     sound = λ clean. tt;
+    own = tt;
   }
 
   pub not_apart : (b : State) (e : OpenError) → Begins a b (Err e) → Tested version a b (Err e)

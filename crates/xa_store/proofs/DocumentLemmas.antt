@@ -183,9 +183,9 @@ module _ (old new : State) (number : ℤ) (ours : IsKeepersStore old) where
 
   pub documents_counted : (rows : List Row) → Shown show_document_kinds (Int number ∷ []) old new rows → length rows ≡ len (state_at (rows_of trees) number).documents
   documents_counted rows shown =
-      let answer = answered 5 (is 1 0 ∷ []) (col 1 2 ∷ []) [] trees refl (Int number ∷ []) rows
+      let answer = answered 5 (is 1 0 ∷ []) (col 1 2 ∷ []) (2 ∷ 3 ∷ 4 ∷ []) trees refl (Int number ∷ []) rows
       (reads_as show_document_kinds (Int number ∷ []) old new schema_2 ours.rests.schema _ show_document_kinds_is.0 show_document_kinds_is.2 show_document_kinds_is.1 rows shown).answer in
-      let all = found_all 5 (is 1 0 ∷ []) (col 1 2 ∷ []) [] trees refl (Int number ∷ []) document_row document_in ours.tables.documents.written of_number
+      let all = found_all 5 (is 1 0 ∷ []) (col 1 2 ∷ []) (2 ∷ 3 ∷ 4 ∷ []) trees refl (Int number ∷ []) document_row document_in ours.tables.documents.written of_number
       (all_of _ (kinds_hit number trees) (map document_in (trees 5))) rows answer in
       length_permutation _ rows all ∙ length-map (filter of_number (map document_in (trees 5))) only_kind
       ∙ sym (len-entries (state_at (rows_of trees) number).documents ∙ ap length (entries_are trees number ours.tables) ∙ length-map (ordered trees number ours.tables) document_entry

@@ -21,7 +21,7 @@ pub token_hit : (number : ℤ) (digest : List ℕ) (db : Trees) (t : TokenRow)
     → hits 3 (is 1 0 ∷ is 2 1 ∷ []) (col 1 3 ∷ []) [] db refl (Int number ∷ Blob digest ∷ []) (token_row t) ≡ is_token number digest t
 token_hit number digest db t = then_term (at_ints false Eq t.number number) (last_term (at_blobs false Eq t.digest digest) ∙ turn_bytes t.digest digest)
 
-pub kinds_hit : (number : ℤ) (db : Trees) (d : DocumentRow) → hits 5 (is 1 0 ∷ []) (col 1 2 ∷ []) [] db refl (Int number ∷ []) (document_row d) ≡ int_eq d.number number
+pub kinds_hit : (number : ℤ) (db : Trees) (d : DocumentRow) → hits 5 (is 1 0 ∷ []) (col 1 2 ∷ []) (2 ∷ 3 ∷ 4 ∷ []) db refl (Int number ∷ []) (document_row d) ≡ int_eq d.number number
 kinds_hit number db d = last_term (at_ints false Eq d.number number)
 
 pub documents_hit : (number : ℤ) (db : Trees) (d : DocumentRow)

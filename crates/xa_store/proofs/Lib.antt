@@ -82,3 +82,4 @@ pub mod ActionLemmas
 pub mod MigratingTexts
 pub mod MigratingLemmas
 pub mod MigratedLemmas
+pub mod OnceMoreLemmas

@@ -1,13 +1,13 @@
 -- From the parts of opening to what it answers.
-use Rattle.std.proofs.Common.{◌≡◌, ◌⊎◌, inl, inr, Bool, true, false, cond, codes, Result, Ok, Err, IsTrue, IfOk, IfErr, OnOk, refl, sym, ap, subst, ◌∙◌, true≢false, arith}
+use Rattle.std.proofs.Common.{◌≡◌, ◌⊎◌, inl, inr, Bool, true, false, cond, codes, Result, Ok, Err, IsTrue, IfOk, IfErr, OnOk, ◌↔◌, refl, sym, ap, subst, ◌∙◌, true≢false, arith}
 use Rattle.xa_store.proofs.Common.{Database, IsDatabase, Held, state, State, HasCleanDisk, Survives, Ghosts, Trees, clean_if_open, survives_then, survives_weaker, second_of_both, OpenError, Store, SchemaVersion, Schema1, Schema2, opened, schema_of, IsKeepersStore, Rests, RestsIn, SameNow, schema_1, kept_in}
 use Rattle.sqlite_schema.specs.Names.{same_name}
 use Rattle.sqlite_catalog.specs.Listing.{IsSound as IsSoundUnder}
 use Rattle.xa_store.specs.keeping.Check.{Checked, IsIdle, IsSoundIn, Loads, MakesTables, MigratesTables, Tested, found_as}
 use Rattle.xa_store.specs.Keeper.{Keeper, IsKeeper, IsSound, are_only_ours}
-use Rattle.xa_store.specs.Opening.{AreNewTables, GivesOrFails, IsBlank, IsFailure, IsKnown, IsMigrated, IsRefusal, LeavesAlone, Makes, MayLeaveTables, Migrates, Opens, Settles, has_room, is_free, no_tables, schema_version_in}
+use Rattle.xa_store.specs.Opening.{AreNewTables, GivesOrFails, IsBlank, IsFailure, IsKnown, IsKnownSchema, IsMigrated, IsRefusal, LeavesAlone, Makes, MayLeaveTables, Migrates, Opens, Settles, has_room, is_free, no_tables, schema_version_in}
 use Rattle.xa_store.specs.declared.keeper.tables.Tables.{Tables}
-use Rattle.xa_store.specs.declared.keeper.tables.Tables.TheVariants.{OnlyOurs}
+use Rattle.xa_store.specs.declared.keeper.tables.Tables.TheVariants.{OnlyOurs, WithOthers}
 use Rattle.xa_store.proofs.ApartLemmas.{fails_no_refusal, survives_still}
 use Rattle.xa_store.proofs.AskedLemmas.{same_then}
 use Rattle.xa_store.proofs.KeeperReadingLemmas.{sound_store}
@@ -37,7 +37,7 @@ module _ (a : State) where
   not_blank : has_room a.now.schema ≡ false → ¬ IsBlank a
   not_blank full blank = true≢false (sym blank_has_room ∙ ap has_room (sym blank.schema) ∙ full)
 
-  not_second : schema_version_in a.now.schema ≡ Schema1 → ¬ Rests a
+  pub not_second : schema_version_in a.now.schema ≡ Schema1 → ¬ Rests a
   not_second first rests = absurd (let e : Schema1 ≡ Schema2 = sym first ∙ ap schema_version_in rests.schema ∙ version_told Schema2 in cc)
 
   not_first : schema_version_in a.now.schema ≡ Schema2 → ¬ RestsIn schema_1 a
@@ -82,6 +82,7 @@ module _ (version : SchemaVersion) (a c : State) (quiet : IsIdle a) (schema : a.
           database = subst IsDatabase (sym still.now) (check.live clean);
           opens = ap (λ (d : Database). opened version d.trees) still.now ∙ check.opened clean rests;
         };
+    own = λ is. schema;
   }
 
   ours_refused : (e : OpenError) → Checked version a c (Err e) → Tested version a c (Err e)
@@ -93,6 +94,7 @@ module _ (version : SchemaVersion) (a c : State) (quiet : IsIdle a) (schema : a.
     known = λ rests. tt;
     stays = λ clean rests. tt;
     sound = λ clean. tt;
+    own = tt;
   }
 
   pub ours_told : (r : Result (Unit {0}) OpenError) → Checked version a c r → Tested version a c (found_as OnlyOurs r)
@@ -109,6 +111,7 @@ not_tested version a = record {
   known = λ rests. tt;
   stays = λ clean rests. tt;
   sound = λ clean. tt;
+  own = tt;
 }
 
 -- ---- the tables were made first, or there were some
@@ -133,6 +136,7 @@ module _ (a b : State) (room : IsTrue (has_room a.now.schema)) where
     fails = λ blank. is;
     ours = λ clean. tt;
     stays = λ clean h. tt;
+    known = tt;
   }
 
   pub not_made : (e : OpenError) → MakesTables {X = Unit {0}} a b (Err e) → Loads a b (Err e)
@@ -154,8 +158,21 @@ module _ (a b : State) (room : IsTrue (has_room a.now.schema)) where
     pub made_failed : (e other : OpenError) → IsFailure e → Tested Schema2 b c (Err other) → Loads a c (Err e)
     made_failed e other is test = failed_loads c e is (left_at_last (Err other) test) (λ clean blank up. inr (is_made (Err other) test clean blank up))
 
-    pub made_sound : (own : Tables) → Tested Schema2 b c (Ok own) → Loads a c (Ok own)
-    made_sound own test = record {
+    -- where no table was they are alone, if the check says so; and else they stand beside others
+    pub made_sound : (own : Tables) (had_none : Bool) → (IsTrue had_none ↔ (a.now.schema ≡ no_tables)) → Tested Schema2 b c (Ok own) → Loads a c (Ok (cond had_none own WithOthers))
+    made_sound own false none test = record {
+      survives = left_at_last (Ok own) test;
+      left = tt;
+      refused = λ clean up. tt;
+      opens = λ clean rests. absurd (no_rest a room Schema2 rests);
+      migrates = λ clean rests. absurd (no_rest a room Schema1 rests);
+      makes = λ clean blank. absurd (true≢false (sym (none.1 blank.schema)));
+      fails = λ blank. tt;
+      ours = λ clean is. absurd (true≢false (sym is));
+      stays = λ clean h. nothing_known a (no_rest a room Schema2) (no_rest a room Schema1) (λ blank. absurd (true≢false (sym (none.1 blank.schema)))) h;
+      known = λ is. absurd (true≢false (sym is));
+    }
+    made_sound own true none test = record {
       survives = left_at_last (Ok own) test;
       left = tt;
       refused = λ clean up. tt;
@@ -167,6 +184,7 @@ module _ (a b : State) (room : IsTrue (has_room a.now.schema)) where
       fails = λ blank. tt;
       ours = λ clean is. sound_ours c (test.sound clean is);
       stays = λ clean h. nothing_known a (no_rest a room Schema2) (no_rest a room Schema1) (λ blank. test.stays clean (made.made (between (Ok own) test clean) blank).1) h;
+      known = λ is. inr (inr (none.0 refl));
     }
 
 -- tables of schema 2
@@ -182,8 +200,13 @@ module _ (a c : State) (full : has_room a.now.schema ≡ false) (second : schema
     fails = λ blank. absurd (not_blank a full blank);
     ours = λ clean. ours r (test.sound clean);
     stays = λ clean. stays (test.stays clean);
+    known = known r test.own;
   }
     where
+      known : (r2 : Result Tables OpenError) → IfOk r2 (λ own. IsTrue (are_only_ours own) → a.now.schema ≡ schema_of Schema2) → IfOk r2 (λ own. IsTrue (are_only_ours own) → IsKnownSchema a.now.schema)
+      known (Ok own) schema = λ is. inl (schema is)
+      known (Err e) schema = tt
+
       left : (r2 : Result Tables OpenError) → IfErr r2 (λ e. IsRefusal e → Survives a c (λ _. ⊥))
       left (Ok own) = tt
       left (Err e) = λ refusal. test.survives
@@ -222,6 +245,7 @@ module _ (a b : State) (full : has_room a.now.schema ≡ false) (first : schema_
     fails = λ blank. absurd (not_blank a full blank);
     ours = λ clean. tt;
     stays = λ clean h. tt;
+    known = tt;
   }
 
   module _ (c : State) (own : Tables) (test : Tested Schema1 a b (Ok own)) where
@@ -261,6 +285,7 @@ module _ (a b : State) (full : has_room a.now.schema ≡ false) (first : schema_
           let it = moved.migrated clean (test.sound (first_between (Ok x) moved clean) is) in
           opened_ours c it.1 (subst (λ schema. IsSoundUnder schema c.now.trees) (sym it.1.schema) it.2.sound.database) it.2.sound.opens;
       stays = λ clean h. first_known (λ rests. (moved.migrated clean (sound (first_between (Ok x) moved clean) rests)).0) h;
+      known = λ is. inr (inl (test.own is));
     }
 
     pub unmigrated_loads : (e : OpenError) → MigratesTables {X = Unit {0}} b c (Err e) → Loads a c (Err e)
@@ -276,6 +301,7 @@ module _ (a b : State) (full : has_room a.now.schema ≡ false) (first : schema_
       fails = λ blank. absurd (not_blank a full blank);
       ours = λ clean. tt;
       stays = λ clean h. tt;
+      known = tt;
     }
 
 pub busy_loads : (a : State) → Loads a a (Err Store)
@@ -289,6 +315,7 @@ busy_loads a = record {
   fails = λ blank. inl refl;
   ours = λ clean. tt;
   stays = λ clean h. tt;
+  known = tt;
 }
 
 -- ---- a keeper over what was loaded, or the connection back

@@ -72,7 +72,7 @@ pub show_role_is : IsQuery text.show_role (reading (of_table 3 (is 1 0 ∷ is 2 
 unfolding understood everything
 show_role_is = (refl, refl, (refl, refl))
 
-pub show_document_kinds_is : IsQuery text.show_document_kinds (reading (of_table 5 (is 1 0 ∷ []) (col 1 2 ∷ []) ([])) (codes "kind" ∷ []))
+pub show_document_kinds_is : IsQuery text.show_document_kinds (reading (of_table 5 (is 1 0 ∷ []) (col 1 2 ∷ []) (2 ∷ 3 ∷ 4 ∷ [])) (codes "kind" ∷ []))
 unfolding understood everything
 show_document_kinds_is = (refl, refl, (refl, refl))
 

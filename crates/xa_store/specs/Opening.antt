@@ -18,7 +18,7 @@ use Rattle.xa_store.specs.Meaning.{kept_in, kept_in_schema_1}
 use Rattle.xa_store.specs.Opened.{opened}
 use Rattle.xa_store.specs.Rows.{meta_row}
 use Rattle.xa_store.specs.Sound.{IsOurDatabase, OpensSoundly, Rests, RestsIn, SameNow}
-use Rattle.xa_store.specs.Tables.{meta_tree, schema_1, tree_of}
+use Rattle.xa_store.specs.Tables.{meta_tree, schema_1, schema_2, tree_of}
 
 abbrev pub no_tables : Schema
 no_tables = record { tables = []; indexes = []; views = [] }
@@ -38,6 +38,10 @@ has_room schema =
 -- which schema a keeper's tables have: schema 1 has nothing named `sources`, and schema 2 has that table
 abbrev pub schema_version_in : Schema → SchemaVersion
 schema_version_in schema = if is_free schema (codes "sources") then Schema1 else Schema2
+
+-- the schema is one of a keeper's two, or nothing is in it
+abbrev pub IsKnownSchema : Schema → Type 0
+IsKnownSchema schema = (schema ≡ schema_2) ⊎ ((schema ≡ schema_1) ⊎ (schema ≡ no_tables))
 
 -- a store without tables, in which nothing waits for a commit
 pub record IsBlank (s : State) : Type 0 where

@@ -15,8 +15,9 @@ ghost use Rattle.sqlite.specs.State.{HasCleanDisk, Survives};
 ghost use Rattle.xa_store.specs.keeping.Check.{IsIdle, Loads, Tested, found_as};
 ghost use Rattle.xa_store.specs.Keeper.{IsSound};
 ghost use Rattle.xa_store.specs.Opened.{schema_of};
-ghost use Rattle.xa_store.specs.Opening.{has_room, held_in, schema_version_in, IsBlank, IsKnown, IsRefusal};
-ghost use Rattle.xa_store.specs.Opening.{LeavesAlone, Makes, MayLeaveTables, Migrates, Opens, Settles};
+ghost use Rattle.xa_store.specs.Opening.{has_room, held_in, schema_version_in, IsBlank, IsKnown};
+ghost use Rattle.xa_store.specs.Opening.{IsKnownSchema, IsRefusal, LeavesAlone, Makes, MayLeaveTables};
+ghost use Rattle.xa_store.specs.Opening.{Migrates, Opens, Settles};
 ghost use Rattle.xa_store.specs.declared.error.OpenError.TheVariants.{Store};
 ghost use Rattle.xa_store.specs.declared.keeper.tables.Tables.TheVariants.{OnlyOurs, WithOthers};
 ghost use Rattle.xa_store.specs.declared.schema.version.SchemaVersion.TheVariants.{Schema1};
@@ -31,7 +32,7 @@ use crate::keeper::SqlRecords;
 use crate::keeper::tables::Tables;
 use crate::schema::creation::make;
 use crate::schema::migration::migrate;
-use crate::schema::shape::{has_room, has_schema, schema_version_in};
+use crate::schema::shape::{has_room, has_schema, is_blank, schema_version_in};
 use crate::schema::version::SchemaVersion;
 use sqlite::{Alter, Connection};
 use sqlite_schema::schema::Schema;
@@ -61,6 +62,8 @@ impl<S: Alter> SqlRecords<S> {
             IsTrue k.had_only_our_tables → IsTrue (state S.Store k.conn).is_open → IsSound S.Store k) }
         ensures stays { HasCleanDisk (state S.Store (held_in S.Store result)) → IsKnown (state S.Store conn)
             → IfOk result (λ k. IsTrue (state S.Store k.conn).is_open) }
+        ensures known { IfOk result (λ k.
+            IsTrue k.had_only_our_tables → IsKnownSchema (state S.Store conn).now.schema) }
     {
         match make_or_check(alloc, &mut conn) {
             Ok(tables) => Ok(SqlRecords::over(conn, tables)),
@@ -124,8 +127,12 @@ fn make_and_check<S: Alter>(alloc: Global, conn: &mut Connection<S>) -> Result<T
     requires { IsTrue (has_room (state S.Store conn.old).now.schema) }
     ensures { Loads (state S.Store conn.old) (state S.Store conn.new) result }
 {
+    let had_none = is_blank(conn.schema());
     make(conn)?;
-    check_as(alloc, conn, SchemaVersion::Schema2).map_err(error_after_making)
+    match check_as(alloc, conn, SchemaVersion::Schema2) {
+        Ok(tables) => Ok(tables.if_alone(had_none)),
+        Err(error) => Err(error_after_making(error)),
+    }
 }
 
 /// Checks tables of schema 1, and then brings them into schema 2. It says which tables there were.

@@ -22,9 +22,10 @@ pub(crate) const SHOW_TOKENS: &str =
 pub(crate) const SHOW_DOCUMENT: &str =
     "SELECT body, active FROM policies WHERE number = ?1 AND kind = ?2 AND id = ?3 AND version = ?4";
 
-/// A row for each of a domain's documents, to count them. The primary key's index has the column that is
-/// shown, so no text is read.
-pub(crate) const SHOW_DOCUMENT_KINDS: &str = "SELECT kind FROM policies WHERE number = ?1";
+/// A row for each of a domain's documents, to count them, in the order of their keys. The primary key's
+/// index has all its columns, in this order, so no text is read.
+pub(crate) const SHOW_DOCUMENT_KINDS: &str =
+    "SELECT kind FROM policies WHERE number = ?1 ORDER BY kind, id, version";
 
 /// The keys of a domain's documents, and which of these are active. The primary key's index doesn't have
 /// `active`, so each row is read whole, with its text.

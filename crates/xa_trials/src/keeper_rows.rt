@@ -4,14 +4,16 @@ use crate::answer::Answer;
 use crate::connections::FrontTrial;
 use crate::driven::run_driven_events;
 use crate::field::{first_field_and_rest, number_of};
-use crate::front_calls::{FrontCalls, Renew};
+use crate::front_calls::{FrontCalls, Renew, ServerCalls};
 use crate::keeper::make_all;
 use crate::keepers::{Reopen, tables};
 use crate::no_answer::{NoAnswer, unless_answered};
 use crate::played::play_events;
+use crate::scripts::messages_of;
 use crate::server::run_server_events;
-use crate::setup::{Setup, front_made, setup_and_events};
+use crate::setup::{Setup, front_made, server_made, setup_and_events};
 use crate::tripping::Tripping;
+use xa_http::Message;
 use xa_records::{PlainRecords, Records};
 use xa_value::Moment;
 
@@ -37,6 +39,8 @@ pub enum KeeperRow<'a> {
     Server(Manner, &'a Setup, &'a [&'a str]),
     /// The same by messages, over a keeper around it whose call after so many others fails.
     FailingServer(u64, &'a Setup, &'a [&'a str]),
+    /// A server over the keeper: what stands before, and the messages, which it answers in one run.
+    Run(&'a Setup, &'a [(Moment, Message)]),
 }
 
 impl KeeperRow<'_> {
@@ -51,8 +55,25 @@ impl KeeperRow<'_> {
                 let failing = Tripping::new(records, left);
                 run_over(answer, failing, Manner::Messages, setup, events)
             }
+            KeeperRow::Run(setup, messages) => {
+                let server = server_made(answer, records, setup)?;
+                push_replies(answer, server, messages)
+            }
         })
     }
+}
+
+/// Adds the server's replies to the messages, which it answers in one run.
+fn push_replies<V: ServerCalls + Drop>(
+    answer: &mut Answer,
+    mut server: V,
+    messages: &[(Moment, Message)],
+) -> Result<(), NoAnswer> {
+    let replies = server.replies_to(messages)?;
+    for reply in &replies {
+        answer.push_field("", reply.bytes());
+    }
+    Ok(())
 }
 
 /// Runs the events on all connections of the front, from that moment on.
@@ -143,6 +164,14 @@ pub fn run_server_row(
     run_over_both(answer, KeeperRow::Server(manner, &setup, events))
 }
 
+/// Answers a row of messages that a server answers in one run, over both.
+pub fn run_whole_row(answer: &mut Answer, fields: &[&str]) -> Result<(), NoAnswer> {
+    let alloc = answer.alloc();
+    let (setup, events) = setup_and_events(alloc, fields)?;
+    let messages = messages_of(alloc, events)?;
+    run_over_both(answer, KeeperRow::Run(&setup, messages.as_slice()))
+}
+
 /// Answers a row of messages to a server over both, of each of which a call fails. The first field says
 /// after how many others.
 pub fn run_failing_row(answer: &mut Answer, fields: &[&str]) -> Result<(), NoAnswer> {
@@ -156,4 +185,11 @@ pub fn run_failing_row(answer: &mut Answer, fields: &[&str]) -> Result<(), NoAns
 pub fn run_messages_in_memory(answer: &mut Answer, fields: &[&str]) -> Result<(), NoAnswer> {
     let (setup, events) = setup_and_events(answer.alloc(), fields)?;
     run_in_memory(answer, KeeperRow::Server(Manner::Messages, &setup, events))
+}
+
+/// Answers a row of messages to a server over tables alone.
+pub fn run_messages_in_tables(answer: &mut Answer, fields: &[&str]) -> Result<(), NoAnswer> {
+    let alloc = answer.alloc();
+    let (setup, events) = setup_and_events(alloc, fields)?;
+    KeeperRow::Server(Manner::Messages, &setup, events).run(answer, tables(alloc)?)
 }

@@ -3,8 +3,8 @@
 use crate::answer::Answer;
 use crate::files::{File, StoreOfFiles};
 use crate::keeper_rows::{
-    KeeperRow, Manner, run_failing_row, run_in_memory, run_messages_in_memory, run_over_both,
-    run_server_row,
+    KeeperRow, Manner, run_failing_row, run_in_memory, run_messages_in_memory,
+    run_messages_in_tables, run_over_both, run_server_row, run_whole_row,
 };
 use crate::no_answer::NoAnswer;
 use crate::{
@@ -48,6 +48,8 @@ fn answer_server(answer: &mut Answer, kind: &str, fields: &[&str]) -> Result<(),
     match kind {
         "server" => run_server_row(answer, Manner::Messages, fields),
         "server_in_memory" => run_messages_in_memory(answer, fields),
+        "server_in_tables" => run_messages_in_tables(answer, fields),
+        "run" => run_whole_row(answer, fields),
         "front" => run_server_row(answer, Manner::FrontCalls, fields),
         "played" => run_server_row(answer, Manner::Played, fields),
         "driven" => run_server_row(answer, Manner::Driven, fields),

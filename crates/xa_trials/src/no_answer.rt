@@ -1,7 +1,9 @@
 //! Why a row gets no answer.
 use std::alloc::{AllocError, AllocFailed};
 use std::io;
+use xa_decide::OverLimit;
 use xa_server::FrontError;
+use xa_value::OrMemory;
 
 /// Why a row gets no answer.
 #[derive(Clone, Copy)]
@@ -30,6 +32,13 @@ impl From<AllocError> for NoAnswer {
 
 impl<T: Drop> From<AllocFailed<T>> for NoAnswer {
     fn from(_error: AllocFailed<T>) -> NoAnswer {
+        NoAnswer::Memory
+    }
+}
+
+impl From<OrMemory<OverLimit>> for NoAnswer {
+    fn from(_error: OrMemory<OverLimit>) -> NoAnswer {
+        // No row sets a limit that comes here.
         NoAnswer::Memory
     }
 }

@@ -58,21 +58,14 @@ impl Setup {
         if let Some(bytes) = self.room {
             server = server.with_view_bytes(bytes);
         }
-        if let Some(bytes) = self.reply {
-            server = server.with_reply_limit(bytes);
-        }
-        if let Some(bytes) = self.reading {
-            server = server.with_reading_limit(bytes);
-        }
         server
+            .with_reply_limit(self.reply)
+            .with_reading_limit(self.reading)
     }
 
     /// The server with the limit of work that is set of it after the messages.
     fn limited<R: Records>(&self, server: Server<R>) -> Server<R> {
-        match self.limit {
-            Some(units) => server.with_work_limit(units),
-            None => server,
-        }
+        server.with_work_limit(self.limit)
     }
 }
 
@@ -134,7 +127,7 @@ fn server_after<V: ServerCalls + Drop>(
 }
 
 /// A server over the keeper, which is set up so.
-fn server_made<R: Records + Drop>(
+pub fn server_made<R: Records + Drop>(
     answer: &mut Answer,
     records: R,
     setup: &Setup,

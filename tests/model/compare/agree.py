@@ -3,7 +3,8 @@
 usage: agree.py rows FOLDER SEED COUNT [KIND..]      writes the rows, in some files
        agree.py compare FILE SEED COUNT [KIND..]     compares the program's answers, read from FILE, with the model's
 
-A kind is one of SHARES below, which says how many of the rows each has where none is named.
+A kind is one of SHARES below, which says how many of the rows each has where none is named; or `full`, domains of as
+many documents and bytes as one may have, a row of which has 16 MB.
 """
 import collections
 import pathlib
@@ -18,6 +19,7 @@ from breaking import Breaking
 from combining import ALGORITHMS, DECISIONS
 from commands import Commands
 from exchanges import Exchanges
+from full import Full
 from functions import BAG_FUNCTIONS, DURATIONS, FUNCTIONS, HIGHER_ORDER, V1, V3
 from inputs import as_read, as_written
 from keeping import Keeping
@@ -53,10 +55,10 @@ class Rows:
         mixing = Mixing(exchanges)
         self.makers = {"values": self.of_values, "expressions": self.of_expressions, "requests": Bodies(self).next,
                        "documents": documents.next, "links": Links(self).next, "decisions": decisions.next,
-                       "limits": Least(decisions).next, "servers": exchanges.next, "rooms": exchanges.rooms,
-                       "sockets": exchanges.sockets, "fronts": mixing.next, "drives": Drives(mixing).next,
-                       "stores": Storing(exchanges).next, "bodies": SmallBodies(self).next,
-                       "records": Keeping(self).next}
+                       "limits": Least(decisions).next, "full": Full(decisions).next, "servers": exchanges.next,
+                       "rooms": exchanges.rooms, "sockets": exchanges.sockets, "fronts": mixing.next,
+                       "drives": Drives(mixing).next, "stores": Storing(exchanges).next,
+                       "bodies": SmallBodies(self).next, "records": Keeping(self).next}
 
     def sound(self, data_type, name=""):
         """A text that reads, and that the named function is likely to take."""
@@ -187,7 +189,7 @@ class Rows:
         return self.random.choice([self.trees.evaluate] * 5 + [self.trees.target])()
 
     def next(self):
-        kind = self.random.choices(self.kinds, [SHARES[kind] for kind in self.kinds])[0]
+        kind = self.random.choices(self.kinds, [SHARES.get(kind, 1) for kind in self.kinds])[0]
         return self.makers[kind]()
 
 

@@ -1,5 +1,6 @@
 """Random rows of decisions, each by a server whose limit of work is the least one with which it decides, and again by
-one whose limit is a unit less."""
+one whose limit is a unit less; and so by the limit of a response's bytes."""
+from counting import body_of
 from json_texts import NotJson
 from machines import view
 from messages import Stream
@@ -29,11 +30,19 @@ def units(fields, moment, asked):
         return 0
 
 
+def length(fields, moment, asked):
+    """The bytes of the response's body, by the server that the fields make."""
+    stream = Stream()
+    stream.held = asked
+    return len(body_of(set_up(fields).answer(stream.next(), moment)))
+
+
 class Least:
-    """Rows of one ask, by twos: under a limit that just suffices, and under one that doesn't."""
+    """Rows of one ask, by fours: under a limit of work that just suffices, and under one that doesn't, and so under
+    limits of the response."""
 
     def __init__(self, decisions):
-        self.decisions, self.below = decisions, None
+        self.decisions, self.made = decisions, []
 
     def domain(self):
         """Fields of a domain with documents, a root and a source."""
@@ -43,13 +52,14 @@ class Least:
         return ["domain:acme", "ask:" + TOKEN, *documents, *self.decisions.root(active), *self.decisions.world.source()]
 
     def next(self):
-        if self.below is not None:
-            found, self.below = self.below, None
-            return found
+        if self.made:
+            return self.made.pop()
         count = 0
         while not count:
             fields, moment, asked = self.domain(), self.decisions.moment(0.7), message(self.decisions.body())
-            count = units(fields, int(moment[0].removeprefix("moment:")) if moment else 0, asked)
-        found, self.below = (["server", f"limit:{limit}", *fields, *moment, "piece:" + encoded(asked)]
-                             for limit in (count, count - 1))
-        return found
+            at = int(moment[0].removeprefix("moment:")) if moment else 0
+            count = units(fields, at, asked)
+        size = length(fields, at, asked)
+        limits = f"limit:{count}", f"limit:{count - 1}", f"reply:{size}", f"reply:{size - 1}"
+        self.made = [["server", limit, *fields, *moment, "piece:" + encoded(asked)] for limit in reversed(limits)]
+        return self.made.pop()

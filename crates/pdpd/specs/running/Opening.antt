@@ -10,7 +10,7 @@ use Rattle.sqlite.specs.Store.{Ghosts}
 use Rattle.sqlite_disk.specs.declared.Disk as disk
 use Rattle.sqlite_store.specs.declared.store.FileStore.{FileStore}
 use Rattle.xa_store.specs.Keeper.{IsSound, Keeper}
-use Rattle.xa_store.specs.Opening.{IsBlank, IsKnown, Makes, Migrates, Opens}
+use Rattle.xa_store.specs.Opening.{IsBlank, IsKnown, IsKnownSchema, Makes, Migrates, Opens}
 use Rattle.xa_store.specs.Sound.{Rests, RestsIn}
 use Rattle.xa_store.specs.Tables.{schema_1}
 
@@ -21,6 +21,7 @@ pub record IsKeeperOver {S : Type 0} (g : Ghosts S) (s : State) (k : Keeper S) :
   pub makes : IsBlank s → Makes g s (Ok k)
   pub stays : HasCleanDisk (state g k.conn) → IsKnown s → IsTrue (state g k.conn).is_open
   pub sound : IsTrue (state g k.conn).is_open → IsSound g k
+  pub known : IsKnownSchema s.now.schema
 
 -- the keeper is what opening a connection to two files gave that held `image`, and the disk has returned what was
 -- written; files that held no database yet have sums, if new ones are to have them

@@ -1,5 +1,5 @@
 -- What is served.
-use Rattle.std.specs.Prelude.{◌≡◌, ◌⊎◌, ℕ, List, Option, None, Some, Result, Ok, Err}
+use Rattle.std.specs.Prelude.{◌≡◌, ◌⊎◌, ℕ, List, [], ◌∷◌, Option, None, Some, Result, Ok, Err}
 use Rattle.xa_records.specs.Keeper.{Custody}
 use Rattle.xa_server.specs.declared.front.Front.{Front}
 use Rattle.xa_server.specs.declared.replies.Reply.{Reply as ServerReply}
@@ -7,8 +7,10 @@ use Rattle.xa_server.specs.Alone.{Event}
 use Rattle.xa_server.specs.Driven.{Known}
 use Rattle.pdpd.specs.declared.fault.Fault.{Fault}
 use Rattle.pdpd.specs.declared.serve.setting.Setting.TheVariants.{Work, Reply, Reading, Views, Idle, Sums}
-use Rattle.pdpd.specs.Connections.{AreIsolated, AreOneRun, Clocked, ServesOne, ServesSome}
+use Rattle.pdpd.specs.Connections.{AreIsolated, Clocked, ServesOne, ServesVisit}
 use Rattle.pdpd.specs.Fault.{IsOfSetting}
+use Rattle.pdpd.specs.OneRun.{AreOneRun}
+use Rattle.pdpd.specs.Peers.{HasVisits, Peer, Visit}
 
 -- a fault of one of the settings
 abbrev pub IsOfSettings : Fault → Type 0
@@ -29,19 +31,30 @@ unfoldable pub ServesConnection : {R : Type 0} → (R → Custody) → Result (U
 ServesConnection custody result old new known_old known_new =
     (events : List Event) × (replies : List ServerReply)
     × ServesOne custody (fault_in result) old new known_old known_new events replies
-    × AreOneRun custody old new events replies
+    × AreOneRun custody old.server new.server events replies
 
--- some connection was served so
-abbrev pub ServesAny : {R : Type 0} → (R → Custody) → Option Fault → Clocked R → Clocked R → Type 0
-ServesAny custody fault old new =
-    (events : List Event) × (replies : List ServerReply) × ServesSome custody fault old new events replies
-    × AreOneRun custody old.front new.front events replies
+-- that connection was served so
+abbrev pub ServesAny : {R : Type 0} → (R → Custody) → Option Fault → Clocked R → Clocked R → Visit → Type 0
+ServesAny custody fault old new visit =
+    (events : List Event) × (replies : List ServerReply) × ServesVisit custody fault old new events replies visit
+    × AreOneRun custody old.front.server new.front.server events replies
 
 -- what serving the next connection has come to: it was served, and the next is; or the program ends by the fault,
 -- before a connection was there or after it was served
-unfoldable pub ServesNext : {R : Type 0} → (R → Custody) → Result (Unit {0}) Fault → Clocked R → Clocked R → Type 0
-ServesNext custody (Ok _) old new = ServesAny custody None old new
-ServesNext custody (Err fault) old new = (new ≡ old) ⊎ ServesAny custody (Some fault) old new
+unfoldable pub ServesNext : {R : Type 0} → (R → Custody) → Result (Unit {0}) Fault → Clocked R → Clocked R → List Visit
+    → Type 0
+ServesNext custody (Ok _) old new visits =
+    (visit : Visit) × (visits ≡ visit ∷ []) × ServesAny custody None old new visit
+ServesNext custody (Err fault) old new visits =
+    ((new ≡ old) × (visits ≡ []))
+    ⊎ ((visit : Visit) × (visits ≡ visit ∷ []) × ServesAny custody (Some fault) old new visit)
+
+-- `ServesNext`, of the connection that was given
+pub record ServesNextOver {R P : Type 0} (custody : R → Custody) (came parted : P → Option (List Peer))
+    (result : Result (Unit {0}) Fault) (old new : Clocked R) (peers_old peers_new : P) : Type 0 where
+  pub visits : List Visit
+  pub served : ServesNext custody result old new visits
+  pub visited : HasVisits came parted peers_old peers_new visits
 
 -- connections were served, as `AreIsolated` says
 unfoldable pub Serves : {R : Type 0} → (R → Custody) → ℕ → Result (Unit {0}) Fault → Clocked R → Clocked R → Type 0

@@ -4,13 +4,15 @@ use Rattle.std.specs.Io.KnownBytes.{Appends}
 use Rattle.xa_http.specs.declared.fault.SessionFault.{SessionFault}
 use Rattle.xa_http.specs.declared.message.Message.{Message}
 use Rattle.xa_http.specs.declared.session.Next.TheVariants as next
-use Rattle.xa_http.specs.Messages.{IsNext}
+use Rattle.xa_http.specs.Messages.{Cuts, IsNext}
 use Rattle.xa_http.specs.Stream.{Stream}
+use Rattle.xa_records.specs.Keeper.{Custody}
 use Rattle.xa_server.specs.declared.replies.Reply.{Reply}
-use Rattle.xa_server.specs.Connection.{AreAnswered, all_replies}
-use Rattle.xa_server.specs.World.{ServerState}
+use Rattle.xa_server.specs.Connection.{all_replies}
+use Rattle.xa_server.specs.World.{ServerModel}
 use Rattle.pdpd.specs.declared.replay.heading.Heading.{Heading}
 use Rattle.pdpd.specs.Entry.{events_at, reply_entries}
+use Rattle.pdpd.specs.OneRun.{AreOneRun}
 
 -- the stream stands where messages that were cut off leave it, or it has ended there by the fault
 abbrev pub LeavesOff : Option SessionFault → Stream → Stream → Type 0
@@ -19,21 +21,22 @@ LeavesOff (Some fault) last after = IsNext last (next.Fault fault) after
 
 -- a part of what a stream held was answered: messages at its front, each at that moment, and after them the fault by
 -- which it ends, if that was reached
-pub record AreTold (moment : ℤ) (old new : ServerState) (stream after : Stream) (replies : List (List ℕ))
-    : Type 0 where
+pub record AreTold {R : Type 0} (custody : R → Custody) (moment : ℤ) (old new : ServerModel R)
+    (stream after : Stream) (replies : List (List ℕ)) : Type 0 where
   pub messages : List Message
   pub fault : Option SessionFault
   pub run : List Reply
   pub last : Stream
-  pub answered : AreAnswered old new stream last (events_at moment messages) run
+  pub cuts : Cuts stream messages last
+  pub are_one : AreOneRun custody old new (events_at moment messages) run
   pub ends : LeavesOff fault last after
   pub are_all : replies ≡ all_replies run fault
 
 -- `AreTold`, and the replies were written
-unfoldable pub IsToldAndWritten : Heading → ServerState → ServerState → Stream → Stream → Option (List ℕ)
-    → Option (List ℕ) → Type 0
-IsToldAndWritten heading old new stream after before now =
-    (replies : List (List ℕ)) × AreTold heading.moment old new stream after replies
+unfoldable pub IsToldAndWritten : {R : Type 0} → (R → Custody) → Heading → ServerModel R → ServerModel R → Stream
+    → Stream → Option (List ℕ) → Option (List ℕ) → Type 0
+IsToldAndWritten custody heading old new stream after before now =
+    (replies : List (List ℕ)) × AreTold custody heading.moment old new stream after replies
     × Appends before now (reply_entries heading.connection replies)
 
 -- how a stream stands after an answer: its session goes on, and another message may be whole; or it waits for more, or

@@ -1,7 +1,7 @@
 //! The socket at which connections are taken.
 use crate::fault::Fault;
 use crate::listen::place::Place;
-use crate::listen::seat::Stream;
+use crate::listen::stream::Stream;
 use mio::net::{TcpListener, UnixListener, UnixStream};
 use mio::{Interest, Registry, Token};
 use std::fs;

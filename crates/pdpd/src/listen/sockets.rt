@@ -5,8 +5,9 @@ ghost use Rattle.pdpd.specs.Listening.{arrival_after};
 use crate::fault::Fault;
 use crate::listen::door::Door;
 use crate::listen::input::Input;
-use crate::listen::seat::{Seat, Stream};
+use crate::listen::stream::Stream;
 use crate::listen::telling::Telling;
+use crate::refusals::Refusals;
 use crate::serve::listening::{goes_on_after, is_want_of_room, number_of};
 use mio::event::Event;
 use mio::{Events, Poll, Token};
@@ -14,6 +15,7 @@ use std::io::{self, ErrorKind};
 use std::rt::HostRuntime;
 use std::time::Duration;
 use xa_reactor::{Arrival, Board, Network, PLACES, Ready, Reason};
+use xa_server::RefusedMessage;
 
 /// The token of the door. Those below are places of connections.
 const DOOR: usize = PLACES;
@@ -33,15 +35,17 @@ pub struct Sockets<'a> {
     /// The connection that was taken last, unless it is seated.
     guest: Option<Stream>,
     /// The connections that are seated, by their places.
-    seats: Vec<Option<Seat>>,
+    seats: Vec<Option<Stream>>,
     /// Standard input, which is watched if the program ends with it.
     input: Input,
     /// Where lines about them are written.
     telling: Telling<'a>,
+    /// Where lines about messages are written that were refused.
+    refusals: Refusals,
 }
 
 /// The seats, of which none is taken.
-fn free_seats(rt: &HostRuntime) -> Result<Vec<Option<Seat>>, Fault> {
+fn free_seats(rt: &HostRuntime) -> Result<Vec<Option<Stream>>, Fault> {
     let mut seats = Vec::with_capacity(rt.alloc(), PLACES)?;
     for _ in 0..PLACES {
         seats.push(None)?;
@@ -111,6 +115,7 @@ impl<'a> Sockets<'a> {
             seats: free_seats(rt)?,
             input,
             telling,
+            refusals: Refusals::new(rt),
         })
     }
 
@@ -156,28 +161,28 @@ impl Network for Sockets<'_> {
         // If this fails nobody sits there, and the next read says so.
         if guest.register(self.poll.registry(), Token(place)).is_ok() {
             if let Some(seat) = self.seats.get_mut(place) {
-                *seat = Some(Seat::new(guest));
+                *seat = Some(guest);
             }
         }
     }
 
     fn receive(&mut self, place: usize, room: &mut [u8]) -> io::Result<usize> {
         match self.seats.get_mut(place) {
-            Some(Some(seat)) => seat.receive(room),
+            Some(Some(stream)) => stream.receive(room),
             _ => Err(nobody()),
         }
     }
 
     fn send(&mut self, place: usize, bytes: &[u8]) -> io::Result<usize> {
         match self.seats.get_mut(place) {
-            Some(Some(seat)) => seat.send(bytes),
+            Some(Some(stream)) => stream.send(bytes),
             _ => Err(nobody()),
         }
     }
 
     fn part(&mut self, place: usize) {
-        if let Some(Some(seat)) = self.seats.get(place) {
-            seat.part();
+        if let Some(Some(stream)) = self.seats.get(place) {
+            stream.part();
         }
     }
 
@@ -185,16 +190,19 @@ impl Network for Sockets<'_> {
         let Some(seat) = self.seats.get_mut(place) else {
             return;
         };
-        let Some(left) = seat.take() else {
+        let Some(stream) = seat.take() else {
             return;
         };
-        // An idle connection that ends is no news.
-        if reason == Reason::Late && !left.is_idle() {
-            self.telling.tell_of_drop(left.peer());
+        if reason == Reason::Late {
+            self.telling.tell_of_drop(stream.peer());
         }
     }
 
     fn shut_door(&mut self) {
         self.door = None;
+    }
+
+    fn tell_of_refused(&mut self, refused: &RefusedMessage) {
+        self.refusals.tell(refused);
     }
 }

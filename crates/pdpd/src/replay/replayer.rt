@@ -3,13 +3,12 @@ ghost use Rattle.std.specs.Prelude.{◌≡◌, ◌<◌, [], IsTrue, IfErr, IfOk,
 ghost use Rattle.std.specs.Io.Buffered.{writer_buffer, writer_contents, writer_inner};
 ghost use Rattle.sha2.specs.Sha256.{sha256};
 ghost use Rattle.xa_server.specs.Decisions.{nothing_cached};
-ghost use Rattle.xa_server.specs.Front.{front_state};
 ghost use Rattle.xa_server.specs.Lines.{all_open};
 ghost use Rattle.pdpd.specs.declared.exit.Exit.TheVariants.{Memory};
 ghost use Rattle.pdpd.specs.Exit.{breaks_off};
+ghost use Rattle.pdpd.specs.OneRun.{IsSomeRun};
 ghost use Rattle.pdpd.specs.Replay.{IsEntryReplied};
 ghost use Rattle.pdpd.specs.running.Replaying.{AreReady, Writes};
-ghost use Rattle.pdpd.specs.running.Serving.{WasSound};
 
 use crate::exit::Exit;
 use crate::replay::heading::Heading;
@@ -63,11 +62,10 @@ impl<R: Records + Drop, W: Write + Drop> Replayer<R, W> {
         requires ready { AreReady self.old.front.lines }
         requires within { heading.now.connection < 64 }
         ensures ready { OnOk result (AreReady self.new.front.lines) }
-        ensures replied { OnOk result ((R.custody self.new.front.server.records).sound
-            → Writes (writer_contents W.contents self.old.writer) (writer_contents W.contents self.new.writer)
-            (IsEntryReplied heading.now bytes.now
-            (front_state R.custody self.old.front) (front_state R.custody self.new.front))) }
-        ensures sound { WasSound R.custody self.old.front self.new.front }
+        ensures replied { OnOk result (Writes
+            (writer_contents W.contents self.old.writer) (writer_contents W.contents self.new.writer)
+            (IsEntryReplied R.custody heading.now bytes.now self.old.front self.new.front)) }
+        ensures served { IsSomeRun R.custody self.old.front.server self.new.front.server }
         ensures err { IfErr result (λ exit. IsTrue (breaks_off exit)) }
     {
         let conn = Conn {

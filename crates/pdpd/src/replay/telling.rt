@@ -2,9 +2,9 @@
 ghost use Rattle.std.specs.Prelude.{◌≡◌, ◌≤◌, ◌<◌, Ok, IfErr, IfOk, IsTrue, OnOk, false, true, length};
 ghost use Rattle.xa_http.specs.Stream.{fed};
 ghost use Rattle.xa_server.specs.declared.front_error.FrontError.TheVariants as front;
-ghost use Rattle.xa_server.specs.World.{server_state};
 ghost use Rattle.pdpd.specs.declared.exit.Exit.TheVariants.{Memory};
 ghost use Rattle.pdpd.specs.Exit.{breaks_off};
+ghost use Rattle.pdpd.specs.OneRun.{IsSomeRun};
 ghost use Rattle.pdpd.specs.Replay.{ConnectionTakes, StreamTakes};
 ghost use Rattle.pdpd.specs.running.Replaying.{Writes};
 ghost use Rattle.pdpd.specs.running.Telling.{HasRoom, IsToldAndWritten, Stands};
@@ -31,6 +31,7 @@ fn exit_of_refusal(_error: FrontError) -> Exit
 
 /// Answers the next of a connection, and writes the reply, if there is one. Whether its session goes on, so
 /// that another message may be whole.
+#[tactic(auto, using(crate::proofs::RunLemmas::some_none))]
 fn answer_next<R: Records, W: Write>(
     server: &mut Server<R>,
     connection: &mut Connection,
@@ -38,12 +39,11 @@ fn answer_next<R: Records, W: Write>(
     heading: &Heading,
 ) -> Result<bool, Exit>
     requires { connection.old.ended ≡ false }
-    ensures told { OnOk result ((R.custody server.new.records).sound
-        → IsToldAndWritten heading.now (server_state R.custody server.old) (server_state R.custody server.new)
+    ensures told { OnOk result (IsToldAndWritten R.custody heading.now server.old server.new
         connection.old connection.new (W.contents writer.old) (W.contents writer.new)) }
     ensures stands { IfOk result (λ goes_on. Stands goes_on connection.new) }
     ensures fewer { result ≡ Ok true → length connection.new.held < length connection.old.held }
-    ensures sound { (R.custody server.new.records).sound → (R.custody server.old.records).sound }
+    ensures served { IsSomeRun R.custody server.old server.new }
     ensures err { IfErr result (λ exit. IsTrue (breaks_off exit)) }
 {
     match connection.answer(server, heading.moment)? {
@@ -56,6 +56,7 @@ fn answer_next<R: Records, W: Write>(
 }
 
 /// Hands a piece over, and writes the replies to all messages that are whole then.
+#[tactic(auto, using(crate::proofs::RunLemmas::some_none))]
 fn take_piece<R: Records, W: Write>(
     server: &mut Server<R>,
     connection: &mut Connection,
@@ -66,11 +67,10 @@ fn take_piece<R: Records, W: Write>(
     requires goes_on { connection.old.ended ≡ false }
     requires room { HasRoom connection.old }
     requires few { length piece.now ≤ 65_536 }
-    ensures told { OnOk result ((R.custody server.new.records).sound
-        → IsToldAndWritten heading.now (server_state R.custody server.old) (server_state R.custody server.new)
+    ensures told { OnOk result (IsToldAndWritten R.custody heading.now server.old server.new
         (fed connection.old piece.now) connection.new (W.contents writer.old) (W.contents writer.new)) }
     ensures stands { OnOk result (Stands false connection.new) }
-    ensures sound { (R.custody server.new.records).sound → (R.custody server.old.records).sound }
+    ensures served { IsSomeRun R.custody server.old server.new }
     ensures err { IfErr result (λ exit. IsTrue (breaks_off exit)) }
 {
     if let Err(error) = connection.take(piece) {
@@ -91,12 +91,10 @@ fn take<R: Records, W: Write>(
 ) -> Result<(), Exit>
     requires goes_on { connection.old.ended ≡ false }
     requires room { HasRoom connection.old }
-    ensures taken { OnOk result ((R.custody server.new.records).sound
-        → Writes (W.contents writer.old) (W.contents writer.new)
-        (StreamTakes heading.now bytes.now connection.old connection.new
-        (server_state R.custody server.old).world (server_state R.custody server.new).world)) }
+    ensures taken { OnOk result (Writes (W.contents writer.old) (W.contents writer.new)
+        (StreamTakes R.custody heading.now bytes.now connection.old connection.new server.old server.new)) }
     ensures room { OnOk result (HasRoom connection.new) }
-    ensures sound { (R.custody server.new.records).sound → (R.custody server.old.records).sound }
+    ensures served { IsSomeRun R.custody server.old server.new }
     ensures err { IfErr result (λ exit. IsTrue (breaks_off exit)) }
 {
     let mut rest = bytes;
@@ -113,7 +111,7 @@ fn take<R: Records, W: Write>(
 
 /// Hands the bytes of an entry to a connection, and writes the replies to them. An entry without bytes closes
 /// it, and the next begins in its place; else one whose session has ended passes them over.
-#[tactic(auto, using(crate::proofs::TakingLemmas::closed, crate::proofs::TakingLemmas::passed_over, crate::proofs::TakingLemmas::gone_on))]
+#[tactic(auto, using(crate::proofs::RunLemmas::some_none, crate::proofs::TakingLemmas::closed, crate::proofs::TakingLemmas::passed_over, crate::proofs::TakingLemmas::gone_on))]
 pub fn answer_bytes<R: Records, W: Write>(
     alloc: Global,
     server: &mut Server<R>,
@@ -123,12 +121,11 @@ pub fn answer_bytes<R: Records, W: Write>(
     bytes: &[u8],
 ) -> Result<(), Exit>
     requires { HasRoom connection.old }
-    ensures taken { OnOk result ((R.custody server.new.records).sound
-        → Writes (W.contents writer.old) (W.contents writer.new)
-        (ConnectionTakes heading.now bytes.now connection.old connection.new
-        (server_state R.custody server.old) (server_state R.custody server.new))) }
+    ensures taken { OnOk result (Writes (W.contents writer.old) (W.contents writer.new)
+        (ConnectionTakes R.custody heading.now bytes.now connection.old connection.new
+        server.old server.new)) }
     ensures room { OnOk result (HasRoom connection.new) }
-    ensures sound { (R.custody server.new.records).sound → (R.custody server.old.records).sound }
+    ensures served { IsSomeRun R.custody server.old server.new }
     ensures err { IfErr result (λ exit. IsTrue (breaks_off exit)) }
 {
     if bytes.is_empty() {

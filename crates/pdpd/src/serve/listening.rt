@@ -1,11 +1,14 @@
 //! Taking connections: one that fails is passed over, unless the listener failed.
 ghost use Rattle.std.specs.Prelude.{◌≡◌, IfErr, IsFalse, IsTrue, MatchResult};
-ghost use Rattle.pdpd.specs.declared.fault.Fault.TheVariants.{Connection};
+ghost use Rattle.pdpd.specs.declared.fault.Fault.TheVariants.{Connection, Memory};
 ghost use Rattle.pdpd.specs.Fault.{goes_on_after, is_of_network, is_passing, is_want_of_room};
 
 use crate::fault::Fault;
-use std::io::{self, ErrorKind};
+use crate::serve::peers::Peers;
+use std::alloc::Global;
+use std::io::{self, ErrorKind, Read, Write};
 use std::net::{TcpListener, TcpStream};
+use std::rc::Rc;
 use std::rt::HostRuntime;
 use std::thread;
 use std::time::Duration;
@@ -52,8 +55,8 @@ const EHOSTDOWN: u32 = 112;
 pub struct Listening {
     /// The runtime, which waits if there is no room for a connection.
     rt: HostRuntime,
-    /// The socket at which connections come.
-    listener: TcpListener,
+    /// The socket at which connections come, until the last has come.
+    listener: Option<TcpListener>,
     /// For how many seconds each connection may give nothing, or take nothing; 0 for ever.
     idle: usize,
 }
@@ -63,17 +66,20 @@ impl Listening {
     pub fn new(rt: &HostRuntime, listener: TcpListener, idle: usize) -> Listening {
         Listening {
             rt: *rt,
-            listener,
+            listener: Some(listener),
             idle,
         }
     }
 
     /// Takes the next connection, and prepares it.
-    pub fn next_connection(&self) -> Result<TcpStream, Fault>
+    fn next_connection(&self) -> Result<TcpStream, Fault>
         ensures { IfErr result (λ fault. fault ≡ Connection) }
     {
+        let Some(listener) = &self.listener else {
+            return Err(Fault::Connection);
+        };
         for _ in 0..MAX_FAILURES {
-            match self.listener.accept() {
+            match listener.accept() {
                 Ok((stream, _peer)) => {
                     prepare(&stream, self.idle);
                     return Ok(stream);
@@ -83,6 +89,64 @@ impl Listening {
         }
         Err(Fault::Connection)
     }
+}
+
+/// A connection that is read from or written to: both share its socket.
+#[derive(Drop)]
+pub struct SharedStream {
+    /// The socket.
+    stream: Rc<TcpStream>,
+}
+
+impl Read for SharedStream {
+    fn read(&mut self, room: &mut [u8]) -> io::Result<usize> {
+        let mut stream = &*self.stream;
+        stream.read(room)
+    }
+}
+
+impl Write for SharedStream {
+    fn write(&mut self, bytes: &[u8]) -> io::Result<usize> {
+        let mut stream = &*self.stream;
+        stream.write(bytes)
+    }
+
+    fn flush(&mut self) -> io::Result<()> {
+        let mut stream = &*self.stream;
+        stream.flush()
+    }
+}
+
+/// The connection, to be read from and to be written to.
+fn shared(alloc: Global, stream: TcpStream) -> Result<(SharedStream, SharedStream), Fault>
+    ensures { IfErr result (λ fault. fault ≡ Memory) }
+{
+    let Ok(input) = Rc::new(alloc, stream) else {
+        return Err(Fault::Memory);
+    };
+    let Ok(output) = input.clone() else {
+        return Err(Fault::Memory);
+    };
+    Ok((
+        SharedStream { stream: input },
+        SharedStream { stream: output },
+    ))
+}
+
+impl Peers for Listening {
+    type Input = SharedStream;
+
+    type Output = SharedStream;
+
+    fn next(&mut self, is_last: bool) -> Result<(SharedStream, SharedStream), Fault> {
+        let stream = self.next_connection()?;
+        if is_last {
+            self.listener = None;
+        }
+        shared(self.rt.alloc(), stream)
+    }
+
+    fn part(&mut self, _input: SharedStream, _output: SharedStream) {}
 }
 
 /// Whether the next connection may be taken after a failure of that kind. It was the peer's or the

@@ -52,12 +52,12 @@ impl Settings {
 }
 
 /// The limit that an operator has set: 0 is none.
-fn limit_of(set: usize) -> u64
+fn limit_of(set: usize) -> Option<u64>
     ensures { result ≡ limit_of set }
 {
     match set {
-        0 => u64::MAX,
-        _ => set as u64,
+        0 => None,
+        _ => Some(set as u64),
     }
 }
 

@@ -1,43 +1,43 @@
 -- What is done for all connections, call by call.
 use Rattle.std.specs.Prelude.{◌≡◌, ◌≢◌, ◌⊎◌, ◌≤◌, ℕ, true, List, [], ◌∷◌, ◌++◌, Option, Some, None, Result, Ok, Err}
 use Rattle.std.specs.Prelude.{slice_set}
-use Rattle.std.specs.declared.time.Duration.{Duration}
 use Rattle.xa_records.specs.Keeper.{Custody}
 use Rattle.xa_server.specs.declared.front.Front.{Front}
 use Rattle.xa_reactor.specs.declared.board.Board.{Board}
 use Rattle.xa_reactor.specs.declared.lane.Lane.{Lane}
 use Rattle.xa_reactor.specs.declared.lane.Share.{Share}
-use Rattle.xa_reactor.specs.declared.limits.Limits.{Limits}
+use Rattle.xa_reactor.specs.declared.limits.Terms.{Terms}
 use Rattle.xa_reactor.specs.declared.progress.Progress.{Progress}
 use Rattle.xa_reactor.specs.declared.progress.Progress.TheVariants.{Ends}
 use Rattle.xa_reactor.specs.declared.progress.Reason.{Reason}
 use Rattle.xa_reactor.specs.Step.{DropsAs, IsStepOn, Step, Works, joined}
-use Rattle.xa_reactor.specs.Timing.{KeepsTime}
+use Rattle.xa_reactor.specs.Timing.{IsParted}
 use Rattle.xa_reactor.specs.Traffic.{Traffic}
-use Rattle.xa_reactor.specs.Turn.{AreDone, AreShared, AreTaken, BreaksOff, Deed, EndsBy, IsShareOf, IsTurn, Lanes}
-use Rattle.xa_reactor.specs.Turn.{Turn, calls_of, closes, lane_at, traffic_of, under_way}
+use Rattle.xa_reactor.specs.Turn.{AreDone, AreShared, AreTaken, BreaksOff, Deed, EndsBy, IsShareOf, IsStepIn, IsTurn}
+use Rattle.xa_reactor.specs.Turn.{Lanes, Turn, calls_of, closes, lane_at, traffic_of, under_way}
 
--- why a connection is closed behind a step, if it is
-abbrev pub EndsAt : Limits → ℕ → Step → Lane → Progress → Type 0
-EndsAt limits now step lane (Ends reason) = EndsBy limits now step lane reason
-EndsAt limits now step lane _ = Unit {0}
+-- why a connection is closed behind a step, if it is; else it isn't late, if it was parted with
+abbrev pub EndsAt : Terms → Step → Lane → Progress → Type 0
+EndsAt terms step lane (Ends reason) = EndsBy terms step lane reason
+EndsAt terms step lane _ = IsParted terms lane
 
 -- that by what a step came to
-abbrev pub EndsIf : {E : Type 0} → Limits → ℕ → Step → Lane → Result Progress E → Type 0
-EndsIf limits now step lane (Ok progress) = EndsAt limits now step lane progress
-EndsIf limits now step lane (Err _) = Unit {0}
+abbrev pub EndsIf : {E : Type 0} → Terms → Step → Lane → Result Progress E → Type 0
+EndsIf terms step lane (Ok progress) = EndsAt terms step lane progress
+EndsIf terms step lane (Err _) = Unit {0}
 
 -- what is known of a share before it
-pub record IsShareAt (share : Share) (now : Duration) (place : ℕ) (lanes : Lanes) : Type 0 where
+pub record IsShareAt (share : Share) (terms : Terms) (place : ℕ) (lanes : Lanes) : Type 0 where
   pub conn : share.conn ≡ record { number = place }
-  pub at : share.now ≡ now
+  pub at : share.now ≡ terms.began
+  pub parts : share.parts ≡ terms.parts
   pub there : lane_at place lanes ≢ None
   pub room : share.has_room ≡ true → under_way lanes ≤ 33_554_432
 
 -- a turn
-abbrev pub turn_of : Limits → Board → ℕ → ℕ → List Deed → List Deed → Turn
-turn_of limits board now first taken shared =
-    record { limits = limits; board = board; now = now; first = first; taken = taken; shared = shared }
+abbrev pub turn_of : Terms → Board → ℕ → List Deed → List Deed → Turn
+turn_of terms board first taken shared =
+    record { terms = terms; board = board; first = first; taken = taken; shared = shared }
 
 module _ {R N : Type 0} (custody : R → Custody) (done : N → Option (List Traffic)) where
   -- deeds were done by a front and over a network, and are so
@@ -53,40 +53,40 @@ module _ {R N : Type 0} (custody : R → Custody) (done : N → Option (List Tra
   TakesSome board now old new = Does (λ deeds. AreTaken board now deeds old new) old new
 
   -- the connection at a place had one step; in `ends` is why it is to be closed then, if it is
-  pub record StepsAt {E : Type 0} (result : Result Progress E) (limits : Limits) (now place : ℕ) (old new : Lanes)
+  pub record StepsAt {E : Type 0} (result : Result Progress E) (terms : Terms) (place : ℕ) (old new : Lanes)
       (front_old front_new : Front R) (network_old network_new : N) : Type 0 where
     pub step : Step
     pub was : Lane
     pub is : Lane
     pub there : lane_at place old ≡ Some was
     pub its : step.conn ≡ record { number = place }
+    pub within : IsStepIn terms step
     pub is_step : IsStepOn step was is
     pub room : (step.answer ≡ None) ⊎ (under_way old ≤ 33_554_432)
-    pub time : KeepsTime now step.answer was is
-    pub ends : EndsIf limits now step is result
+    pub ends : EndsIf terms step is result
     pub drops : DropsAs step.dropped is.stage result
     pub put : new ≡ slice_set old place (Some is)
     pub works : Works custody done (joined step.fed step.asked) step.traffic front_old front_new network_old network_new
 
   -- a place had its share; or that was broken off
-  abbrev pub Shares : {X E : Type 0} → Result X E → Limits → ℕ → ℕ → Lanes → Lanes → Front R → Front R → N → N → Type 0
-  Shares (Ok _) limits now place old new =
-      Does (λ deeds. IsShareOf limits now place (lane_at place old) deeds (lane_at place new)) old new
-  Shares (Err _) limits now place old new = BreaksOff custody done old new
+  abbrev pub Shares : {X E : Type 0} → Result X E → Terms → ℕ → Lanes → Lanes → Front R → Front R → N → N → Type 0
+  Shares (Ok _) terms place old new =
+      Does (λ deeds. IsShareOf terms place (lane_at place old) deeds (lane_at place new)) old new
+  Shares (Err _) terms place old new = BreaksOff custody done old new
 
   -- these places had their shares; or that was broken off
-  abbrev pub ShareEach : {X E : Type 0} → Result X E → Limits → ℕ → List ℕ → Lanes → Lanes → Front R → Front R → N → N
+  abbrev pub ShareEach : {X E : Type 0} → Result X E → Terms → List ℕ → Lanes → Lanes → Front R → Front R → N → N
       → Type 0
-  ShareEach (Ok _) limits now places old new = Does (λ deeds. AreShared limits now places deeds old new) old new
-  ShareEach (Err _) limits now places old new = BreaksOff custody done old new
+  ShareEach (Ok _) terms places old new = Does (λ deeds. AreShared terms places deeds old new) old new
+  ShareEach (Err _) terms places old new = BreaksOff custody done old new
 
   -- connections were taken, and then the places from `first` on had their shares
-  pub record Deals (limits : Limits) (board : Board) (now : ℕ) (old new : Lanes) (front_old front_new : Front R)
+  pub record Deals (terms : Terms) (board : Board) (old new : Lanes) (front_old front_new : Front R)
       (network_old network_new : N) : Type 0 where
     pub first : ℕ
     pub taken : List Deed
     pub shared : List Deed
-    pub is_turn : IsTurn (turn_of limits board now first taken shared) old new
+    pub is_turn : IsTurn (turn_of terms board first taken shared) old new
     pub works : Works custody done (calls_of (taken ++ shared)) (traffic_of (taken ++ shared)) front_old front_new
         network_old network_new
 

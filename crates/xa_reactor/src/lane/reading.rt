@@ -5,8 +5,7 @@ ghost use Rattle.xa_reactor.specs.declared.limits.Stage.TheVariants as stages;
 ghost use Rattle.xa_reactor.specs.declared.progress.Progress.TheVariants as progress;
 ghost use Rattle.xa_reactor.specs.declared.progress.Reason.TheVariants as reasons;
 ghost use Rattle.xa_reactor.specs.Step.{IsEnd};
-ghost use Rattle.xa_reactor.specs.handling.Going.{FeedsBy, Reads, ReadsInTime, StaysInStage, Takes};
-ghost use Rattle.xa_reactor.specs.handling.Going.{held_in};
+ghost use Rattle.xa_reactor.specs.handling.Going.{FeedsBy, Reads, ReadsInTime, StaysInStage, Takes, held_in};
 
 use crate::board::Ready;
 use crate::lane::{Lane, PIECE_BYTES, Share};
@@ -43,6 +42,7 @@ impl Lane {
     fn drop_piece(&mut self, count: usize) -> Progress
         requires { self.old.stage ≡ stages.Parting }
         ensures outgoing { self.new.outgoing ≡ self.old.outgoing }
+        ensures holding { self.new.holding ≡ self.old.holding }
         ensures stays { StaysInStage self.old self.new }
         ensures ends { (result ≡ progress.Goes) ⊎ (result ≡ progress.Ends reasons.Ended) }
     {
@@ -56,8 +56,7 @@ impl Lane {
 
     /// Hands on what was read: to the front, or behind the last reply to nobody.
     fn take<R: Records>(&mut self, front: &mut Front<R>, piece: &[u8], share: Share) -> Progress
-        ensures { Takes R.custody share.conn (as_nanos share.now) result piece.now self.old self.new
-            front.old front.new }
+        ensures { Takes R.custody share result piece.now self.old self.new front.old front.new }
     {
         if self.stage == Stage::Parting {
             return self.drop_piece(piece.len());
@@ -94,8 +93,8 @@ impl Lane {
         room: &mut [u8; PIECE_BYTES],
         share: Share,
     ) -> Progress
-        ensures { Reads R.custody N.done share.conn (as_nanos share.now) result self.old self.new
-            front.old front.new network.old network.new }
+        ensures { Reads R.custody N.done share result self.old self.new front.old front.new
+            network.old network.new }
     {
         if !ready.readable {
             return Progress::Waits;

@@ -1,10 +1,13 @@
 //! How the reply that is under way to a peer is sent, and what is waited for behind it.
 ghost use Rattle.std.specs.Prelude.{◌≡◌, ◌≢◌, ◌<◌, [], length};
 ghost use Rattle.std.specs.Duration.{as_nanos};
+ghost use Rattle.xa_server.specs.declared.holding.Holding.TheVariants as holdings;
 ghost use Rattle.xa_server.specs.Transfers.{Grows};
 ghost use Rattle.xa_reactor.specs.declared.limits.Stage.TheVariants as stages;
-ghost use Rattle.xa_reactor.specs.Step.{IsEnd};
-ghost use Rattle.xa_reactor.specs.handling.Going.{EndsReply, Sends, StaysInStage, finish_by};
+ghost use Rattle.xa_reactor.specs.Sending.{none_under_way};
+ghost use Rattle.xa_reactor.specs.Step.{IsEnd, PartsFor};
+ghost use Rattle.xa_reactor.specs.Timing.{MarksAt};
+ghost use Rattle.xa_reactor.specs.handling.Going.{EndsReply, Sends, StaysInStage, Writes, finish_by};
 
 use crate::board::Ready;
 use crate::lane::{Lane, Share};
@@ -23,8 +26,8 @@ impl Lane {
     /// Counts bytes of a reply that were taken.
     fn count_sent(&mut self, count: usize, now: Duration)
         ensures outgoing { self.new.outgoing ≡ self.old.outgoing }
-        ensures stage { self.new.stage ≡ self.old.stage }
-        ensures since { self.new.since ≡ self.old.since }
+        ensures stays { StaysInStage self.old self.new }
+        ensures marks { MarksAt (as_nanos now) count self.old self.new }
     {
         self.moved = self.moved.saturating_add(count);
         if self.moved >= LEAST_BYTES {
@@ -36,21 +39,23 @@ impl Lane {
     /// Parts with it: its peer is told that no more is sent.
     fn part_with<N: Network>(&mut self, network: &mut N, share: Share)
         ensures outgoing { self.new.outgoing ≡ self.old.outgoing }
+        ensures holding { self.new.holding ≡ self.old.holding }
         ensures stage { self.new.stage ≡ stages.Parting }
         ensures since { self.new.since ≡ share.now }
         ensures done { Grows (N.done network.old) (N.done network.new)
             (finish_by share.conn.number self.new.stage) }
     {
         network.part(share.conn.number);
-        self.holding = Holding::Ended;
         self.enter(Stage::Parting, share.now);
     }
 
     /// What is waited for by what it holds. It is parted with if its stream has ended.
     fn wait_by<N: Network>(&mut self, network: &mut N, holding: Holding, share: Share)
         ensures outgoing { self.new.outgoing ≡ self.old.outgoing }
+        ensures holding { self.new.holding ≡ self.old.holding }
         ensures stage { self.new.stage ≢ stages.Outgoing }
         ensures since { self.new.since ≡ share.now }
+        ensures parts { self.new.stage ≡ stages.Parting → holding ≡ holdings.Ended }
         ensures done { Grows (N.done network.old) (N.done network.new)
             (finish_by share.conn.number self.new.stage) }
     {
@@ -74,6 +79,7 @@ impl Lane {
         ensures done { Grows (N.done network.old) (N.done network.new)
             (finish_by share.conn.number self.new.stage) }
         ensures time { EndsReply (as_nanos share.now) self.old self.new }
+        ensures parts { self.new.stage ≡ stages.Parting → self.new.holding ≡ holdings.Ended }
         ensures ends { IsEnd share.conn.number [] self.new result }
     {
         let Ok(holding) = front.holding(share.conn) else {
@@ -91,13 +97,14 @@ impl Lane {
         network: &mut N,
         share: Share,
     ) -> Progress
-        requires whole { self.old.outgoing ≡ [] }
-        requires stage { self.old.stage ≡ stages.Outgoing }
-        ensures outgoing { self.new.outgoing ≡ [] }
+        requires { self.old.stage ≡ stages.Outgoing }
+        ensures outgoing { self.new.outgoing ≡ none_under_way }
         ensures same { front.new ≡ front.old }
         ensures done { Grows (N.done network.old) (N.done network.new)
             (finish_by share.conn.number self.new.stage) }
         ensures time { EndsReply (as_nanos share.now) self.old self.new }
+        ensures parts { self.new.stage ≡ stages.Parting
+            → PartsFor self.old.outgoing.last share.parts self.new }
         ensures ends { IsEnd share.conn.number [] self.new result }
     {
         let parts = self.outgoing.is_last() || share.parts;
@@ -111,10 +118,8 @@ impl Lane {
 
     /// Sends some of what is under way, by one write.
     fn write<N: Network>(&mut self, network: &mut N, ready: &mut Ready, share: Share) -> Progress
-        requires { 0 < length self.old.outgoing }
-        ensures sends { Sends N.done share.conn (as_nanos share.now) result self.old self.new
-            network.old network.new }
-        ensures stays { StaysInStage self.old self.new }
+        requires { 0 < length self.old.outgoing.left }
+        ensures { Writes N.done share result self.old self.new network.old network.new }
     {
         match self.outgoing.send(network, share.conn.number) {
             Sending::Went(count) => {
@@ -137,8 +142,7 @@ impl Lane {
         ready: &mut Ready,
         share: Share,
     ) -> Progress
-        ensures sends { Sends N.done share.conn (as_nanos share.now) result self.old self.new
-            network.old network.new }
+        ensures sends { Sends N.done share result self.old self.new network.old network.new }
         ensures same { front.new ≡ front.old }
     {
         if self.stage != Stage::Outgoing || self.outgoing.is_empty() {

@@ -201,7 +201,7 @@ impl Reactor {
         ensures same { self.new
             ≡ record self.old { lanes = self.new.lanes; board = self.new.board; door = self.new.door } }
     {
-        if self.leaving.is_some() || !self.door.pause_left(now).is_zero() {
+        if self.door.is_shut || !self.door.pause_left(now).is_zero() {
             return Ok(());
         }
         for _ in 0..PLACES {

@@ -1,6 +1,6 @@
 -- How an ask, a request for a decision that a domain has let in, is answered.
 use Rattle.std.specs.Option.{ok_or}
-use Rattle.std.specs.Prelude.{◌≡◌, ◌⊎◌, ℕ, ℤ, List, length, nat_le, OnErr, Option, Some, None, option_and_then}
+use Rattle.std.specs.Prelude.{◌≡◌, ◌⊎◌, ℕ, ℤ, ⊤, List, length, nat_le, OnErr, Option, Some, None, option_and_then}
 use Rattle.std.specs.Prelude.{option_map, Result, Ok, Err, if◌then◌else◌}
 use Rattle.xa_value.specs.Gives.{◌>>=◌}
 use Rattle.xa_notation.specs.declared.notation_error.NotationError.TheVariants.{NotJson}
@@ -16,6 +16,8 @@ use Rattle.xa_http.specs.declared.route.Route.{Route}
 use Rattle.xa_http.specs.Routes.{route_of}
 use Rattle.xa_server.specs.declared.asks.Ask.{Ask}
 use Rattle.xa_server.specs.declared.asks.ReadAsk.{ReadAsk}
+use Rattle.xa_server.specs.declared.cause.Cause.TheVariants as cause
+use Rattle.xa_server.specs.declared.cause.Cause.TheVariants.{Wanting}
 use Rattle.xa_server.specs.declared.error_code.ErrorCode.{ErrorCode}
 use Rattle.xa_server.specs.declared.error_code.ErrorCode.TheVariants as error
 use Rattle.xa_server.specs.declared.cached_view.CachedView.{CachedView}
@@ -51,7 +53,8 @@ abbrev pub IsResponseReply : Option Responded → Result (List ℕ) HandlingErro
 IsResponseReply meant (Ok bytes) =
     option_map (λ (response : Responded). decision_reply response.body) meant ≡ Some bytes
 IsResponseReply meant (Err (Error code)) = (meant ≡ None) × (code ≡ error.Body NotJson)
-IsResponseReply meant (Err (Failed failure)) = failure ≡ Memory
+IsResponseReply meant (Err (Failed (Wanting failure))) = failure ≡ Memory
+IsResponseReply meant (Err (Failed (cause.OverLimit over))) = ⊤
 
 -- a view was made ready, at that revision; or an error answer says why not, or it failed; and nothing has changed
 abbrev pub IsMadeReady : Kept → Kept → Revision → Result CachedView HandlingError → Result Viewed ErrorCode → Type 0

@@ -1,12 +1,12 @@
 -- How a connection is driven: one read, one reply, and what is known of its messages and of its end.
-use Rattle.std.specs.Prelude.{◌≡◌, ◌≢◌, ℕ, Bool, true, false, List, [], ◌∷◌, Option, Result, Ok, Err, IsTrue}
+use Rattle.std.specs.Prelude.{◌≡◌, ◌≢◌, ℕ, Bool, true, false, List, [], ◌∷◌, Option, Result, Ok, Err}
 use Rattle.std.specs.Io.KnownBytes.{Consumes, IsAtEnd}
 use Rattle.std.specs.declared.io.ErrorKind.{ErrorKind}
 use Rattle.std.specs.declared.io.ErrorKind.TheVariants.{Interrupted}
 use Rattle.xa_http.specs.Stream.{Stream, fed}
 use Rattle.xa_records.specs.Keeper.{Custody}
 use Rattle.xa_server.specs.Alone.{Event}
-use Rattle.xa_server.specs.Connection.{IsOneRun, TakesPiece}
+use Rattle.xa_server.specs.Connection.{TakesPiece}
 use Rattle.xa_server.specs.declared.drive_end.DriveEnd.{DriveEnd}
 use Rattle.xa_server.specs.declared.drive_end.DriveEnd.TheVariants.{Ended, ReadFault, WriteFault, Memory, Shut}
 use Rattle.xa_server.specs.declared.front_error.FrontError.TheVariants as refused
@@ -14,14 +14,6 @@ use Rattle.xa_server.specs.declared.replies.Reply.{Reply}
 use Rattle.xa_server.specs.Driven.{Ends, HasAnswered, IsWaiting, Situation}
 use Rattle.xa_server.specs.Serving.{HaveServed}
 use Rattle.xa_server.specs.Transfers.{Grows, IsReadOn, ReadEnd, bytes_read, gave, unread}
-use Rattle.xa_server.specs.World.{server_state}
-
--- what calls leave of a keeper, whatever it has come to
-pub record LeavesKeeper (old new : Custody) : Type 0 where
-  pub sound : new.sound → old.sound
-  pub clean : new.clean → old.clean
-  pub stays : new.clean → old.sound → IsTrue new.is_open → new.sound
-  pub was_open : IsTrue new.is_open → IsTrue old.is_open
 
 -- ---- one read
 
@@ -54,21 +46,18 @@ IsSentAs written may_go_on last (Err Shut) = written true × (may_go_on ≡ fals
 IsSentAs written may_go_on last (Err WriteFault) = written false
 IsSentAs written may_go_on last _ = ⊥
 
--- a connection has ended, when it might have been read from so often yet: what came last, and how that was served
-pub record HasEnded {R : Type 0} (custody : R → Custody) (end : DriveEnd) (spare : ℕ) (old new : Situation R) : Type 0
-  where
+module _ {R : Type 0} (custody : R → Custody) where
+  -- a connection has ended, when it might have been read from so often yet: what came last, and how that was served
+  pub record HasEnded (end : DriveEnd) (spare : ℕ) (old new : Situation R) : Type 0 where
     pub events : List Event
     pub replies : List Reply
     pub ends : Ends custody end spare old new events replies
-    pub sound : (custody new.server.records).sound → (custody old.server.records).sound
-    pub is_run : (custody new.server.records).sound
-        → IsOneRun (server_state custody old.server) (server_state custody new.server) events replies
     pub served : HaveServed custody old.server events replies new.server
 
--- the next message was answered; or there is none yet, and nothing was done; or the connection has ended, maybe after
--- a message, however often it might have been read from yet
-abbrev pub IsNextAnswered : {R : Type 0} → (R → Custody) → Result Bool DriveEnd → Situation R → Situation R → Type 0
-IsNextAnswered custody (Ok true) old new = HasAnswered custody 0 old new
-IsNextAnswered custody (Ok false) old new = (new ≡ old) × IsWaiting new.stream
-IsNextAnswered {R} custody (Err end) old new =
-    (mid : Situation R) × HasAnswered custody 0 old mid × ((spare : ℕ) → HasEnded custody end spare mid new)
+  -- the next message was answered; or there is none yet, and nothing was done; or the connection has ended, maybe after
+  -- a message, however often it might have been read from yet
+  abbrev pub IsNextAnswered : Result Bool DriveEnd → Situation R → Situation R → Type 0
+  IsNextAnswered (Ok true) old new = HasAnswered custody 0 old new
+  IsNextAnswered (Ok false) old new = (new ≡ old) × IsWaiting new.stream
+  IsNextAnswered (Err end) old new =
+      (mid : Situation R) × HasAnswered custody 0 old mid × ((spare : ℕ) → HasEnded end spare mid new)

@@ -3,10 +3,14 @@ use Rattle.std.specs.Prelude.{◌≡◌, ◌⊎◌, ℕ, List, OnErr, Option, So
 use Rattle.std.specs.Prelude.{IsErrOf, IsTrue}
 use Rattle.xa_http.specs.declared.route.Route.{Route}
 use Rattle.xa_http.specs.Routes.{named_by}
+use Rattle.xa_records.specs.declared.refusal.Failure.{Failure}
 use Rattle.xa_records.specs.declared.refusal.Failure.TheVariants.{Memory, Store}
 use Rattle.xa_records.specs.DomainState.{DomainState}
 use Rattle.xa_records.specs.Keeper.{Custody, IsOneMore}
 use Rattle.xa_records.specs.Kept.{IsChanged, Kept, names_of, state_of}
+use Rattle.xa_server.specs.declared.cause.Cause.{Cause}
+use Rattle.xa_server.specs.declared.cause.Cause.TheVariants as cause
+use Rattle.xa_server.specs.declared.cause.Cause.TheVariants.{Wanting}
 use Rattle.xa_server.specs.declared.error_code.ErrorCode.{ErrorCode}
 use Rattle.xa_server.specs.declared.received_message.ReceivedMessage.{ReceivedMessage}
 use Rattle.xa_server.specs.declared.handling_error.HandlingError.{HandlingError}
@@ -80,13 +84,19 @@ AnswersMessageIfSound old new received before result =
 abbrev pub Counts : {X : Type 0} → ℕ → ℕ → Result X HandlingError → Type 0
 Counts old new (Ok x) = new ≡ old
 Counts old new (Err (Error code)) = new ≡ old
-Counts old new (Err (Failed Memory)) = new ≡ old
-Counts old new (Err (Failed Store)) = IsOneMore old new
+Counts old new (Err (Failed (Wanting Memory))) = new ≡ old
+Counts old new (Err (Failed (Wanting Store))) = IsOneMore old new
+Counts old new (Err (Failed (cause.OverLimit over))) = new ≡ old
+
+-- as which a message is refused: over a limit, as for want of memory
+abbrev pub failure_of : Cause → Failure
+failure_of (Wanting failure) = failure
+failure_of (cause.OverLimit over) = Memory
 
 -- the reply that goes back for a result
 abbrev pub IsReplyOf : Result (List ℕ) HandlingError → Reply → Type 0
 IsReplyOf (Ok bytes) reply = reply ≡ Sent bytes
-IsReplyOf (Err (Failed failure)) reply = reply ≡ Refused failure
+IsReplyOf (Err (Failed why)) reply = reply ≡ Refused (failure_of why)
 IsReplyOf (Err (Error code)) reply = (reply ≡ Sent (error_reply code)) ⊎ (reply ≡ Refused Memory)
 
 -- ---- what a crash may leave
@@ -135,7 +145,7 @@ pub record Keeping {X : Type 0} (old new : Custody) (result : Result X HandlingE
   pub counts : Counts old.faults new.faults result
   -- only a part that failed for want of storage leaves it so that it can't go on
   pub was_open : IsTrue new.is_open → IsTrue old.is_open
-  pub stays_open : ¬ IsErrOf result (Failed Store) → IsTrue old.is_open → IsTrue new.is_open
+  pub stays_open : ¬ IsErrOf result (Failed (Wanting Store)) → IsTrue old.is_open → IsTrue new.is_open
 
 -- the keeper was asked to read, or wasn't asked: a crash leaves nothing that it might not have left before
 abbrev pub OnlyReads : {X : Type 0} → Custody → Custody → Result X HandlingError → Type 0

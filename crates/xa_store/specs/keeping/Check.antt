@@ -30,7 +30,7 @@ use Rattle.xa_store.specs.CheckedColumns as shown
 use Rattle.xa_store.specs.Keeper.{are_only_ours}
 use Rattle.xa_store.specs.Opened.{are_counted, as_read, is_left_empty, place_in, sources_in, are_rising}
 use Rattle.xa_store.specs.Opened.{int_in, is_number, is_whole_row, rowid_in, opened, schema_of}
-use Rattle.xa_store.specs.Opening.{AreNewTables, GivesOrFails, IsBlank, IsFailure, IsKnown, IsMigrated}
+use Rattle.xa_store.specs.Opening.{AreNewTables, GivesOrFails, IsBlank, IsFailure, IsKnown, IsKnownSchema, IsMigrated}
 use Rattle.xa_store.specs.Opening.{IsRefusal, MayLeaveTables}
 use Rattle.xa_store.specs.Rows.{placed_row, placed_row_in}
 use Rattle.xa_store.specs.Sound.{AreRows, IsKeepersStore, Rests, RestsIn, SameNow, same_place}
@@ -335,6 +335,7 @@ pub record Tested (version : SchemaVersion) (old new : State) (result : Result T
   pub known : RestsIn (schema_of version) old → IfOk result (λ tables. IsTrue (are_only_ours tables))
   pub stays : HasCleanDisk new → RestsIn (schema_of version) old → OnOk result (IsTrue new.is_open)
   pub sound : HasCleanDisk new → IfOk result (λ tables. IsTrue (are_only_ours tables) → IsSoundIn version new)
+  pub own : IfOk result (λ tables. IsTrue (are_only_ours tables) → old.now.schema ≡ schema_of version)
 
 -- the tables were made, all or none
 pub record MakesTables {X : Type 0} (old new : State) (result : Result X OpenError) : Type 0 where
@@ -381,3 +382,4 @@ pub record Loads (old new : State) (result : Result Tables OpenError) : Type 0 w
   pub fails : IsBlank old → IfErr result IsFailure
   pub ours : HasCleanDisk new → IfOk result (λ tables. IsTrue (are_only_ours tables) → IsKeepersStore new)
   pub stays : HasCleanDisk new → IsKnown old → OnOk result (IsTrue new.is_open)
+  pub known : IfOk result (λ tables. IsTrue (are_only_ours tables) → IsKnownSchema old.now.schema)

@@ -70,7 +70,7 @@ abbrev pub show_role : List ℕ
 show_role = codes "SELECT role FROM tokens WHERE number = ?1 AND digest = ?2"
 
 abbrev pub show_document_kinds : List ℕ
-show_document_kinds = codes "SELECT kind FROM policies WHERE number = ?1"
+show_document_kinds = codes "SELECT kind FROM policies WHERE number = ?1 ORDER BY kind, id, version"
 
 abbrev pub show_documents : List ℕ
 show_documents = codes "SELECT kind, id, version, active FROM policies WHERE number = ?1 ORDER BY kind, id, version"

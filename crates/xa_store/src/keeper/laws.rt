@@ -1,10 +1,10 @@
 //! Laws of a keeper that was opened: it is sound while its store is open, its tables open again, and so does
-//! what a crash has left of them. A law does nothing when it runs.
+//! what a crash has left of them; and of one that was being opened. A law does nothing when it runs.
 ghost use Rattle.std.specs.Prelude.{◌≡◌, Ok, IsTrue};
 ghost use Rattle.sqlite.specs.Held.{state};
 ghost use Rattle.xa_store.specs.Keeper.{IsSound};
 ghost use Rattle.xa_store.specs.Opened.{opened};
-ghost use Rattle.xa_store.specs.Reopening.{Reopens};
+ghost use Rattle.xa_store.specs.Reopening.{OpensOnceMore, Reopens};
 ghost use Rattle.xa_store.specs.Sound.{IsSoundStore};
 ghost use Rattle.xa_store.specs.declared.schema.version.SchemaVersion.TheVariants.{Schema2};
 
@@ -40,5 +40,21 @@ impl<S: Alter> SqlRecords<S> {
     {
         // For the proof: an open store holds a database, and its schema is schema 2 or isn't.
         let _is_schema_2 = is_schema_2(conn.schema());
+    }
+
+    /// Law: a connection that was just opened over what a stop inside `open` has left (its clause `leaves`)
+    /// has the tables that were there before, or all that `open` makes of them. So `open` gives the same
+    /// domains by it.
+    pub fn opens_once_more<T: Alter>(
+        old: &Connection<S>,
+        left: &Connection<S>,
+        conn: &Connection<T>,
+    )
+        ensures { OpensOnceMore
+            (state S.Store old.now) (state S.Store left.now) (state T.Store conn.now) }
+    {
+        // For the proof: an open store holds a database.
+        let _before = old.schema();
+        let _after = conn.schema();
     }
 }

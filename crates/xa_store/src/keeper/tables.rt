@@ -1,6 +1,7 @@
 //! Which tables a keeper's store has.
-ghost use Rattle.std.specs.Prelude.{◌≡◌};
+ghost use Rattle.std.specs.Prelude.{◌≡◌, if◌then◌else◌};
 ghost use Rattle.xa_store.specs.Keeper.{are_only_ours};
+ghost use Rattle.xa_store.specs.declared.keeper.tables.Tables.TheVariants.{WithOthers};
 
 /// The tables that a store had when it was opened.
 #[derive(Clone, Copy, Debug)]
@@ -20,5 +21,12 @@ impl Tables {
             Tables::OnlyOurs => true,
             Tables::WithOthers => false,
         }
+    }
+
+    /// These, if nothing else is there; or they stand beside others.
+    pub(crate) fn if_alone(self, are_alone: bool) -> Tables
+        ensures { result ≡ (if are_alone then self else WithOthers) }
+    {
+        if are_alone { self } else { Tables::WithOthers }
     }
 }

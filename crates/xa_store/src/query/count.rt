@@ -21,8 +21,8 @@ pub(crate) fn token_count<S: Alter>(conn: &mut Connection<S>, number: i64) -> Re
     Ok(rows.as_slice().len())
 }
 
-/// How many documents the domain of that number has: 1,024 at most. In time in proportion to that,
-/// whatever their texts, which aren't read.
+/// How many documents the domain of that number has: 1,024 at most. Their keys are put in order; their
+/// texts aren't read, however long they are.
 #[tactic(auto, using(crate::proofs::DocumentLemmas::kinds_plain))]
 pub(crate) fn document_count<S: Alter>(
     conn: &mut Connection<S>,

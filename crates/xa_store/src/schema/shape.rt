@@ -3,7 +3,7 @@
 //! of so many parts only in groups.
 ghost use Rattle.std.specs.Prelude.{◌≡◌, ◌↔◌, false, [], ◌∷◌, None, Some, IsTrue};
 ghost use Rattle.xa_store.specs.Opened.{schema_of};
-ghost use Rattle.xa_store.specs.Opening.{has_room, is_free, schema_version_in};
+ghost use Rattle.xa_store.specs.Opening.{has_room, is_free, no_tables, schema_version_in};
 ghost use Rattle.xa_store.specs.Tables.{attributes, domains, meta, of_domain, policies, rising};
 ghost use Rattle.xa_store.specs.Tables.{roots, schema_1, schema_2, sources, tokens};
 
@@ -285,6 +285,13 @@ pub(crate) fn is_schema_2(schema: &Schema) -> bool
     are_tables_of_schema_2(schema.tables.as_slice())
         && are_indexes_of_schema_2(schema.indexes.as_slice())
         && schema.views.is_empty()
+}
+
+/// Whether nothing is in the schema.
+pub(crate) fn is_blank(schema: &Schema) -> bool
+    ensures { IsTrue result ↔ (schema.now ≡ no_tables) }
+{
+    schema.tables.is_empty() && schema.indexes.is_empty() && schema.views.is_empty()
 }
 
 /// Whether it is that schema, and nothing else is in it.

@@ -1,26 +1,19 @@
-use Rattle.std.proofs.Common.{◌≡◌, ◌⊎◌, List, Option, ℕ, subst, sym}
-use Rattle.std.specs.Prelude.{⊤, IsFalse, MatchOption}
+use Rattle.std.proofs.Common.{◌≡◌, ◌⊎◌, subst, sym}
+use Rattle.std.specs.Prelude.{⊤}
 use Rattle.std.specs.Io.Buffered.{writer_inner}
 use Rattle.sha2.specs.Sha256.{sha256}
+use Rattle.sqlite.proofs.Callers.{memory_is_clean}
 use Rattle.sqlite.specs.Steps.{over_memory}
-use Rattle.xa_records.specs.Kept.{Kept}
-use Rattle.xa_server.specs.Front.{front_state}
-use Rattle.xa_store.specs.Keeper.{IsSound}
-use Rattle.xa_store.specs.KeeperReading.{custody_by}
 use Rattle.pdpd.specs.declared.exit.Exit.{Exit}
 use Rattle.pdpd.specs.declared.exit.Exit.TheVariants.{Memory, Store}
-use Rattle.pdpd.specs.Exit.{tells_of_entries}
-use Rattle.pdpd.specs.Replay.{IsReplayed, beginning}
-use Rattle.pdpd.proofs.ReplayLemmas.{unopened, untold}
+use Rattle.pdpd.proofs.ReplayLemmas.{replayed_from_nothing, unopened, untold}
 use Rattle.pdpd.proofs.replay.replay.Goals as goal
 
 pub returns-in-Ok-clause-replayed : goal.returns-in-Ok-clause-replayed
 returns-in-Ok-clause-replayed g c =
-    subst (λ (kept : Kept). MatchOption c.replay_over.result.replayer (IsFalse (tells_of_entries c.replay_over.result.exit))
-    (λ replayer. IsSound over_memory replayer.front.server.records → (rest : Option (List ℕ)) × IsReplayed (beginning (sha256 c.args.token.now) kept)
-    (front_state (custody_by over_memory) replayer.front) (g.I.Read.remaining c.args.reader) rest (g.W.Write.contents c.args.writer)
-    (g.W.Write.contents (writer_inner replayer.writer)) c.replay_over.result.exit))
-    c.in-Ok.ensures.nothing c.replay_over.ensures.replayed
+    replayed_from_nothing over_memory memory_is_clean c.in-Ok.records (sha256 c.args.token.now) (g.I.Read.remaining c.args.reader) (g.W.Write.contents c.args.writer)
+    c.replay_over.result.exit c.replay_over.result.replayer (λ r. r.front) (λ r. g.W.Write.contents (writer_inner r.writer)) c.in-Ok.ensures.nothing c.in-Ok.ensures.sound
+    c.replay_over.ensures.replayed
 
 pub returns-in-Err-clause-read : goal.returns-in-Err-clause-read
 returns-in-Err-clause-read g c =

@@ -15,6 +15,7 @@ returns-in-Ok-clause-keeper g c =
       makes = c.in-Ok.ensures.makes;
       stays = c.in-Ok.ensures.stays;
       sound = c.in-Ok.ensures.sound own;
+      known = c.in-Ok.ensures.known own;
     })
 
 pub returns-in-Ok-clause-sound : goal.returns-in-Ok-clause-sound

@@ -5,12 +5,10 @@ use Rattle.pdpd.specs.Beginning.{known_text}
 use Rattle.pdpd.specs.declared.fault.Fault.TheVariants.{Place}
 use Rattle.pdpd.proofs.listen.files.listen_and_close.Goals as goal
 
-pub returns-in-Err-result-clause-left : goal.returns-in-Err-result-clause-left
-returns-in-Err-result-clause-left g c = (
-  c.in-Err-result.is,
-  serves_at_once_as (image_at g.S.Start) (known_text g.F.Read.remaining c.args.token) c.in-Ok.left.result (Err c.in-Err-result.fault) c.in-Ok.left.front c.in-Err-result.is
-      c.in-Ok.ensures.served,
-)
+pub returns-in-Err-result-clause-served : goal.returns-in-Err-result-clause-served
+returns-in-Err-result-clause-served g c =
+    serves_at_once_as (image_at g.S.Start) (known_text g.F.Read.remaining c.args.token) c.in-Ok.left.result (Err c.in-Err-result.fault) c.in-Ok.left.front c.in-Err-result.is
+    c.in-Ok.ensures.served
 
 pub returns-in-Err-result-clause-place : goal.returns-in-Err-result-clause-place
 returns-in-Err-result-clause-place g c none =
@@ -30,6 +28,15 @@ returns-in-Ok-close_records-clause-place g c none =
     let served : c.listen.result ≡ Ok c.in-Ok.left = search rules in
     let refused : c.listen.result ≡ Err Place = c.listen.ensures.place.1 none in
     absurd cc
+
+pub returns-in-Err-close_records-clause-served : goal.returns-in-Err-close_records-clause-served
+returns-in-Err-close_records-clause-served g c = (
+  c.in-Err-close_records.ensures.err,
+  (
+    c.in-Ok.left.front,
+    serves_at_once_as (image_at g.S.Start) (known_text g.F.Read.remaining c.args.token) c.in-Ok.left.result (Ok tt) c.in-Ok.left.front c.in_default.is c.in-Ok.ensures.served,
+  ),
+)
 
 pub returns-in-Err-close_records-clause-place : goal.returns-in-Err-close_records-clause-place
 returns-in-Err-close_records-clause-place g c none =

@@ -4,9 +4,9 @@ use Rattle.pdpd.proofs.TakingLemmas.{closed}
 use Rattle.pdpd.proofs.replay.telling.answer_bytes.Goals as goal
 
 pub returns-then-is_empty-clause-taken : goal.returns-then-is_empty-clause-taken
-returns-then-is_empty-clause-taken g c = λ sound.
+returns-then-is_empty-clause-taken g c =
     let none : length c.args.bytes.now ≡ 0 = search rules in
-    closed c.args.heading.now c.args.bytes.now c.args.connection.now c.new.result _ _ none c.new.ensures
+    closed g.R.Records.custody c.args.heading.now c.args.bytes.now c.args.connection.now c.new.result c.args.server.now _ none c.new.ensures
 
 pub returns-then-is_empty-clause-room : goal.returns-then-is_empty-clause-room
 returns-then-is_empty-clause-room g c = room_of_new c.new.result c.new.ensures

@@ -4,10 +4,4 @@ use Rattle.xa_reactor.proofs.lane.reading.feed.Goals as goal
 pub returns : goal.returns
 returns g c =
     rw c.is_held.ensures
-    (fed_piece g.R.Records.custody c.args.conn c.args.piece c.step.result c.args.front.now c.step.new.self c.step.ensures.played c.step.ensures.served
-    (record {
-      sound = c.step.ensures.sound;
-      clean = c.step.ensures.clean;
-      was_open = c.step.ensures.was_open;
-      stays = c.step.ensures.stays;
-    }))
+    (fed_piece g.R.Records.custody c.args.conn c.args.piece c.step.result c.args.front.now c.step.new.self c.step.ensures)

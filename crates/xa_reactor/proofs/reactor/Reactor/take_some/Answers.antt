@@ -4,8 +4,8 @@ use Rattle.xa_reactor.specs.declared.reactor.Reactor.{Reactor}
 use Rattle.xa_reactor.proofs.TakingLemmas.{from_first, on_more, on_none, takes_none}
 use Rattle.xa_reactor.proofs.reactor.Reactor.take_some.Goals as goal
 
-pub returns-then-is_some-clause-taken : goal.returns-then-is_some-clause-taken
-returns-then-is_some-clause-taken g c =
+pub returns-then-self-clause-taken : goal.returns-then-self-clause-taken
+returns-then-self-clause-taken g c =
     takes_none g.R.Records.custody g.N.Network.done g.met.R.Records.open_if_sound c.args.self.now.board (as_nanos c.args.now) _ _ _ _ _ _ refl refl refl
 
 pub loop-init : goal.loop-init

@@ -6,7 +6,7 @@ use Rattle.xa_reactor.proofs.reactor.Reactor.take_turns.Given as goal
 -- turns were taken so far
 abbrev pub invariant-loop : goal.invariant-loop
 invariant-loop g l = record {
-  runs : RunsOn g.R.Records.custody g.N.Network.done l.self.lanes l.fn.front l.front l.fn.network l.network;
+  runs : RunsOn g.R.Records.custody g.N.Network.done l.fn.self.leaving l.self.leaving l.self.lanes l.fn.front l.front l.fn.network l.network;
   alike : AreAlike l.self.lanes l.front.lines;
   goes_on : front_is_open g.R.Records.custody l.fn.front → front_is_open g.R.Records.custody l.front;
 }

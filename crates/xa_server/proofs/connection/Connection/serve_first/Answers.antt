@@ -7,6 +7,6 @@ use Rattle.xa_server.proofs.connection.Connection.serve_first.Goals as goal
 
 pub unreachable-requires : goal.unreachable-requires
 unreachable-requires g c =
-    let found =
-    only_message c.self.inside.session _ _ (subst (λ (s : Stream). IsLook s Message) (sym c.self.view_is) c.requires) c.in_ok-message.ensures.next in
+    let stands = subst (λ (s : Stream). IsLook s Message) (sym c.self.view_is) c.requires in
+    let found = only_message c.self.inside.session _ _ stands c.in_ok-message.ensures.next in
     absurd (c.in_default.not-Message found.0 found.1)

@@ -1,4 +1,4 @@
-use Rattle.xa_server.proofs.PlayedLemmas.{plays_go_on}
+use Rattle.xa_server.proofs.PlayLemmas.{plays_go_on}
 use Rattle.xa_server.proofs.front.Front.plays_go_on.Goals as goal
 
 pub returns : goal.returns

@@ -1,7 +1,7 @@
 use Rattle.std.proofs.Common.{IsTrue, Ok, sym, subst}
 use Rattle.xa_store.proofs.Common.{state}
 use Rattle.xa_store.specs.Keeper.{IsSound}
-use Rattle.xa_store.specs.Opening.{Makes, Migrates, Opens, Settles}
+use Rattle.xa_store.specs.Opening.{IsKnownSchema, Makes, Migrates, Opens, Settles}
 use Rattle.xa_store.proofs.OpenLemmas.{is_keeper, leaves_alone, makes_keeper, makes_refused, migrates_keeper, migrates_refused, opens_keeper, opens_refused, settles_keeper, sound_keeper}
 use Rattle.xa_store.proofs.keeper.SqlRecords.open.Goals as goal
 
@@ -32,6 +32,10 @@ pub returns-in-Ok-clause-sound : goal.returns-in-Ok-clause-sound
 returns-in-Ok-clause-sound g c =
     subst (λ k. IsTrue k.had_only_our_tables → IsTrue (state g.S.Store k.conn).is_open → IsSound g.S.Store k) (sym c.over.ensures)
     (sound_keeper g.S.Store g.met.S.Store.shut_if_dirty g.met.S.Store.settled (state g.S.Store c.args.conn) c.make_or_check.new.conn c.in-Ok.tables c.in-Ok.ensures.loads)
+
+pub returns-in-Ok-clause-known : goal.returns-in-Ok-clause-known
+returns-in-Ok-clause-known g c =
+    subst (λ k. IsTrue k.had_only_our_tables → IsKnownSchema (state g.S.Store c.args.conn).now.schema) (sym c.over.ensures) c.in-Ok.ensures.loads.known
 
 pub returns-in-Err-clause-opens : goal.returns-in-Err-clause-opens
 returns-in-Err-clause-opens g c =

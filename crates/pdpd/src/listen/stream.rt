@@ -1,4 +1,4 @@
-//! A connection's socket, and its seat.
+//! A connection's socket.
 ghost use Rattle.std.specs.Io.{ReadsAtMost, WritesAtMost};
 
 use mio::net::{TcpStream, UnixStream};
@@ -60,58 +60,5 @@ impl Stream {
             Stream::Tcp(_, peer) => Some(*peer),
             Stream::Unix(_) => None,
         }
-    }
-}
-
-/// A connection that is seated.
-#[derive(Drop)]
-pub struct Seat {
-    /// Its socket.
-    stream: Stream,
-    /// Whether nothing has come since its last reply was taken whole, or ever, if none was. What came
-    /// before that, behind the message that was answered, isn't seen.
-    is_idle: bool,
-}
-
-impl Seat {
-    /// A connection of which nothing has come.
-    pub fn new(stream: Stream) -> Seat {
-        Seat {
-            stream,
-            is_idle: true,
-        }
-    }
-
-    /// Reads what has come.
-    pub fn receive(&mut self, room: &mut [u8]) -> io::Result<usize>
-        ensures { ReadsAtMost result room.new }
-    {
-        let count = self.stream.receive(room)?;
-        self.is_idle = false;
-        Ok(count)
-    }
-
-    /// Writes what is taken of the rest of a reply.
-    pub fn send(&mut self, bytes: &[u8]) -> io::Result<usize>
-        ensures { WritesAtMost result bytes.now }
-    {
-        let count = self.stream.send(bytes)?;
-        self.is_idle = count == bytes.len();
-        Ok(count)
-    }
-
-    /// Tells the peer that no more is sent.
-    pub fn part(&self) {
-        self.stream.part();
-    }
-
-    /// Whether nothing has come since its last reply was taken whole, or ever, if none was.
-    pub fn is_idle(&self) -> bool {
-        self.is_idle
-    }
-
-    /// Who is at its other end, if that has an address.
-    pub fn peer(&self) -> Option<SocketAddr> {
-        self.stream.peer()
     }
 }

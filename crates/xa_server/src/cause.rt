@@ -1,0 +1,27 @@
+//! Why a message isn't answered, and which domain's it was.
+use thiserror::Error;
+use xa_decide::OverLimit;
+use xa_records::Failure;
+use xa_value::Text;
+
+/// Why a message isn't answered: it is refused, and its reply is the fixed 503.
+#[derive(Clone, Copy, Debug, Error)]
+pub enum Cause {
+    /// There was no memory, or the storage failed.
+    #[error(transparent)]
+    Wanting(Failure),
+    /// It asks for more than a limit of the server's allows.
+    #[error(transparent)]
+    OverLimit(OverLimit),
+}
+
+/// A message that was refused.
+#[derive(Debug, Drop)]
+pub struct RefusedMessage {
+    /// Why.
+    pub cause: Cause,
+    /// The domain that its path names; none if it names none, or if that couldn't be told for want of memory.
+    pub domain: Option<Text>,
+    /// How many others were refused since the last one that was taken (`Server::take_refused`).
+    pub others: u64,
+}
