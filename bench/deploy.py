@@ -1,15 +1,15 @@
 #!/usr/bin/env python3
-"""Asks a second and their times through what deploy/ sets up: 1, 2 and 4 shards, 1, 10 and 100 clients.
+"""Decisions a second and their times through what deploy/ sets up: 1, 2 and 4 shards, 1, 100 and 1,000 clients.
 
 usage: bench/deploy.py [--write] [PROGRAM]   the program, or that which is proved and built of these very sources;
                                              with --write the table is written into docs/PERFORMANCE.md too
 
 In namespaces of its own, as tests/deploy.py, and with what that one wants, and nginx. The asks are of
 examples/ward, whose policy names the clock, so that each response is worked out; 16 domains of it are
-asked in turn, by wrk, for four seconds each, at a plain port, and once over TLS. Beside them stand one shard
-with other settings, one pdpd alone with one client, and nginx, which replies `return 200`, in the place of
-shard 0 behind the same HAProxy. Server, proxy and clients have the same cores, and share them with whatever
-else runs: the load of the machine is told.
+asked in turn, by wrk, for four seconds each, at a plain port, once over TLS, and once with the log of
+decisions. Beside them stand one shard with other settings, and nginx, which replies `return 200`, in the place
+of shard 0 behind the same HAProxy. All clients have one address, so OF_SOURCE is 0. Server, proxy and clients
+have the same cores, and share them with whatever else runs: the load of the machine is told.
 """
 import json
 import os
@@ -26,7 +26,7 @@ from deployed import clients, machine  # noqa: E402
 from page import shown, words  # noqa: E402
 from serving import message  # noqa: E402
 
-WARD, DOMAINS, SECONDS = TOP / "examples" / "ward", 16, 4
+WARD, DOMAINS, SECONDS, CLIENTS = TOP / "examples" / "ward", 16, 4, (1, 100, 1000)
 REPLY = '{"Response":[{"Decision":"Deny","Status":{"StatusCode":{"Value":"urn:oasis:names:tc:xacml:1.0:status:ok"}}}]}'
 
 
@@ -68,19 +68,30 @@ http {{ access_log off; default_type application/xacml+json; client_body_temp_pa
 def domains_over(made, count):
     """Has so many shards serve all domains, and gives the script of their asks."""
     pathlib.Path("/etc/haproxy/haproxy.cfg").unlink()
-    made.set(SHARDS=count, PLAIN_BIND=f"127.0.0.1:{machine.PLAIN}")
+    made.set(SHARDS=count, PLAIN_BIND=f"127.0.0.1:{machine.PLAIN}", OF_SOURCE=0)
     made.operator.clear()
     return clients.script_of(made.folder / "asks.lua", [ward(made.operator, f"w{number}") for number in range(DOMAINS)])
+
+
+def with_decisions(made, measured):
+    """Measures with the log of decisions."""
+    machine.sh("useradd --system --home-dir /nonexistent --shell /usr/sbin/nologin pdpd-replica")
+    made.set(DECISIONS=1)
+    machine.shards("services")
+    measured()
+    made.set(DECISIONS=0)
+    machine.sh("sv down /etc/service/pdpd-decisions")
 
 
 def measure(made):
     """All kinds, one after another."""
     for count in (1, 2, 4):
         script = domains_over(made, count)
-        for many in (1, 10, 100):
+        for many in CLIENTS:
             what = f"{count} shard{'s' if count > 1 else ''} behind HAProxy"
             print_line(what, many, clients.wrk(script, many, SECONDS))
     print_line("4 shards, over TLS", 100, clients.wrk(script, 100, SECONDS, "https://localhost"))
+    with_decisions(made, lambda: print_line("4 shards, DECISIONS=1", 100, clients.wrk(script, 100, SECONDS)))
     script = domains_over(made, 1)
     for value in (1, 4, 8):
         made.set(MAXCONN=value)
@@ -88,7 +99,7 @@ def measure(made):
     machine.sh("sv down /etc/service/pdpd-0 && sleep 1")
     server = nginx(made.folder)
     time.sleep(1)
-    for many in (1, 10, 100):
+    for many in CLIENTS:
         print_line("nginx, `return 200`, behind HAProxy", many, clients.wrk(script, many, SECONDS))
     server.terminate()
     server.wait()
@@ -97,7 +108,7 @@ def measure(made):
 def table(made):
     """Prints all lines, between the loads of the machine before and behind."""
     print(f"load of the machine before: {os.getloadavg()[0]:.1f}, on {os.cpu_count()} cores")
-    print(f"{'':36}{'clients':>8}{'asks/s':>12}{'p50, ms':>10}{'p99, ms':>10}")
+    print(f"{'':36}{'clients':>8}{'decisions/s':>12}{'p50, ms':>10}{'p99, ms':>10}")
     measure(made)
     print(f"load of the machine behind: {os.getloadavg()[0]:.1f}")
 

@@ -1,13 +1,14 @@
 #!/usr/bin/env python3
-"""What it takes to keep in etcd where each of a million domains is, and to have HAProxy follow that: a simulation,
-since no group of machines does so yet.
+"""What it takes to keep in etcd in which group of machines each of a million domains is, and to have HAProxy go by it.
 
 usage: bench/domain_map.py [DOMAINS]
 
-One member of etcd gets a key for each domain, whose value names a group and a shard; a HAProxy reads a map of as many
-lines. Then domains move, so many a second: each is put into etcd, seen by a watch, and set in HAProxy's map. Takes
-Debian's etcd-server and haproxy, 2 GB and some minutes for a million.
+One member of etcd gets the map, and a HAProxy begins with it. Then domains move, a hundred a second: each is put into
+the map, and the follower (deploy/replica/following.py) has HAProxy go by it. Takes Debian's etcd-server and haproxy,
+2 GB and some minutes for a million.
 """
+import concurrent.futures
+import os
 import pathlib
 import random
 import resource
@@ -24,15 +25,18 @@ import time
 sys.dont_write_bytecode = True
 TOP = pathlib.Path(__file__).resolve().parent.parent
 sys.path[:0] = [str(TOP / "deploy"), str(TOP / "tests")]
-from replica.etcd import Etcd, Member, after, putting  # noqa: E402
+from replica.etcd import Etcd, Member, Open, putting  # noqa: E402
+from replica.following import Follower  # noqa: E402
+from replica.groups import MAP, MOVED, Map, all_of  # noqa: E402
+from replica.leases import Leases  # noqa: E402
 from serving import free_port  # noqa: E402
 
-DOMAINS, GROUPS, SHARDS, BATCH = int(sys.argv[1]) if sys.argv[1:] else 1_000_000, 100, 4, 128
-MOVES, SECONDS, LOOK_UPS = 100, 10, 5_000
-KEYS = b"/pdpd/map/"
+DOMAINS, GROUPS, SHARDS = int(sys.argv[1]) if sys.argv[1:] else 1_000_000, 100, 4
+MOVES, SECONDS, LOOK_UPS, BATCH = 100, 20, 20_000, 128
 CONFIGURATION = """
 global
     stats socket {at}/admin.sock level admin
+    tune.bufsize 1048576
 defaults
     mode http
     timeout client 5s
@@ -40,7 +44,12 @@ defaults
     timeout connect 1s
 frontend asked
     bind 127.0.0.1:{port}
-    http-request return status 200 content-type text/plain lf-string "%[path,field(2,/),map({at}/domains.map)]"
+    acl of_domain path_beg /t
+    http-request set-var(txn.place) path,field(2,/),map({at}/moved.map) if of_domain
+    acl is_told var(txn.place) -m found
+    http-request set-var(txn.place) path,field(2,/),map({at}/groups.map) if of_domain !is_told
+    http-request set-var(txn.place) str(LEASE),map({at}/leases.map) if !of_domain
+    http-request return status 200 content-type text/plain lf-string %[var(txn.place)]
 """
 
 
@@ -49,107 +58,129 @@ def name_of(number):
 
 
 def place_of(number):
-    return f"{number % GROUPS}.{number % SHARDS}"
+    return f"group-{number % GROUPS}.{number % SHARDS}"
 
 
-def megabytes_of(process):
+def megabytes_of(pid):
     """What a process holds in memory now."""
-    words = pathlib.Path(f"/proc/{process.pid}/statm").read_text().split()
+    words = pathlib.Path(f"/proc/{pid}/statm").read_text().split()
     return int(words[1]) * resource.getpagesize() / 1e6
 
 
-def filled(etcd):
-    """How long it takes to put all keys."""
+def filled(domains):
+    """How long it takes to put all domains into the map, by several clients."""
+    def put(first):
+        puts = [putting(domains.key(name_of(number)), place_of(number).encode())
+                for number in range(first, min(first + BATCH, DOMAINS))]
+        while True:
+            try:
+                return domains.etcd.transaction([], puts)
+            except Open:  # (a busy disk: they are put once more)
+                pass
     began = time.monotonic()
-    for first in range(0, DOMAINS, BATCH):
-        etcd.transaction([], [putting(KEYS + name_of(number).encode(), place_of(number).encode())
-                              for number in range(first, min(first + BATCH, DOMAINS))])
+    with concurrent.futures.ThreadPoolExecutor(8) as pool:
+        list(pool.map(put, range(0, DOMAINS, BATCH)))
+    domains.raise_to(1)
     return time.monotonic() - began
 
 
-def read_all(etcd):
-    """How long it takes to read all keys, as a HAProxy's machine does that begins."""
-    began, start, count = time.monotonic(), KEYS, 0
-    while pairs := etcd.range(start, after(KEYS), 10_000):
-        count, start = count + len(pairs), pairs[-1][0] + b"\0"
-    return count, time.monotonic() - began
+def processor_of(pid):
+    """The processor time of a process, in seconds."""
+    words = pathlib.Path(f"/proc/{pid}/stat").read_text().rpartition(")")[2].split()
+    return (int(words[11]) + int(words[12])) / os.sysconf("SC_CLK_TCK")
 
 
-def said(place, command):
-    with socket.socket(socket.AF_UNIX) as asked:
-        asked.connect(str(place / "admin.sock"))
-        asked.sendall(f"{command}\n".encode())
-        return b"".join(iter(lambda: asked.recv(65_536), b"")).decode()
-
-
-def looked_up(port):
-    """The median time of a message that HAProxy answers by its map alone, in microseconds, over one connection."""
-    found, chance = [], random.Random(1)
+def looked_up(port, pid, path):
+    """HAProxy's processor time for a message that it answers by itself, in microseconds, over one connection."""
+    chance, before = random.Random(1), processor_of(pid)
     with socket.create_connection(("127.0.0.1", port)) as asks:
         for _ in range(LOOK_UPS):
-            number = chance.randrange(DOMAINS)
-            began = time.perf_counter()
-            asks.sendall(f"GET /{name_of(number)} HTTP/1.1\r\nhost: x\r\n\r\n".encode())
-            reply = asks.recv(65_536)
-            found.append((time.perf_counter() - began) * 1e6)
-            if not reply.endswith(place_of(number).encode()):
-                raise RuntimeError(reply)
-    return statistics.median(found)
+            asks.sendall(f"GET /{path(chance.randrange(DOMAINS))} HTTP/1.1\r\nhost: x\r\n\r\n".encode())
+            asks.recv(65_536)
+    return (processor_of(pid) - before) / LOOK_UPS * 1e6
 
 
-def followed(etcd, place):
-    """How long after its put each of some moves is in HAProxy's map, in milliseconds; moves come so many a second."""
-    began, took, is_over = {}, [], threading.Event()
+class Timed(Follower):
+    """One that notes when HAProxy was told of each domain."""
+    moments: dict[str, float] = {}
 
-    def follow():
-        for events in etcd.events(KEYS, after(KEYS)):
-            for key, value in events:
-                name = key[len(KEYS):].decode()
-                said(place, f"set map {place}/domains.map {name} {value.decode()}")
-                took.append((time.monotonic() - began[name]) * 1e3)
-            if is_over.is_set() and len(took) == len(began):
-                return
-    follower = threading.Thread(target=follow, daemon=True)
-    follower.start()
-    time.sleep(1)
-    start = time.monotonic()
+    def take(self, revision, number, changes):
+        super().take(revision, number, changes)
+        self.moments.update(dict.fromkeys(changes, time.monotonic()))
+
+
+def moved(domains, follower):
+    """How long after it is put each of some moves is in HAProxy's map, in milliseconds; and how many come in a
+    second, at most a hundred."""
+    threading.Thread(target=follower.follow_for_ever, daemon=True).start()
+    time.sleep(2)
+    follower.moments.clear()
+    began, start, last = {}, time.monotonic(), domains.last()
     for count in range(MOVES * SECONDS):
-        name = name_of(count * (DOMAINS // (MOVES * SECONDS)))
+        name = name_of(count * max(1, DOMAINS // (MOVES * SECONDS)))
         began[name] = time.monotonic()
-        etcd.put(KEYS + name.encode(), b"moved.0")
+        if not domains.put(last + count, {name: "group-0.0"}):
+            raise RuntimeError("somebody else has changed the map")
         time.sleep(max(0.0, start + (count + 1) / MOVES - time.monotonic()))
     rate = len(began) / (time.monotonic() - start)
-    is_over.set()
-    follower.join(10)
-    return rate, sorted(took)
+    end = time.monotonic() + 60
+    while not began.keys() <= follower.moments.keys():
+        if time.monotonic() > end:
+            raise RuntimeError(f"the follower is at change {follower.number}, and the map at {domains.last()}")
+        time.sleep(0.1)
+    return rate, sorted((follower.moments[name] - moment) * 1e3 for name, moment in began.items())
+
+
+def run(place, ran):
+    ports, at = [free_port() for _ in range(3)], None
+    at = f"http://127.0.0.1:{ports[0]}"
+    ran.append(subprocess.Popen(["etcd", "--data-dir", place / "etcd", "--listen-client-urls", at,
+                                 "--advertise-client-urls", at, "--listen-peer-urls", f"http://127.0.0.1:{ports[1]}",
+                                 "--logger", "zap", "--log-level", "error"], stderr=subprocess.DEVNULL))
+    time.sleep(3)
+    etcd = Etcd([Member("127.0.0.1", ports[0])], 30.0)
+    domains = Map(etcd)
+    print(f"{DOMAINS:,} domains\netcd: put in {filled(domains):.0f} s", flush=True)
+    began = time.monotonic()
+    _, _, places = all_of(etcd)
+    print(f"etcd: {len(places):,} read in {time.monotonic() - began:.0f} s; {etcd.bytes_in_use() / 1e6:.0f} MB in its "
+          f"file, {megabytes_of(ran[0].pid):.0f} MB of memory", flush=True)
+    del places
+    follower = Timed(etcd, place, Leases(place / "admin.sock", str(place / "leases.map"), 0), 5.0)
+    (place / "leases.map").write_text("LEASE 1\n")
+    (place / MOVED).touch()
+    began = time.monotonic()
+    follower.read()
+    print(f"the follower: reads it in {time.monotonic() - began:.0f} s; {megabytes_of('self'):.0f} MB of memory",
+          flush=True)
+    began = time.monotonic()
+    follower.write()
+    took = time.monotonic() - began
+    print(f"the follower: writes {(place / MAP).stat().st_size / 1e6:.0f} MB in {took:.1f} s", flush=True)
+    (place / "haproxy.cfg").write_text(CONFIGURATION.format(at=place, port=ports[2]))
+    began = time.monotonic()
+    ran.append(subprocess.Popen(["haproxy", "-db", "-f", place / "haproxy.cfg"]))
+    while not follower.proxy.process():
+        time.sleep(0.01)
+    took, pid = time.monotonic() - began, ran[1].pid
+    print(f"HAProxy: begins in {took:.1f} s, {processor_of(pid):.2f} s of a processor, {megabytes_of(pid):.0f} MB of "
+          f"memory; a message {looked_up(ports[2], pid, name_of):.1f} microseconds of a processor, "
+          f"{looked_up(ports[2], pid, str):.1f} by a map of one line", flush=True)
+    began, follower.process = time.monotonic(), -1
+    follower.look_at_proxy()
+    print(f"a follower that has begun: has compared HAProxy's map in {time.monotonic() - began:.1f} s", flush=True)
+    before = processor_of(pid)
+    rate, took = moved(domains, follower)
+    each = (processor_of(pid) - before) / len(took) * 1e3
+    print(f"HAProxy: {each:.2f} ms of a processor for a move")
+    print(f"{rate:.0f} moves a second: in HAProxy's map after {statistics.median(took):.1f} ms, 99%: "
+          f"{took[len(took) * 99 // 100]:.1f} ms, all: {took[-1]:.1f} ms, of {len(took)}")
 
 
 def main():
-    place, ports = pathlib.Path(tempfile.mkdtemp(prefix="domain-map-")), [free_port() for _ in range(3)]
-    ran = []
+    place, ran = pathlib.Path(tempfile.mkdtemp(prefix="domain-map-")), []
     try:
-        at = f"http://127.0.0.1:{ports[0]}"
-        ran.append(subprocess.Popen(["etcd", "--data-dir", place / "etcd", "--listen-client-urls", at,
-                                     "--advertise-client-urls", at, "--listen-peer-urls", f"http://127.0.0.1:{ports[1]}",
-                                     "--logger", "zap", "--log-level", "error"], stderr=subprocess.DEVNULL))
-        time.sleep(3)
-        etcd = Etcd([Member("127.0.0.1", ports[0])], 30.0)
-        print(f"{DOMAINS:,} domains\netcd: put in {filled(etcd):.0f} s", flush=True)
-        count, seconds = read_all(etcd)
-        print(f"etcd: {count:,} keys read in {seconds:.0f} s; {etcd.bytes_in_use() / 1e6:.0f} MB in its file, "
-              f"{megabytes_of(ran[0]):.0f} MB of memory", flush=True)
-        lines = "".join(f"{name_of(number)} {place_of(number)}\n" for number in range(DOMAINS))
-        (place / "domains.map").write_text(lines)
-        (place / "haproxy.cfg").write_text(CONFIGURATION.format(at=place, port=ports[2]))
-        began = time.monotonic()
-        ran.append(subprocess.Popen(["haproxy", "-db", "-f", place / "haproxy.cfg"]))
-        while not (place / "admin.sock").exists():
-            time.sleep(0.01)
-        print(f"HAProxy: begins in {time.monotonic() - began:.1f} s with a map of {len(lines) / 1e6:.0f} MB, "
-              f"{megabytes_of(ran[1]):.0f} MB of memory; a message {looked_up(ports[2]):.0f} microseconds", flush=True)
-        rate, took = followed(etcd, place)
-        print(f"{rate:.0f} moves a second: in HAProxy's map after {statistics.median(took):.1f} ms, 99%: "
-              f"{took[len(took) * 99 // 100]:.1f} ms, of {len(took)}")
+        run(place, ran)
     finally:
         for one in ran:
             one.send_signal(signal.SIGKILL)

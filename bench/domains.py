@@ -57,8 +57,8 @@ def kinds(name):
     """Messages of one domain, by what they do; they leave it as it was, or alternate between two states."""
     at = f"/domains/{name}/pap"
     return {
-        "an ask that is kept": [message("POST", f"/domains/{name}/pdp", TOKEN, '{"Request":{}}')] * 2,
-        "an ask, another one each time": [message("POST", f"/domains/{name}/pdp", TOKEN,
+        "a decision that is kept": [message("POST", f"/domains/{name}/pdp", TOKEN, '{"Request":{}}')] * 2,
+        "a decision, another each time": [message("POST", f"/domains/{name}/pdp", TOKEN,
                                                   '{"Request":{"Action":{"Id":"%d"}}}' % number)
                                           for number in range(1000)],
         "an upload, and its deletion": [message("POST", f"{at}/policies", TOKEN, policy("Permit", "urn:p99")),

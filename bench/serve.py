@@ -292,7 +292,7 @@ def main():
     missing = [name for name in ("wrk", "nginx", "strace", "cc") if not shutil.which(name)]
     if missing:
         print(f"not here, and left out: {', '.join(missing)} (Debian's packages of these names; cc is in gcc)")
-    print(f"{'one connection':44}{'asks/s':>12}{'us an ask':>14}   system calls an ask")
+    print(f"{'one connection':44}{'decisions/s':>12}{'us each':>14}   system calls each")
     with tempfile.TemporaryDirectory() as folder:
         token = pathlib.Path(folder) / "token"
         token.write_text(f"{OPERATOR}\n")

@@ -84,7 +84,7 @@ def by_time(active):
 def main():
     measure, unit = (by_instructions, "instructions") if shutil.which("valgrind") else (by_time, "microseconds")
     of_ten, of_one = measure(DOCUMENTS), measure(1)
-    print(f"{unit + ' an ask':34}{'10 active':>14}{'1 active':>14}{'each of 9 more':>16}")
+    print(f"{unit + ' a decision':34}{'10 active':>14}{'1 active':>14}{'each of 9 more':>16}")
     for kind, ten, one in zip(("the first: texts are read", "another: the view is ready",
                                "the same: its response is kept"), of_ten, of_one):
         print(f"{kind:34}{ten:14,.0f}{one:14,.0f}{(ten - one) / 9:16,.0f}")

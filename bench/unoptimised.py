@@ -18,7 +18,7 @@ from asking import ask, domain, policy  # noqa: E402
 from page import shown, words  # noqa: E402
 import programs  # noqa: E402
 
-COUNT = 20_000
+COUNT = 10_000
 KINDS = {"kept: the same bytes again": 1, "worked out: 1,000 in turn": 1000}
 
 

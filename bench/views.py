@@ -205,14 +205,14 @@ def show_instructions():
     places = [(instructions, domains, views, ASKS if views else count) for domains, count in kinds.values()
               for views in (128, 0)]
     found = in_turn(of_an_ask, [(*place, 2 * place[-1]) for place in places])
-    print(f"{'instructions an ask':36}{'128 views':>14}{'no view':>14}{'ratio':>9}")
+    print(f"{'instructions a decision':36}{'128 views':>14}{'no view':>14}{'ratio':>9}")
     for kind in kinds:
         kept, unkept = next(found), next(found)
         print(f"{kind:36}{kept:14,.0f}{unkept:14,.0f}{kept / unkept:9.3f}", flush=True)
 
 
 def show_seconds():
-    print(f"{'milliseconds an ask':36}{'128 views':>14}{'no view':>14}")
+    print(f"{'milliseconds a decision':36}{'128 views':>14}{'no view':>14}")
     for size, count in LARGE.items():
         domains = {"d0": sized(rules_with_matches, count)}
         kept, unkept = of_an_ask(seconds, domains, 128, 1, 1 + TIMED_ASKS), of_an_ask(seconds, domains, 0, 1, 2)

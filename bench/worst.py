@@ -145,7 +145,7 @@ def dearest_forms():
 
 def asks_of_large():
     """The asks of a large domain: those fail that cost too much."""
-    size_of_domain = f"an ask of a domain of {255 * READ / 1e6:.1f} MB, of which {READING / 1e6:.0f} MB may be read"
+    size_of_domain = f"a decision of a domain of {255 * READ / 1e6:.1f} MB, of which {READING / 1e6:.0f} MB may be read"
     listing = Listing(f"{size_of_domain:64}{'seconds':>9}{'MiB':>10}   statuses")
     for what, before, asks, most, statuses in large_asks(MOST_SECONDS):
         row = large_row(before)

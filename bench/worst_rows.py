@@ -197,6 +197,6 @@ LINES = [
     ("n matches by equality on a bag of 80,000 texts", partial(matches, EQUAL, values=80_000), 128, LINEAR),
     ("n namings of a bag of 130,000 integers", partial(bag_named, values=130_000), 64, LINEAR),
     ("130 namings of a bag of n integers", partial(bag_named, 130), 65_000, LINEAR),
-    ("n asks in one piece", asks_at_once, 2_000, LINEAR),
+    ("n decision requests in one piece", asks_at_once, 2_000, LINEAR),
     ("200 matches by string-starts-with on a bag of n texts", partial(matches, STARTS, 200), 5_000, LINEAR),
 ]

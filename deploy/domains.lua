@@ -4,6 +4,10 @@ local connections = os.getenv("PDPD_MAXCONN")
 local inner = "unix@" .. os.getenv("PDPD_RUN") .. "/inner.sock"
 local file_of_map = os.getenv("PDPD_MAP")
 local map = Map.new(file_of_map, Map._str)
+-- of several groups of machines the name of this one, the map of where each domain is, and what was told since
+local group = os.getenv("PDPD_GROUP")
+local groups = group and Map.new(os.getenv("PDPD_GROUPS"), Map._str)
+local moved = group and Map.new(os.getenv("PDPD_MOVED"), Map._str)
 
 local function seconds()
     local now = core.now()
@@ -30,6 +34,11 @@ local function is_anything_held()
 end
 
 local function place_of(name, converters)
+    local place = groups and (moved:lookup(name) or groups:lookup(name))
+    if place then
+        local its, shard = place:match("^(.+)%.(%d+)$")
+        return its == group and shard or "elsewhere"
+    end
     return map:lookup(name) or tostring(converters:crc32(name) % shards)
 end
 
@@ -95,7 +104,7 @@ local function wait_for_socket(txn)
         local domain = txn:get_var("txn.domain")
         local shard = txn:get_var("txn.shard") or (domain and place_of(domain, txn.c)) or "0"
         -- (what a tool holds waits for that next)
-        if shard == "moving" or is_there(shard) or is_held(domain, txn.c) then return end
+        if shard == "moving" or shard == "elsewhere" or is_there(shard) or is_held(domain, txn.c) then return end
         core.msleep(10)
     end
     txn:set_var("txn.held", true)

@@ -32,9 +32,9 @@ sys.path.insert(0, str(TOP / "tests"))
 
 from checks import Checks  # noqa: E402
 from deployed import (  # noqa: E402
-    attacks_front, attacks_local, attacks_logs, attacks_most, attacks_pdpd, attacks_proxy, audit, backups, booting,
-    changes, clients, containers, crossing, dear, deb, enforcement, failures, machine, metrics, misplaced, mistakes,
-    observed, removal, replicas, replies, slowness, states, surroundings, systemd, units)
+    attacks_front, attacks_local, attacks_logs, attacks_most, attacks_pdpd, attacks_posing, attacks_proxy, audit,
+    backups, booting, changes, clients, containers, crossing, dear, deb, enforcement, failures, machine, metrics,
+    misplaced, mistakes, observed, removal, replicas, replies, slowness, states, surroundings, systemd, units, unseen)
 
 PARTS = (
     units.walk, units.decision, units.configurations, units.installed, units.calls,
@@ -45,12 +45,13 @@ PARTS = (
     backups.backups, backups.checkpoints, backups.emptied, backups.anew,
     changes.moves, changes.crossed, changes.killed, changes.live, changes.keeping, changes.older, enforcement.clients,
     *states.STATES, *mistakes.MISTAKES, *surroundings.SURROUNDINGS, *misplaced.MISPLACED,
-    *observed.OBSERVED,
+    unseen.unseen, *observed.OBSERVED,
     *attacks_front.ATTACKS, *crossing.ATTACKS, *attacks_local.ATTACKS, *attacks_pdpd.ATTACKS, *attacks_proxy.ATTACKS,
-    *attacks_logs.ATTACKS, *attacks_most.ATTACKS,
+    *attacks_logs.ATTACKS, *attacks_most.ATTACKS, *attacks_posing.ATTACKS,
     units.certificate, units.want_of_memory, units.upgrade, changes.growth, changes.miscounted, units.status,
-    audit.audit, audit.restarted_logged, *attacks_logs.AUDITED, audit.killed_logged, metrics.metrics, units.secrets,
-    removal.removal)
+    audit.audit, unseen.unseen_logged, audit.restarted_logged, *attacks_logs.AUDITED, *attacks_posing.AUDITED,
+    audit.killed_logged,
+    metrics.metrics, units.secrets, removal.removal)
 # those that have a machine of their own each, with the commands that they want and Debian's packages of these
 ALONE = {systemd.systemd: booting.WANTED, deb.deb: booting.WANTED, containers.containers: containers.WANTED,
          replicas.replicas: replicas.WANTED}
@@ -59,8 +60,10 @@ GROUPS = {"states": states.STATES, "attacks_front": attacks_front.ATTACKS,
           "attacks_local": attacks_local.ATTACKS, "attacks_logs": (*attacks_logs.ATTACKS, *attacks_logs.AUDITED),
           "attacks_most": attacks_most.ATTACKS,
           "attacks_pdpd": attacks_pdpd.ATTACKS, "attacks_proxy": attacks_proxy.ATTACKS,
+          "attacks_posing": (*attacks_posing.ATTACKS, *attacks_posing.AUDITED),
           "attacks": (*attacks_front.ATTACKS, *crossing.ATTACKS, *attacks_local.ATTACKS, *attacks_pdpd.ATTACKS,
-                      *attacks_proxy.ATTACKS, *attacks_logs.ATTACKS, *attacks_most.ATTACKS, *attacks_logs.AUDITED)}
+                      *attacks_proxy.ATTACKS, *attacks_logs.ATTACKS, *attacks_most.ATTACKS, *attacks_posing.ATTACKS,
+                      *attacks_logs.AUDITED, *attacks_posing.AUDITED)}
 
 
 # of so many names is told what became of them, and so many lines of each log are kept

@@ -123,8 +123,8 @@ class Daemon:
         now is answered it has taken all that came before. False where it answers none for a while."""
         if not self.asked(bytes_of("GET", "/", [], b"", is_last=True), 1):
             return False
-        before = connections_at(self.pdpd)
-        while before & connections_at(self.pdpd):
+        before = connections_at(self.pdpd, self.user)
+        while before & connections_at(self.pdpd, self.user):
             time.sleep(0.01)
         return True
 

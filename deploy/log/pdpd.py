@@ -6,7 +6,10 @@ import socket
 from collections.abc import Callable
 from dataclasses import dataclass
 
-from operating.listener import at_port, peer_of
+from operating.listener import at_port, peer_at_port, peer_of
+
+# how long a port's connection may wait to be taken, in seconds
+TAKEN = 10.0
 
 
 class NotSent(Exception):
@@ -65,12 +68,15 @@ def connection_to(address: str, seconds: float) -> socket.socket:
     return made
 
 
-def user_at(connection: socket.socket, address: str) -> int | None:
-    """Whose program takes connections at the other end of one."""
-    if connection.family == socket.AF_UNIX:
-        return peer_of(connection).uid
-    found = at_port(int(address.rpartition(":")[2]))
-    return found.uid if found else None
+def refuse_another(connection: socket.socket, user: int) -> None:
+    """An Another where a connection isn't taken by that user's program. (Of a port: whoever takes connections there
+    now may not be who has taken this one, and one who takes none would keep who connects waiting.)"""
+    is_unix = connection.family == socket.AF_UNIX
+    found = peer_of(connection) if is_unix else at_port(connection.getpeername()[1])
+    if not is_unix and (found is None or found.uid == user):
+        found = peer_at_port(connection, TAKEN)
+    if found.uid != user:
+        raise Another(found.uid)
 
 
 def replies(address: str, data: bytes, count: int, seconds: float, user: int | None = None,
@@ -83,8 +89,11 @@ def replies(address: str, data: bytes, count: int, seconds: float, user: int | N
         raise NotSent(str(fault)) from None
     held, found = b"", []
     with connection:
-        if user is not None and (other := user_at(connection, address)) not in (None, user):
-            raise Another(other)
+        try:
+            if user is not None:
+                refuse_another(connection, user)
+        except OSError as fault:
+            raise NotSent(str(fault)) from None
         refuse()
         try:
             connection.sendall(data)

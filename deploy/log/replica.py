@@ -4,14 +4,15 @@
       [--user NAME]
       [--replicas NAME=HOST[:PORT],.. --name NAME --shard N --shards COUNT --program FILE|--runs FILE [--map FILE]
        [--certificates FOLDER] [--lease SECONDS] [--ack all|local] [--without-quorum stop|go-on] [--log-tail ENTRIES]
-       [--proxy SOCKET --leases MAP]]
+       [--proxy SOCKET --leases MAP] [--groups NAME=HOST,HOST.. --group NAME --led FOLDER]]
 
 HAProxy sends it each change (PUT, POST and DELETE, but for requests for decisions). ADDRESS is HOST:PORT or unix:PATH.
 FILE's lines are the operator's tokens. No change is taken while the disk has fewer than BYTES left (64,000,000).
 NAME is the user of pdpd: nothing is sent to another one's program in its place.
 With --replicas the log is in the etcd of these machines, of which this one has that name, and FILE is the program pdpd
 that all of them run, or has the SHA-256 of the one that was started last; HAProxy is told at SOCKET, in MAP, until when
-this machine may answer (docs/guide/REPLICAS.md).
+this machine may answer (docs/guide/REPLICAS.md). With --groups the etcd of the first group has the map of domains, by
+which this machine leads them as FOLDER says (pdpd-replicas follow).
 Exit status: 2 usage, 3 the archive isn't what was written, 4 the disk failed; else it runs until it is killed.
 """
 from __future__ import annotations

@@ -16,7 +16,10 @@ from .settings import FILE, Settings, Wrong, read, text_of, words_of, write_whol
 FOLDER = FILE.parent / "applied"
 # the settings of a shard's program
 OF_SHARD = ("PROGRAM", "SOCKETS", "FIRST_PORT", "DATA", "TOKEN", "WORK", "READING")
-# those of them that say where it listens
+# and of what logs changes and decisions, which goes by what was applied to HAProxy
+OF_LOGS = ("AUDIT_RUN", "ARCHIVES", "ROOM", "DECISION_LOG", "DECISION_BYTES", "DECISION_DAYS", "REPLICAS", "SELF",
+           "ETCD_CERTIFICATES", "LEASE", "ACK", "WITHOUT_QUORUM", "LOG_TAIL", "GROUP", "ALL_GROUPS")
+# those of a shard that say where it listens
 PLACES = ("SOCKETS", "FIRST_PORT")
 # in whose settings a watchdog finds those of HAProxy
 PROXY = "haproxy"
@@ -54,6 +57,11 @@ def of(settings: Settings, name: int | str) -> Settings:
         raise Wrong(f"{fault}; pdpd-shards {heals} writes it anew") from None
 
 
+def started() -> Settings:
+    """What was applied to HAProxy; the settings of the file where nothing was."""
+    return Settings(text_of(place(PROXY)), place(PROXY)) if place(PROXY).exists() else read()
+
+
 def where_it_is(settings: Settings, shard: int) -> Settings:
     """These settings, but for where a shard's program listens and has its files, which is as it was applied."""
     found, own = copy.copy(settings), of(settings, shard)
@@ -62,10 +70,20 @@ def where_it_is(settings: Settings, shard: int) -> Settings:
     return found
 
 
+def differing(before: Settings, settings: Settings, names: tuple[str, ...]) -> list[str]:
+    """Those of these settings that are otherwise."""
+    return [name for name in names if getattr(before, name.lower()) != getattr(settings, name.lower())]
+
+
 def changed(settings: Settings, shard: int) -> list[str]:
     """The names of the settings that a shard's program was started with otherwise."""
-    before = of(settings, shard)
-    return [name for name in OF_SHARD if getattr(before, name.lower()) != getattr(settings, name.lower())]
+    return differing(of(settings, shard), settings, OF_SHARD)
+
+
+def changed_of_logs(settings: Settings) -> list[str]:
+    """The names of the settings that what logs was started with otherwise; none where nothing is logged."""
+    before = of(settings, PROXY)
+    return differing(before, settings, OF_LOGS) if before.audit or before.decisions else []
 
 
 def kept_places(settings: Settings) -> Iterator[tuple[str, int | str, str]]:

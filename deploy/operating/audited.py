@@ -1,5 +1,6 @@
 """The rules of HAProxy with AUDIT=1: changes go to pdpd-replica, and a token's digest stands for it; and the decision
-log, with DECISIONS."""
+log, with DECISIONS. What goes to another group of machines is logged there."""
+from .grouped import but
 
 # A change waits at the daemon for its turn and then for its reply, ten seconds each, and is asked about before. On
 # several machines it may wait for a lease, too.
@@ -12,9 +13,10 @@ def token_rules(settings):
     opens nothing then, since HAProxy would hash it again. (`fhdr`, since a token may have commas.)"""
     if not settings.audit:
         return ""
-    return r"""    acl is_bearer req.fhdr(authorization) -m reg -i ^bearer\ +[!-~]+$
-    http-request set-var(txn.token) req.fhdr(authorization),regsub(^bearer\ +,,i) if of_tenant is_bearer has_one_token
-    http-request del-header authorization if of_tenant
+    shows_one = f"of_tenant is_bearer has_one_token{but(settings)}"
+    return rf"""    acl is_bearer req.fhdr(authorization) -m reg -i ^bearer\ +[!-~]+$
+    http-request set-var(txn.token) req.fhdr(authorization),regsub(^bearer\ +,,i) if {shows_one}
+    http-request del-header authorization if of_tenant{but(settings)}
     acl has_bearer var(txn.token) -m found
     http-request set-header authorization "Bearer %[var(txn.token),sha2(256),ub64enc]" if has_bearer
 """
@@ -47,13 +49,16 @@ def decision_rules(settings):
         return ""
     kept = REQUESTS[settings.decision_requests]
     request = f',"{kept[0]}":"%[var(txn.request)]"' if kept else ""
-    rule = f"    http-request set-var(txn.request) {kept[1]} if METH_POST is_ask\n" if kept else ""
+    asked = f"METH_POST is_ask is_named{but(settings)}"
+    rule = f"    http-request set-var(txn.request) {kept[1]} if {asked}\n" if kept else ""
     line = (f'{{"begin":%[var(txn.begin)],"end":%[date(0,us)],"domain":"%[var(txn.domain)]","who":"%[var(txn.asker)]",'
             f'"status":200,"reply":"%[res.body,sha2(256),hex]"{request}}}')
     return f"""\
-    http-request set-var(txn.begin) date(0,us) if METH_POST is_ask
+    # (what is in a shard's place may answer for any path, and what is no domain's name could end the text of a line)
+    acl is_named var(txn.domain) -m reg ^[a-z0-9][a-z0-9-]*$
+    http-request set-var(txn.begin) date(0,us) if {asked}
 {rule}\
-    http-request set-var(txn.asker) req.fhdr(authorization),word(-1,' '),sha2(256),bytes(0,4),hex,lower if METH_POST is_ask
+    http-request set-var(txn.asker) req.fhdr(authorization),word(-1,' '),sha2(256),bytes(0,4),hex,lower if {asked}
     acl was_asked var(txn.begin) -m found
     acl is_decided status 200
     http-response wait-for-body time 12s if was_asked

@@ -24,6 +24,7 @@ Settings are in /etc/pdpd/shards.conf, or where PDPD_SETTINGS says. OPERATING.md
 Exit status: 0 done, 1 something is wrong, 2 usage, or status can't tell.
 """
 import contextlib
+import os
 import signal
 import sqlite3
 import subprocess
@@ -85,9 +86,12 @@ def services(settings, words):
             raise Wrong(f"{', '.join(sorted(names))} of {FILE} isn't what shard {shard} was started with: write that "
                         "again, or give pdpd-shards config --write, restart, and then reload")
     applied.apply_where_none(settings, range(settings.shards))
-    by.set_up(range(settings.shards))
-    # (with runit it starts by what was applied)
+    # (what logs goes by it, and with runit HAProxy)
+    has_other_logs = applied.changed_of_logs(settings)
     applied.apply(settings, applied.PROXY)
+    by.set_up(range(settings.shards))
+    if has_other_logs:
+        by.restart_logs(range(settings.shards))
     by.start_proxy()
     if not talk.is_there(settings):
         # (by a reload it would go on with sockets that another one took, which was started beside it)
@@ -106,8 +110,12 @@ def reload(settings, words):
         raise Wrong(f"{settings.haproxy_etc}/haproxy.cfg leads where the shards aren't yet: give pdpd-shards restart, "
                     "and then reload")
     # a process that begins while another tool holds messages back would know nothing of it
+    by = supervisor.of(settings)
     with alone():
-        talk.reload(settings, supervisor.of(settings))
+        has_other_logs = applied.changed_of_logs(settings)
+        talk.reload(settings, by)
+        if has_other_logs:
+            by.restart_logs(range(settings.shards))
     say("HAProxy has read its files")
 
 
@@ -328,6 +336,8 @@ def is_usage(words):
 
 def main(words):
     end_in_order()
+    # nobody else changes what root makes, however its shell has that
+    os.umask(os.umask(0o022) | 0o022)
     if words in (["--help"], ["-h"], ["help"]):
         print(__doc__, end="")
         return 0

@@ -4,7 +4,6 @@ Each second each shard is asked for a decision, in its turn behind all that wait
 client waits. HAProxy leads who asks for figures to a socket here, which nobody else may connect to.
 """
 import contextlib
-import json
 import os
 import pathlib
 import shutil
@@ -21,7 +20,6 @@ PAUSE, PATIENCE = 1.0, 25.0
 COUNTED = 60.0
 SOCKET = setting.LOCKS / "figures.sock"
 LONGEST_HEAD = 16_384
-KINDS = ("same", "other", "refused", "unverified")
 # name, kind, what it is
 HELP = {
     "pdpd_shard_up": ("gauge", "1 where a shard answers a request for a decision"),
@@ -123,15 +121,13 @@ def of_replica(settings, shard):
 
 
 def verified(settings):
-    """What the nightly job has found. (Its user may have written anything there.)"""
+    """What the nightly job has found."""
     try:
-        path = pathlib.Path(settings.decision_log) / "verified"
-        with open(os.open(path, os.O_RDONLY | os.O_NOFOLLOW | os.O_NONBLOCK), encoding="ascii") as file:
-            held = json.loads(file.read(4_096))
-        return [("pdpd_decisions_verified", f'kind="{kind}"', float(held[kind])) for kind in KINDS] + [
-            ("pdpd_decisions_verified_at_seconds", "", float(held["at"]))]
-    except (OSError, ValueError, KeyError, TypeError, RecursionError):
+        *kinds, (_, at) = replicas.decided(pathlib.Path(settings.decision_log))
+    except replicas.UNTOLD:
         return []
+    return [*(("pdpd_decisions_verified", f'kind="{kind}"', count) for kind, count in kinds),
+            ("pdpd_decisions_verified_at_seconds", "", at)]
 
 
 def all_figures(settings):

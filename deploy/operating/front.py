@@ -3,18 +3,22 @@ clients ask it."""
 from __future__ import annotations
 
 import contextlib
+import csv
 import http.client
+import io
 import os
 import pathlib
 import re
 import socket
 import ssl
+import subprocess
 import time
 
 from . import talk
 from .findings import Findings
 from .proxy import configuration
-from .settings import LIBRARY, Wrong, text_of, words_of
+from .settings import FILE, LIBRARY, Wrong, text_of, words_of
+from .services import was_removed
 
 # how long a certificate has to be valid from now on, in days
 DAYS = 7
@@ -86,6 +90,28 @@ def look_at_configuration(settings, findings: Findings) -> None:
         findings.add(f"{rules} isn't what is installed: pdpd-shards config --write, then pdpd-shards reload")
     if os.geteuid() == 0:  # (others can't read the certificate's key)
         look_whether_it_starts(path, findings)
+
+
+def look_at_limits(settings, findings: Findings) -> None:
+    """Whether HAProxy was told by hand to take fewer connections than its file says, or was replaced under its
+    process."""
+    said = talk.admin_reply(settings, "show stat pdp 1 -1").lstrip("# ")
+    row = next(csv.DictReader(io.StringIO(said)), {})
+    found = int(row.get("slim") or 0), int(row.get("rate_lim") or 0), talk.info(settings, "ConnRateLimit")
+    if found != (settings.clients, 0, 0):
+        findings.add(f"HAProxy takes {found[0]} connections of clients, and CLIENTS is {settings.clients}, or fewer a "
+                     "second than come: it was told so by hand, and pdpd-shards reload has it go by its file")
+    if was_removed(f"/proc/{talk.info(settings, 'Pid')}/exe"):
+        findings.add("HAProxy's program was replaced since it began, as by an upgrade of its package: pdpd-shards "
+                     "reload has the new one run")
+
+
+def look_at_log(settings, findings: Findings) -> None:
+    """Whether anybody takes HAProxy's lines where LOG names a socket."""
+    place = settings.log.split()[0].removeprefix("unix@") if settings.log.split() else ""
+    if place.startswith("/") and not pathlib.Path(place).is_socket():
+        findings.add(f"LOG of {FILE} names {place}, where nobody takes lines: changes aren't logged. Start what does, "
+                     "or name another place")
 
 
 def look_whether_it_starts(path: pathlib.Path, findings: Findings) -> None:
@@ -171,6 +197,12 @@ def last_moment(address: tuple[str, int], shown: bytes) -> float | None:
         raise
 
 
+def ends_soon(text: str) -> bool:
+    """Whether a certificate's time is over in so many days."""
+    words = ["openssl", "x509", "-noout", "-checkend", str(DAYS * 86_400)]
+    return subprocess.run(words, input=text, capture_output=True, text=True, check=False).returncode == 1
+
+
 def look_at_certificate(settings, address: tuple[str, int], shown: bytes, findings: Findings) -> float | None:
     """Whether clients are shown the file's certificate, and for how many days it is valid."""
     last = last_moment(address, shown)
@@ -183,6 +215,10 @@ def look_at_certificate(settings, address: tuple[str, int], shown: bytes, findin
         in_file = CERTIFICATE.search(text_of(path)) if path.is_file() else None
         if path.is_file() and (not in_file or ssl.PEM_cert_to_DER_cert(in_file[0]) != shown):
             findings.add(f"clients are shown another certificate than {path} has: pdpd-shards reload")
+        for text in CERTIFICATE.findall(text_of(path))[1:] if path.is_file() else ():
+            if ends_soon(text):
+                findings.add(f"a certificate that stands behind the first one in {path} is valid for less than {DAYS} "
+                             "days: put a newer one there, then pdpd-shards reload")
     return days if last is not None else None
 
 
@@ -216,6 +252,10 @@ def look(settings, findings: Findings) -> float | None:
         look_at_map(settings, findings)
     with findings.looking("HAProxy's configuration"):
         look_at_configuration(settings, findings)
+    with findings.looking("HAProxy's log"):
+        look_at_log(settings, findings)
+    with findings.looking("HAProxy's limits"), contextlib.suppress(talk.NoProxy):  # (all else tells that)
+        look_at_limits(settings, findings)
     try:
         return look_as_client(settings, findings)
     except Wrong as fault:

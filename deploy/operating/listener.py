@@ -8,31 +8,38 @@ before it says that a shard is up.
 from __future__ import annotations
 
 import contextlib
+import errno
 import os
 import pathlib
 import pwd
 import re
+import select
 import socket
 import struct
+import threading
 import time
 from collections.abc import Iterator
-from typing import NamedTuple
+from typing import Any, NamedTuple
 
-from . import supervisor
+from . import supervisor, unix_sockets
+from .owned import owner_of
 from .processes import openers
-from .settings import Wrong
+from .settings import Wrong, put_off_signals
 
 # The lists of sockets with the addresses at which one takes connections to 127.0.0.1, the most specific first: if
 # there are several, that one has them.
 PLACES = (("tcp", "0100007F"), ("tcp6", "0000000000000000FFFF00000100007F"), ("tcp", "0" * 8), ("tcp6", "0" * 32))
 LISTENS = "0A"
-# the states of a connection that is open, or whose other end has gone; those of Unix sockets (connecting, connected);
-# and what one that takes connections has among its flags
-OPEN, UNIX_OPEN, UNIX_LISTENS = ("01", "08"), ("02", "03"), 0x10000
+# the states of a connection that is open, or whose other end has gone
+OPEN = "01", "08"
+# before an address of IPv4 that a socket of IPv6 has
+MAPPED = "0" * 16 + "FFFF0000"
+# how many connections a program serves at a time
+MOST_SERVED = 64
 # how long a Unix socket may take to take a connection, in seconds: the kernel does it
 SOON = 5.0
-# after how long a shard is looked at again that seems to be another program, in seconds
-AGAIN = 0.2
+# after how long a shard is looked at again that seems to be another program, and who has taken a connection, in seconds
+AGAIN, PAUSE = 0.2, 0.002
 # says from which port on every user may take one; one below wants the right CAP_NET_BIND_SERVICE
 FREE = pathlib.Path("/proc/sys/net/ipv4/ip_unprivileged_port_start")
 # a port in an address at which HAProxy listens
@@ -95,6 +102,19 @@ def connection_to(path: str, seconds: float) -> socket.socket:
     return made
 
 
+@contextlib.contextmanager
+def ended_after(seconds: float, made: socket.socket) -> Iterator[None]:
+    """A connection ends after that time: what comes byte by byte holds no tool up."""
+    timer = threading.Timer(seconds, made.shutdown, [socket.SHUT_RDWR])
+    try:
+        # a thread takes no signal that the tool has put off (one that has come meanwhile ends the tool from here)
+        with put_off_signals():
+            timer.start()
+        yield
+    finally:
+        timer.cancel()
+
+
 def at_socket(path: str) -> Listener | None:
     """Who takes connections at a Unix socket, if somebody does: nothing is said to him."""
     try:
@@ -110,25 +130,51 @@ def at(settings, shard: int) -> Listener | None:
     return at_socket(settings.socket(shard)) if port is None else at_port(port)
 
 
-def unix_sockets() -> Iterator[list[str]]:
-    """The words of each line of the kernel's list of Unix sockets, of which the last is the path, if it has one."""
-    with open("/proc/self/net/unix", encoding="utf-8", errors="replace") as lines:
-        next(lines)
-        for line in lines:
-            yield line.rstrip("\n").split(None, 7)
-
-
 def connections(settings, shard: int) -> int:
-    """How many connections a shard has open, or at its door, by the kernel's lists."""
-    port, path = settings.port(shard), settings.socket(shard)
+    """How many connections a shard has open, or at its door, by the kernel's lists; as many as it serves where the
+    kernel tells of none."""
+    port = settings.port(shard)
     if port is None:
-        return sum(row[7:] == [path] and row[5] in UNIX_OPEN and not int(row[3], 16) & UNIX_LISTENS
-                   for row in unix_sockets())
+        try:
+            return unix_sockets.count(settings.socket(shard), owner_of(settings.folder(shard)).uid)
+        except OSError:
+            return MOST_SERVED
     found = 0
     for name in ("tcp", "tcp6"):
         with contextlib.suppress(FileNotFoundError), open(f"/proc/self/net/{name}", encoding="ascii") as lines:
             rows = (line.split() for line in lines)
             found += sum(row[1].endswith(f":{port:04X}") and row[3] in OPEN for row in rows)
+    return found
+
+
+def shown(address: tuple[Any, ...]) -> str:
+    """An address and its port as the kernel's lists have them: each four bytes are a number of this machine."""
+    packed = socket.inet_pton(socket.AF_INET6 if ":" in address[0] else socket.AF_INET, address[0])
+    words = (packed[at:at + 4][::-1] for at in range(0, len(packed), 4))
+    return f"{b''.join(words).hex().upper()}:{address[1]:04X}"
+
+
+def taken_by(connection: socket.socket) -> Listener | None:
+    """Who has taken a connection to a port, and by which socket; nothing while it waits to be taken. (Whoever takes
+    connections there now may be another one than then.)"""
+    theirs, ours = shown(connection.getpeername()), shown(connection.getsockname())
+    ends = (theirs, ours), (MAPPED + theirs, MAPPED + ours)
+    for name in ("tcp", "tcp6"):
+        with contextlib.suppress(FileNotFoundError), open(f"/proc/self/net/{name}", encoding="ascii") as lines:
+            for words in map(str.split, lines):
+                if (words[1], words[2]) in ends and words[9] != "0":
+                    return Listener(int(words[7]), words[9])
+    return None
+
+
+def peer_at_port(connection: socket.socket, seconds: float) -> Listener:
+    """Who takes a connection to a port, within that time; an error where it ends before."""
+    end = time.monotonic() + seconds
+    while (found := taken_by(connection)) is None:
+        if time.monotonic() > end:
+            raise TimeoutError(errno.ETIMEDOUT, os.strerror(errno.ETIMEDOUT))
+        if select.select([connection], [], [], PAUSE)[0] and not connection.recv(1, socket.MSG_PEEK):
+            raise ConnectionResetError(errno.ECONNRESET, os.strerror(errno.ECONNRESET))
     return found
 
 
@@ -225,14 +271,18 @@ def dial(settings, shard: int, seconds: float) -> socket.socket:
 def connect(settings, shard: int, seconds: float) -> socket.socket:
     """A connection to a shard's own program; an error where another one has its place, which is sent nothing."""
     if settings.port(shard) is not None:
+        # (who has the port, and takes nothing there, would keep a tool waiting)
         refuse_another(settings, shard)
-        return dial(settings, shard, seconds)
     made = dial(settings, shard, seconds)
-    if not is_of(settings, shard, peer_of(made)):
+    try:
+        found = peer_of(made) if settings.port(shard) is None else peer_at_port(made, seconds)
+        if not is_of(settings, shard, found):
+            refuse_another(settings, shard)
+            # (its own program has begun, or another one has ended, between the looks)
+            raise ConnectionResetError(f"shard {shard} has just begun")
+    except BaseException:
         made.close()
-        refuse_another(settings, shard)
-        # (its own program has begun, or another one has ended, between the looks)
-        raise ConnectionResetError(f"shard {shard} has just begun")
+        raise
     return made
 
 
@@ -262,10 +312,12 @@ def refuse_another(settings, shard: int) -> None:
         raise Impostor(words_on(settings, shard, found), found)
 
 
-def is_unlinked(path: str) -> bool:
-    """Whether a program takes connections at a Unix socket that was removed from its folder."""
-    return not os.path.exists(path) and any(row[7:] == [path] and int(row[3], 16) & UNIX_LISTENS
-                                            for row in unix_sockets())
+def is_unlinked(settings, shard: int) -> bool:
+    """Whether a shard's program takes connections at a Unix socket that was removed from its folder."""
+    path = settings.socket(shard)
+    with contextlib.suppress(OSError):
+        return not os.path.exists(path) and unix_sockets.is_listening(path, owner_of(settings.folder(shard)).uid)
+    return False
 
 
 def why_away(settings, shard: int) -> str:
@@ -275,7 +327,7 @@ def why_away(settings, shard: int) -> str:
     if others := {*openers(os.path.realpath(settings.folder(shard) / "pdpd.db"))} - {by.pid(shard)}:
         return (f"process {min(others)}, which isn't its supervisor's, has its file open, and it can't start beside "
                 f"that: kill {min(others)}")
-    if settings.port(shard) is None and is_unlinked(settings.socket(shard)):
+    if settings.port(shard) is None and is_unlinked(settings, shard):
         return f"its socket {settings.socket(shard)} was removed: pdpd-shards restart {shard} makes it anew"
     return (f"its program doesn't run, and pdpd-shards restart {shard} starts it, or its log says why "
             f"({by.log_of(by.SHARD.format(shard))})")

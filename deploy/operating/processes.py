@@ -5,6 +5,8 @@ import pathlib
 
 # how many bytes of a log's end are read, and how many letters of a line are told
 TAIL, TOLD = 4096, 300
+# what stands behind the name of a file that was removed
+REMOVED = " (deleted)"
 
 
 def children_of(process):
@@ -25,6 +27,25 @@ def name_and_state(process):
 def is_stopped(process):
     """Whether a process stands still, as by SIGSTOP."""
     return name_and_state(process)[1] == "T"
+
+
+def parent_of(process):
+    """The process that a process's end is told to; 0 where it is gone."""
+    with contextlib.suppress(FileNotFoundError, ProcessLookupError):
+        return int(pathlib.Path(f"/proc/{process}/stat").read_text(errors="replace").rpartition(")")[2].split()[1])
+    return 0
+
+
+def removed_files(process):
+    """The files that a process has open for writing and that were removed, each with its place in /proc."""
+    found = {}
+    with contextlib.suppress(FileNotFoundError, ProcessLookupError):
+        for name in os.listdir(f"/proc/{process}/fd"):
+            place = f"/proc/{process}/fd/{name}"
+            link = os.readlink(place)
+            if link.startswith("/") and link.endswith(REMOVED) and os.lstat(place).st_mode & 0o200:
+                found[link.removesuffix(REMOVED)] = place
+    return found
 
 
 def has_program(name):

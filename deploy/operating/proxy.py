@@ -7,7 +7,7 @@ ends here. So does what one client could take away from all others: connections,
 import hashlib
 import pathlib
 
-from . import again, audited, logged, monitored, replicated
+from . import again, audited, grouped, logged, monitored, replicated
 from . import settings as setting
 
 JSON = "content-type application/json string"
@@ -38,7 +38,8 @@ def answers(status, code, fields="", how="return"):
 def global_part(settings):
     user = settings.haproxy_user
     rights = f"    user {user}\n    group {user}\n" if user else ""
-    most = settings.clients + SPARE + again.most(settings)
+    # (each message to another group has a connection there)
+    most = settings.clients * (2 if settings.groups else 1) + SPARE + again.most(settings)
     buffers = most + 2 * (settings.under_way + again.most(settings))
     return f"""\
 global
@@ -67,6 +68,7 @@ global
     setenv PDPD_RUN {settings.haproxy_run}
     {f"setenv PDPD_SOCKETS {settings.sockets}" if settings.first_port is None else "unsetenv PDPD_SOCKETS"}
     setenv PDPD_MAP {settings.map}
+{grouped.global_lines(settings)}\
     setenv PDPD_AUDIT {settings.audit}
     # which configuration this is, for pdpd-shards status
     setenv PDPD_DIGEST {DIGEST}
@@ -237,6 +239,20 @@ def there(settings, condition):
     return f"    http-request lua.pdpd_there if {condition}\n" if settings.first_port is None else ""
 
 
+def placed(settings, file):
+    """The shard of a domain: by the map, else by its name."""
+    by_map = grouped.shard_rules(settings, answers(503, "Unavailable")) or f"""\
+    http-request set-var(txn.shard) var(txn.domain),map({file})
+    acl has_domain var(txn.domain) -m found
+"""
+    by_name = f"var(txn.domain),crc32,mod({settings.shards}) if has_domain !has_shard{grouped.but(settings)}"
+    return f"""\
+{by_map}\
+    acl has_shard var(txn.shard) -m found
+    http-request set-var(txn.shard) {by_name}
+"""
+
+
 def route_rules(settings):
     """Whose message it is, looked up at the moment at which it comes into the shard's queue."""
     file = settings.map
@@ -244,10 +260,7 @@ def route_rules(settings):
     # a tool holds some messages back while it restarts a shard or moves a domain
     http-request lua.pdpd_wait if {{ str(HELD),map({file}) -m found }}
     http-request {answers(503, "Unavailable")} if {{ var(txn.held) -m found }}
-    http-request set-var(txn.shard) var(txn.domain),map({file})
-    acl has_domain var(txn.domain) -m found
-    acl has_shard var(txn.shard) -m found
-    http-request set-var(txn.shard) var(txn.domain),crc32,mod({settings.shards}) if has_domain !has_shard
+{placed(settings, file)}\
     # while the number of shards grows no domain is made
     acl makes_domain method PUT
     acl is_stopped str(NEW),map({file}) -m found
@@ -256,6 +269,8 @@ def route_rules(settings):
     http-response {answers(503, "Unavailable")} if has_domain {{ res.hdr_val(content-length) gt {MOST_REPLY} }}
     http-response wait-for-body time 12s
 {replicated.rules(settings, answers(503, "Unavailable"))}\
+{grouped.reply_rules(settings, answers(503, "Unavailable"))}\
+{grouped.use_rules(settings)}\
     use_backend lists if METH_GET {{ path /operator/domains }}
 {audited.change_rules(settings)}\
     use_backend shard%[var(txn.shard)] if has_shard
@@ -267,14 +282,23 @@ def route_rules(settings):
 
 def frontends(settings):
     """Where clients come in, up to the shards' queues."""
-    first = (binds(settings) + audited.decision_log(settings, logged.LINE) + source_rules(settings)
-             + logged.kind_rules() + DOMAIN_RULES + token_rules(settings) + head_rules() + body_rules()
-             + audited.token_rules(settings) + audited.decision_rules(settings) + logged.level_rules(settings)
-             + logged.LED)
     away = f"{{ str(AWAY),map({settings.map}) -m found }}"
     routes, refusal = route_rules(settings), answers(503, "Unavailable")
-    second = again.frontend(settings, rights(settings), refusal, DOMAIN_RULES, routes)
-    return f"\nfrontend pdp\n{first}{there(settings, away)}{routes}{second}"
+    rules = message_rules(settings) + there(settings, away) + routes
+    again_rules = DOMAIN_RULES + grouped.again_rules(settings, refusal)
+    second = again.frontend(settings, rights(settings), refusal, again_rules, routes)
+    log = audited.decision_log(settings, logged.LINE)
+    first = f"\nfrontend pdp\n{binds(settings)}{log}{source_rules(settings)}{rules}"
+    if not settings.groups:
+        return first + second
+    return f"{first}\nfrontend groups\n{log}{grouped.first_rules(settings)}{rules}{second}"
+
+
+def message_rules(settings):
+    """What is done with a message before it is led anywhere."""
+    return (logged.kind_rules() + DOMAIN_RULES + grouped.place_rules(settings, answers(503, "Unavailable"))
+            + token_rules(settings) + head_rules() + body_rules() + audited.token_rules(settings)
+            + audited.decision_rules(settings) + logged.level_rules(settings) + logged.LED)
 
 
 def rights(settings):
@@ -352,12 +376,19 @@ def own_part(settings):
     return f"\n# ---- of {path}\n\n{setting.text_of(path)}" if path.exists() else ""
 
 
+def mode(settings):
+    """How the whole file is kept: who may not read the operator's own sections may not read it."""
+    path = pathlib.Path(settings.haproxy_etc) / OWN
+    return 0o644 & (path.stat().st_mode if path.exists() else 0o644)
+
+
 def configuration(settings):
     """The whole file."""
     text = "".join((
         f"# Written by `pdpd-shards config`, of {setting.FILE}: what is changed here is lost. Sections of your own stand "
         f"in {settings.haproxy_etc}/{OWN}.\n",
         global_part(settings), defaults_part(settings), frontends(settings), other_parts(settings),
-        backends(settings), audited.backends(settings, ACCEPTS), audited.decision_ring(settings),
+        backends(settings), audited.backends(settings, ACCEPTS), grouped.backends(settings, ACCEPTS),
+        audited.decision_ring(settings),
         monitored.frontend(settings), own_part(settings)))
     return text.replace(DIGEST, hashlib.sha256(text.encode()).hexdigest()[:16])

@@ -3,6 +3,7 @@ from __future__ import annotations
 
 import http.client
 import json
+import os
 import pathlib
 import socket
 import time
@@ -11,13 +12,19 @@ from collections.abc import Iterable
 from log.history import look_at_end
 from log.record import Damaged
 
+from . import applied, supervisor
 from .findings import Findings
+from .processes import removed_files
 from .settings import Settings
 
 FIGURES = ("position", "waiting", "pending", "archive_bytes", "room_bytes")
 LONGEST = 4_096
 # how long a question waits, and an entry may be without its reply before that is told, in seconds
 PATIENCE, PENDING = 2.0, 3.0
+# after how long decisions should have been worked out again, in seconds
+VERIFIED = 26 * 3600
+# what the nightly job tells of (pdpd-log verify)
+KINDS = ("same", "other", "refused", "unverified")
 # what is raised where nothing is told
 UNTOLD = OSError, http.client.HTTPException, ValueError, KeyError, TypeError, RecursionError
 
@@ -47,6 +54,7 @@ def connected(path: pathlib.Path) -> socket.socket:
 
 def figures(settings: Settings, shard: int) -> dict[str, float] | None:
     """What the daemon of a shard tells of itself; nothing where it doesn't answer. (Its user may answer anything.)"""
+    settings = applied.of(settings, applied.PROXY)
     connection = OverSocket(pathlib.Path(settings.audit_run) / str(shard) / "socket")
     try:
         connection.request("GET", "/figures")
@@ -58,6 +66,13 @@ def figures(settings: Settings, shard: int) -> dict[str, float] | None:
         return None
     finally:
         connection.close()
+
+
+def decided(folder: pathlib.Path) -> Iterable[tuple[str, float]]:
+    """What the nightly job has found, and when. (Its user may have written anything there.)"""
+    with open(os.open(folder / "verified", os.O_RDONLY | os.O_NOFOLLOW | os.O_NONBLOCK), encoding="ascii") as file:
+        held = json.loads(file.read(LONGEST))
+    return [(name, float(held[name])) for name in (*KINDS, "at")]
 
 
 def wait_until_there(settings: Settings, shards: Iterable[int], seconds: float = PENDING) -> None:
@@ -84,8 +99,32 @@ def why_away(settings: Settings, shard: int) -> str:
     return f"pdpd-replica doesn't answer: the log of pdpd-replica-{shard} says why"
 
 
+def tell_removed(settings: Settings, name: str, folder: pathlib.Path, findings: Findings) -> None:
+    """Tells of files that were removed while a service writes into them."""
+    unit = name if settings.supervisor == "runit" else name.replace("replica-", "replica@")
+    for file, place in removed_files(supervisor.of(settings).supervised(unit)).items():
+        if file.startswith(f"{folder}/"):
+            findings.add(f"{file} was removed while {unit} writes into it, and what is in it is lost once that ends: "
+                         f"copy it from {place} before, then restart {unit}")
+
+
+def look_at_verified(settings: Settings, findings: Findings) -> None:
+    """What the nightly job has found, and whether it ran."""
+    try:
+        found = dict(decided(pathlib.Path(settings.decision_log)))
+    except UNTOLD:
+        return  # (none has run yet)
+    if found["other"]:
+        findings.add(f"{found['other']:.0f} decisions aren't those that are worked out again: pdpd-log verify "
+                     f"{settings.decision_log} names the lines")
+    if time.time() - found["at"] > VERIFIED:
+        findings.add("decisions weren't worked out again for over 26 hours: the log of pdpd-verify says why")
+
+
 def look(settings: Settings, shard: int, findings: Findings) -> int | None:
     """The last entry of a shard that is answered. It tells why no change is taken, where none is."""
+    with findings.looking("what HAProxy was started with"):
+        settings = applied.of(settings, applied.PROXY)
     if not settings.audit:
         return None
     with findings.looking(f"the log of changes of shard {shard}"):
@@ -101,6 +140,7 @@ def look(settings: Settings, shard: int, findings: Findings) -> int | None:
             return None
         if found.get("lease") == 0:
             findings.add(f"shard {shard} decides nothing on this machine, whose lease is over: pdpd-replicas status")
+        tell_removed(settings, f"pdpd-replica-{shard}", pathlib.Path(settings.archives) / str(shard), findings)
         position = int(found["position"])
         if found["pending"] and time.monotonic() >= end:
             findings.add(f"entry {position + 1} of shard {shard} gets no reply, and no change passes it: the log of "
@@ -114,8 +154,14 @@ def look(settings: Settings, shard: int, findings: Findings) -> int | None:
 
 def look_at_decisions(settings: Settings, findings: Findings) -> None:
     """Whether lines of decisions are taken."""
+    with findings.looking("what HAProxy was started with"):
+        settings = applied.of(settings, applied.PROXY)
     if not settings.decisions:
         return
+    with findings.looking("what was verified"):
+        look_at_verified(settings, findings)
+    with findings.looking("the files of decisions"):
+        tell_removed(settings, "pdpd-decisions", pathlib.Path(settings.decision_log), findings)
     with findings.looking("the log of decisions"):
         try:
             connected(pathlib.Path(settings.audit_run) / "decisions" / "socket").close()

@@ -15,6 +15,9 @@ REFUSED = {
 
 def refuse(settings, word):
     """An error where a command would part this machine from the others."""
+    if settings.groups and word in ("grow", "remap"):
+        raise Wrong("the map of all groups leads domains: pdpd-replicas carry brings one to another shard. The number "
+                    "of shards stays")
     if settings.machines and word in REFUSED:
         raise Wrong(REFUSED[word])
     if settings.machines and word in ("grow", "remap"):

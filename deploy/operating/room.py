@@ -15,8 +15,9 @@ from .settings import Wrong
 # the file in a shard's folder
 NAME = "reserve"
 MIB = 2 ** 20
-# of a disk with less than this part of it, or with less than so many bytes, is told: a change may have 512 KiB
-SCARCE, LEAST = 0.1, 3 * MIB // 4
+# of a disk with less than this part of it is told, unless it is more than so many bytes; and of one with less than so
+# many: a change may have 512 KiB
+SCARCE, ENOUGH, LEAST = 0.1, 4096 * MIB, 3 * MIB // 4
 # of one that can have fewer files more is told: a backup has seven
 FEW = 100
 
@@ -28,7 +29,7 @@ class Room(NamedTuple):
 
     def is_scarce(self) -> bool:
         """Whether it is soon full."""
-        return self.free < SCARCE * self.total
+        return self.free < min(SCARCE * self.total, ENOUGH)
 
     def is_full(self) -> bool:
         """Whether it is so full that changes may be refused."""

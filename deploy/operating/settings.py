@@ -11,6 +11,7 @@ import sys
 import tempfile
 import time
 
+from replica.groups import groups_in
 from replica.machines import machines_in
 
 LIBRARY = pathlib.Path(__file__).resolve().parent.parent
@@ -22,7 +23,7 @@ NUMBERS = {
     "RESERVE": (0, 100_000),
     "CLIENTS": (1, 100_000), "UNDER_WAY": (10, 100_000), "OF_SOURCE": (0, 100_000), "REFUSALS": (0, 1_000_000),
     "AUDIT": (0, 1), "ROOM": (0, 2 ** 63), "DECISIONS": (0, 1), "DECISION_BYTES": (1, 2 ** 40),
-    "DECISION_DAYS": (1, 100_000), "LEASE": (2, 60), "LOG_TAIL": (0, 10 ** 9),
+    "DECISION_DAYS": (1, 100_000), "LEASE": (2, 60), "LOG_TAIL": (0, 10 ** 9), "GROUP_PORT": (1, 65_535),
 }
 # the settings that are a file or a folder, and those of them that may be empty
 PLACES = ("PROGRAM", "SOCKETS", "DATA", "BACKUPS", "TOKEN", "HAPROXY_ETC", "HAPROXY_RUN", "AUDIT_RUN", "ARCHIVES",
@@ -178,6 +179,7 @@ class Settings:
         if len(self.socket(NUMBERS["SHARDS"][1])) > MOST_PATH:
             raise Wrong(f"{file}: SOCKETS is {self.sockets!r}: a socket's path may have {MOST_PATH} bytes")
         self.machines = self.machines_of(file) if self.replicas else {}
+        self.groups = self.groups_of(file) if self.all_groups else {}
 
     def machines_of(self, file):
         """The machines that REPLICAS names; an error where this isn't one of them, or logs no changes."""
@@ -190,6 +192,23 @@ class Settings:
         if not self.audit:
             raise Wrong(f"{file}: REPLICAS wants AUDIT=1")
         return found
+
+    def groups_of(self, file):
+        """The groups of machines in ALL_GROUPS; an error where GROUP isn't one, with the machines of REPLICAS."""
+        try:
+            found = groups_in(self.all_groups)
+        except ValueError as fault:
+            raise Wrong(f"{file}: ALL_GROUPS: {fault}") from None
+        if self.group not in found:
+            raise Wrong(f"{file}: GROUP is {self.group!r}, and none of the groups {', '.join(found)}")
+        if sorted(found[self.group].values()) != sorted(self.machines.values()):
+            raise Wrong(f"{file}: ALL_GROUPS has other addresses of {self.group} than REPLICAS")
+        return found
+
+    @property
+    def places(self):
+        """The folder in which the map of all groups is kept on this machine."""
+        return pathlib.Path(self.archives) / "map"
 
     def folder(self, shard):
         """Where a shard's files are."""

@@ -11,6 +11,7 @@ import time
 from . import applied, supervisor, talk, trial
 from .findings import Findings
 from .owned import User, advice, as_user, name_of, run, surroundings
+from .processes import is_stopped
 from .settings import FILE, LIBRARY, Settings, Wrong
 
 # the user of the shards' programs, as their services have it
@@ -46,6 +47,12 @@ def refuse_unrunnable(settings: Settings) -> None:
         if status != 0:
             raise Wrong(f"the user {USER} can't run {path}, and no shard could start again: chmod 755 it and the "
                         "folders above, or install the archive again. Restart no shard before")
+    places = (applied.place(0), FILE)
+    path = next((path for path in places if path.exists()), None)
+    status, _ = run(f"a look for {path}", as_user(user, ["test", "-r", path]), env=surroundings()) if path else (0, "")
+    if status != 0:
+        raise Wrong(f"the user {USER} can't read {path}, and no shard could start again: chmod 644 it, and 755 the "
+                    "folders above (the token alone is secret). Restart no shard before")
 
 
 def look_at_secrets(settings: Settings, findings: Findings) -> None:
@@ -73,6 +80,9 @@ def look_at_folder(folder: pathlib.Path, shard: int, findings: Findings) -> bool
                      f"{USER}:{USER} {folder}")
     elif found.st_mode & 0o077:
         findings.add(f"others than the user {USER} may come into {folder}, or change what is in it: chmod 700 {folder}")
+    elif found.st_mode & 0o700 != 0o700:
+        findings.add(f"the user {USER} may not write into {folder}, and shard {shard} can't start again: chmod 700 "
+                     f"{folder}")
     return owner == USER
 
 
@@ -91,6 +101,9 @@ def look_at_store(settings: Settings, shard: int, findings: Findings) -> None:
         elif found.st_mode & 0o077 and stat.S_ISREG(found.st_mode):
             findings.add(f"others than its owner can read {folder / name}: runuser -u {user} -- chmod 600 "
                          f"{folder / name}")
+        elif found.st_mode & 0o600 != 0o600 and stat.S_ISREG(found.st_mode):
+            findings.add(f"its owner may not write {folder / name}, and shard {shard} can't start again: runuser -u "
+                         f"{user} -- chmod 600 {folder / name}")
 
 
 def look_at_sockets(settings: Settings, findings: Findings) -> None:
@@ -124,6 +137,23 @@ def look_at_settings(_settings: Settings, findings: Findings) -> None:
     if not FILE.exists():
         findings.add(f"{FILE} isn't there, and what was set in it counts no more: put it back before you run anything "
                      f"else. What HAProxy was started with is in {applied.place(applied.PROXY)}")
+
+
+def look_at_supervision(settings: Settings, findings: Findings) -> None:
+    """Whether what ends is started again."""
+    by = supervisor.of(settings)
+    shards = [*map(by.SHARD.format, range(settings.shards))]
+    with findings.looking("what looks after services"):
+        for process in by.standing_still([*shards, "haproxy"]):
+            findings.add(f"what looks after services stands still (process {process}), and starts none again: kill "
+                         f"-CONT {process}")
+        for name in shards:
+            if is_stopped(process := by.supervised(name)):
+                findings.add(f"what holds {name} stands still (process {process}), and doesn't end it: kill -CONT "
+                             f"{process}")
+        for name in (*shards, "haproxy"):
+            if why := by.ends_for_good(name):
+                findings.add(f"{name} isn't started again once it ends: it {why}")
 
 
 def look_at_starts(settings: Settings, findings: Findings) -> None:
@@ -162,5 +192,6 @@ def look_at_services(settings: Settings, findings: Findings) -> None:
 
 def look(settings: Settings, findings: Findings) -> None:
     """All of it, but for the files of shards."""
-    for one in (look_at_settings, look_at_secrets, look_at_sockets, look_beyond, look_at_services, look_at_starts):
+    for one in (look_at_settings, look_at_secrets, look_at_sockets, look_beyond, look_at_services, look_at_supervision,
+                look_at_starts):
         one(settings, findings)

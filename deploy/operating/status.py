@@ -96,7 +96,10 @@ def age_of_backup(settings: Settings, shard: int, findings: Findings) -> float |
         if beyond:
             findings.add(f"shard {shard} has {len(beyond)} backups of moments to come (as {beyond[-1].name}): this "
                          "clock is behind, or was ahead. If it is right now, take these folders away")
-        folders = [path for path in folders if path not in beyond]
+        empty = [path for path in folders if not (path / trial.STORE).exists()]
+        if empty:
+            findings.add(f"{empty[-1]} has the name of a backup of shard {shard}, and no store: take it away")
+        folders = [path for path in folders if path not in beyond and path not in empty]
         old = max(0.0, time.time() - folders[-1].stat().st_mtime) if folders else None
         if old is None or old > OLD:
             findings.add(f"shard {shard} has no backup of the last two hours: pdpd-shards backup {shard} makes one, or "
@@ -125,9 +128,14 @@ def led_elsewhere(settings: Settings, shard: int, known: dict[str, str], lists: 
         where = talk.place(settings, known, name)
         if where not in (shard, "moving"):
             # (a shard that doesn't answer may have one of the same name)
-            is_alone = name not in lists.get(where, [] if where >= settings.shards else [name])
+            is_alone = isinstance(where, int) and name not in lists.get(
+                where, [] if where >= settings.shards else [name])
             astray.setdefault((where, is_alone), []).append(name)
     for (where, is_alone), found in astray.items():
+        if isinstance(where, str):
+            findings.add(f"shard {shard} has {front.first_of(found)}, which the map of all groups leads to {where}: "
+                         "pdpd-replicas carry was cut; give it again")
+            continue
         heals = f"; it hasn't that: pdpd-shards remap leads them to shard {shard}" if is_alone else \
             ": look which is right"
         findings.add(f"shard {shard} has {front.first_of(found)}, whose messages go to shard {where}{heals}")
@@ -287,7 +295,8 @@ def report(settings: Settings) -> Report:
         installed = digest_of(settings.program)
         standing.refuse_unrunnable(settings)
     with findings.looking("what HAProxy was started with"):
-        applied.of(settings, applied.PROXY)
+        if changed := applied.changed_of_logs(settings):
+            findings.add(f"{', '.join(changed)} of {FILE} isn't what was applied: pdpd-shards config --write, reload")
     shards = [shard_report(settings, shard, lists, installed, findings) for shard in range(settings.shards)]
     for shard in lists if known is not None else ():
         led_elsewhere(settings, shard, known, lists, findings)

@@ -9,7 +9,7 @@ import subprocess
 import time
 import zlib
 
-from . import applied, listener, supervisor
+from . import applied, grouped, listener, supervisor
 from .owned import owner_of
 from .settings import DOMAIN, FILE, Wrong, domains_in, text_of, words_of, write_whole
 
@@ -71,18 +71,25 @@ class Inner(http.client.HTTPConnection):
         self.sock.connect(self.path)
 
 
+def reply_over(connection, method, path, body, fields):
+    """The status and the body of a reply, all of which has the time that a connection has for each of its bytes."""
+    with contextlib.closing(connection):
+        connection.connect()
+        with listener.ended_after(connection.timeout, connection.sock):
+            connection.request(method, path, body, fields)
+            reply = connection.getresponse()
+            found = reply.read(MOST)
+    if reply.length:
+        raise http.client.IncompleteRead(found, reply.length)
+    return reply.status, found
+
+
 def shard_reply(settings, shard, method, path, token, *, in_turn=False, timeout=30.0, body=None):
     """The status and the body of a shard's reply; in turn behind all that waits, else before it."""
     fields = {"X-Shard": str(shard), "Authorization": f"Bearer {token}", "Content-Type": "application/json"}
     if in_turn:
         fields["X-Turn"] = "1"
-    connection = Inner(settings, timeout)
-    try:
-        connection.request(method, path, body, fields)
-        reply = connection.getresponse()
-        return reply.status, reply.read(MOST)
-    finally:
-        connection.close()
+    return reply_over(Inner(settings, timeout), method, path, body, fields)
 
 
 class Own(http.client.HTTPConnection):
@@ -98,10 +105,7 @@ class Own(http.client.HTTPConnection):
 
 def own_reply(settings, shard, method, path, token, timeout=30.0):
     """The status and the body of a shard's reply on such a connection."""
-    with contextlib.closing(Own(settings, shard, timeout)) as connection:
-        connection.request(method, path, None, {"Authorization": f"Bearer {token}"})
-        reply = connection.getresponse()
-        return reply.status, reply.read(MOST)
+    return reply_over(Own(settings, shard, timeout), method, path, None, {"Authorization": f"Bearer {token}"})
 
 
 def is_up(settings, shard, timeout=5.0):
@@ -210,7 +214,10 @@ def running(known):
 
 
 def place(settings, known, domain):
-    """The shard to which a domain's messages are led, where the map says that; `moving` for one that moves."""
+    """The shard to which a domain's messages are led, where the map says that; `moving` for one that moves, and
+    GROUP.SHARD for one of another group."""
+    if settings.groups and (found := grouped.place(settings, domain)) is not None:
+        return found
     value = known.get(domain)
     if value is None:
         return zlib.crc32(domain.encode()) % settings.shards

@@ -11,16 +11,14 @@ import pathlib
 import secrets
 import select
 import shutil
-import socket
 import stat
 import subprocess
-import threading
 import time
 from collections.abc import Iterator
 
-from .listener import connection_to, peer_of
+from .listener import connection_to, ended_after, peer_of
 from .owned import PATIENCE, Folder, User, as_user, copy_file, owner_of, run, surroundings
-from .settings import LOCKS, Wrong, domains_in, put_off_signals
+from .settings import LOCKS, Wrong, domains_in
 
 STORE = "pdpd.db"
 FILES = STORE, "pdpd.db-wal"
@@ -94,16 +92,9 @@ def domains_at(path: str, process: int, token: str) -> list[str]:
     fields = {"Authorization": f"Bearer {token}"}
     with contextlib.closing(connection):
         connection.request("GET", "/operator/domains", headers=fields)
-        # what takes its time byte by byte holds the lock `alone` no longer than this
-        timer = threading.Timer(PATIENCE, connection.sock.shutdown, [socket.SHUT_RDWR])
-        try:
-            # a thread takes no signal that the tool has put off (one that has come meanwhile ends the tool from here)
-            with put_off_signals():
-                timer.start()
+        with ended_after(PATIENCE, connection.sock):
             reply = connection.getresponse()
             body = reply.read(MOST)
-        finally:
-            timer.cancel()
     if reply.status != 200:
         raise Wrong(f"a program over the copy answers {reply.status}")
     return domains_in(body, "the program over the copy")

@@ -3,8 +3,8 @@ nothing."""
 import contextlib
 import re
 
-from . import applied, replicated, talk
-from .proxy import configuration, server
+from . import applied, grouped, replicated, talk
+from .proxy import configuration, mode, server
 from .settings import FILE, LIBRARY, Wrong, text_of, words_of, write_whole
 
 CONFIGURATION, RULES = "haproxy.cfg", "domains.lua"
@@ -24,7 +24,7 @@ def write_configuration(settings, *, is_growth=False):
         if place.exists() and talk.shards_in_configuration(settings) is None:
             place.rename(beside(settings, BEFORE))
         write_whole(rules, (LIBRARY / RULES).read_text())
-        write_whole(place, text)
+        write_whole(place, text, mode(settings))
 
 
 def leads_elsewhere(settings):
@@ -63,14 +63,16 @@ def tried(settings, text):
     """HAProxy takes that configuration, with the rules that are installed. What is written for the trial is gone behind
     it, and a map as well that is made for the first configuration, if that is refused."""
     files = {name: beside(settings, f"{name}.new") for name in (CONFIGURATION, RULES)}
-    maps = [settings.map, *([replicated.file(settings)] if settings.machines else [])]
+    grouped.make_files(settings)
+    maps = [settings.map, *([replicated.file(settings)] if settings.machines else []),
+            *([grouped.file(settings), grouped.moved(settings)] if settings.groups else [])]
     made = [path for path in maps if not path.exists()]
     for path in made:
         write_whole(path, "")
     try:
         write_whole(files[RULES], (LIBRARY / RULES).read_text())
         loads = f"lua-load {settings.haproxy_etc}/{RULES}"
-        write_whole(files[CONFIGURATION], text.replace(f"{loads}\n", f"{loads}.new\n"))
+        write_whole(files[CONFIGURATION], text.replace(f"{loads}\n", f"{loads}.new\n"), mode(settings))
         check(files[CONFIGURATION])
         yield
     except BaseException:

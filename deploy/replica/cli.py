@@ -15,6 +15,9 @@
   pdpd-replicas move DOMAIN FROM TO   makes in a shard what a domain has in another one, while no change is taken
   pdpd-replicas lead DOMAIN SHARD  has this machine lead a domain's messages to a shard that has it, as each has to
   pdpd-replicas unmake DOMAIN SHARD   removes a domain in a shard to which no machine leads its messages
+  pdpd-replicas fill               puts the domains of this group into the map of all groups
+  pdpd-replicas carry DOMAIN SHARD GROUP.SHARD   brings a domain to another group, or another shard of this one
+  pdpd-replicas follow             has HAProxy go by that map, for ever
   pdpd-replicas rows               compares what the stores have: on all machines at the same time, as each hour
   pdpd-replicas trim               drops from etcd all but the last entries, and has it go on if it was full
   pdpd-replicas push               gives etcd what it has lost, of this machine's archives; then no change is taken
@@ -39,11 +42,14 @@ from collections.abc import Iterator
 from log.domains import Forgotten
 from log.history import Unknown
 from log.record import Damaged
-from operating import supervisor
+from operating import applied, supervisor
 from operating.settings import DOMAIN, LOCKS, Settings, Wrong, alone, harmless, number_in_word, read, words_of
 
-from . import beginning, certificates, copying, members, moving, pushing, shared_log, skipping
+from . import beginning, certificates, copying, members, moving, pushing, regrouping, shared_log, skipping
 from .etcd import Down, Etcd, Open, Refused
+from .following import Follower
+from .groups import NoPlace
+from .leases import Leases
 from .options import etcd_of
 from .running import Running
 from .shared_log import SharedLog, shown_program
@@ -326,7 +332,14 @@ def domain_of(word: str) -> str:
     return word
 
 
+def refuse_groups(settings: Settings) -> None:
+    """An error where the map of all groups leads domains."""
+    if settings.groups:
+        raise Wrong("there are several groups of machines: pdpd-replicas carry brings a domain to another shard")
+
+
 def move(settings: Settings, words: list[str]) -> None:
+    refuse_groups(settings)
     domain, one, other = domain_of(words[0]), *(settings.shard_in(word) for word in words[1:])
     moving.move(settings, logs_of(settings), domain, one, other)
     say(f"{domain} is in shard {one} and in shard {other}: on each machine pdpd-replicas lead {domain} {other}, then "
@@ -334,6 +347,7 @@ def move(settings: Settings, words: list[str]) -> None:
 
 
 def lead(settings: Settings, words: list[str]) -> None:
+    refuse_groups(settings)
     moving.lead(settings, logs_of(settings), domain_of(words[0]), settings.shard_in(words[1]))
     say(f"messages to {words[0]} go to shard {words[1]} here")
 
@@ -343,11 +357,33 @@ def unmake(settings: Settings, words: list[str]) -> None:
     say(f"shard {words[1]} has no {words[0]} any more: pdpd-replicas thaw")
 
 
+def carry(settings: Settings, words: list[str]) -> None:
+    domain, shard = domain_of(words[0]), settings.shard_in(words[1])
+    behind = regrouping.carry(settings, logs_of(settings), domain, shard, words[2])
+    said = f"; {', '.join(behind)} decides nothing until it follows the map" if behind else ""
+    say(f"{domain} is at {words[2]}, and shard {shard} here has it no more{said}")
+
+
+def fill(settings: Settings, words: list[str]) -> int:
+    others = regrouping.fill(settings, logs_of(settings))
+    for place, count in sorted(others.items()):
+        say(f"{count} domains that are here as well are led to {place}")
+    say("the map has the domains of this group")
+    return 1 if others else 0
+
+
+def follow() -> None:
+    settings = applied.started()
+    proxy = Leases(pathlib.Path(settings.haproxy_run) / "leases.sock", f"{settings.haproxy_etc}/leases.map", 0)
+    Follower(regrouping.map_of_groups(settings).etcd, settings.places, proxy, settings.lease).run()
+
+
 # each word with how many may follow it
 COMMANDS = {"etcd": (etcd, 0, 1), "init": (init, 0, 0), "status": (status, 0, 1), "freeze": (freeze, 1, 100),
             "thaw": (thaw, 0, 0), "copy": (copy, 1, 1), "join": (join, 1, 1), "rows": (rows, 0, 0),
             "push": (push, 0, 0), "skip": (skip, 2, 2), "trim": (trim, 0, 0), "take": (take, 1, 1),
-            "drop": (drop, 1, 1), "move": (move, 3, 3), "lead": (lead, 2, 2), "unmake": (unmake, 2, 2)}
+            "drop": (drop, 1, 1), "move": (move, 3, 3), "lead": (lead, 2, 2), "unmake": (unmake, 2, 2),
+            "fill": (fill, 0, 0), "carry": (carry, 3, 3)}
 
 
 def main(words: list[str]) -> int:
@@ -355,6 +391,8 @@ def main(words: list[str]) -> int:
         if words[:1] == ["certificates"] and len(words) > 2:
             make_certificates(words[1:])
             return 0
+        if words == ["follow"]:
+            follow()
         command, least, most = COMMANDS.get(words[0], (None, 0, 0)) if words else (None, 0, 0)
         if command is None or not least <= len(words) - 1 <= most:
             print(__doc__, end="")
@@ -362,6 +400,6 @@ def main(words: list[str]) -> int:
         return command(read(), words[1:]) or 0
     except (Down, Open, Refused) as fault:
         print(harmless(f"pdpd-replicas: etcd doesn't answer: {fault}"), file=sys.stderr)
-    except (Wrong, shared_log.Wrong, Unknown, Damaged, Forgotten, OSError, ValueError, sqlite3.Error) as fault:
+    except (Wrong, shared_log.Wrong, NoPlace, Unknown, Damaged, Forgotten, OSError, ValueError, sqlite3.Error) as fault:
         print(harmless(f"pdpd-replicas: {words_of(fault)}"), file=sys.stderr)
     return 1

@@ -9,6 +9,7 @@ import os
 import pathlib
 import pwd
 import shutil
+import stat
 import tarfile
 import tempfile
 import threading
@@ -18,6 +19,7 @@ from typing import BinaryIO
 
 from log.archive import Archive
 from operating import holding, listener, replicas, supervisor, talk
+from operating.owned import Folder, copy_file
 from operating.settings import Settings, Wrong, alone
 
 from . import rows
@@ -84,7 +86,7 @@ def unchanged(folder: pathlib.Path) -> Iterator[list[pathlib.Path]]:
     """The files of a store, while nothing is applied to it; an error at the end where they were written to all the
     same, as by a pdpd that was started meanwhile."""
     def looks() -> dict[pathlib.Path, tuple]:
-        found = {path: path.stat() for path in (folder / name for name in STORE) if path.exists()}
+        found = {path: path.lstat() for path in (folder / name for name in STORE) if os.path.lexists(path)}
         return {path: (one.st_ino, one.st_size, one.st_mtime_ns) for path, one in found.items()}
     before = looks()
     yield list(before)
@@ -92,14 +94,34 @@ def unchanged(folder: pathlib.Path) -> Iterator[list[pathlib.Path]]:
         raise Wrong(f"the store in {folder} was written to meanwhile: copy it again")
 
 
+def add_file(made: tarfile.TarFile, folder: Folder, name: str, to: str) -> None:
+    """Adds a file to a copy. (The folder is another user's, who may have put anything there.)"""
+    with folder.reading(name) as file, open(file, "rb", closefd=False) as opened:
+        made.addfile(made.gettarinfo(arcname=f"{to}/{name}", fileobj=opened), opened)
+
+
+def add_folder(made: tarfile.TarFile, folder: Folder, to: str) -> None:
+    """Adds what a folder has, but for the lock of an archive."""
+    found = tarfile.TarInfo(to)
+    found.type, found.mode = tarfile.DIRTYPE, 0o700
+    made.addfile(found)
+    for name in sorted({*os.listdir(folder.fd)} - {"lock"}):
+        if stat.S_ISDIR(os.lstat(name, dir_fd=folder.fd).st_mode):
+            with Folder(name, folder) as within:
+                add_folder(made, within, f"{to}/{name}")
+        else:
+            add_file(made, folder, name, to)
+
+
 def write(settings: Settings, shard: int, out: BinaryIO) -> None:
     """Writes a copy of a shard."""
-    archive = pathlib.Path(settings.archives) / str(shard)
     with tarfile.open(fileobj=out, mode="w|", format=tarfile.PAX_FORMAT) as made:
         with held(settings, shard) as number, unchanged(settings.folder(shard)) as files:
-            for path in files:
-                made.add(path, f"store/{path.name}")
-            made.add(archive, "archive", filter=lambda one: None if one.name == "archive/lock" else one)
+            with Folder(settings.folder(shard)) as store:
+                for path in files:
+                    add_file(made, store, path.name, "store")
+            with Folder(pathlib.Path(settings.archives) / str(shard)) as archive:
+                add_folder(made, archive, "archive")
             lines = settings.map.read_bytes() if settings.map.exists() else b""
             found = tarfile.TarInfo(MAP)
             found.size = len(lines)
@@ -161,9 +183,10 @@ def compared(settings: Settings, shard: int, log: SharedLog) -> tuple[int, list[
     meeting = rows.Meeting(log, lambda: asked(settings, shard, "/figures")["position"])
     with tempfile.TemporaryDirectory(dir=settings.data, prefix="rows-") as made:
         def copy() -> None:
-            with unchanged(settings.folder(shard)) as files:
+            with unchanged(settings.folder(shard)) as files, Folder(settings.folder(shard)) as store, \
+                    Folder(made) as target:
                 for path in files:
-                    shutil.copyfile(path, pathlib.Path(made) / path.name)
+                    copy_file(store, target, path.name)
         return rows.compare(meeting, copy, pathlib.Path(made))
 
 

@@ -172,12 +172,13 @@ class Lease:
     has applied that entry."""
 
     def __init__(self, log: Log, clock: Clock, seconds: float, register: Callable[[], bool],
-                 at: Callable[[], tuple[int, str | None]], is_applied: Callable[[int, float], bool]):
+                 at: Callable[[], tuple[int, str | None]], is_applied: Callable[[int, float], bool],
+                 last_led: Callable[[], int] = lambda: 0):
         """`register` renews what the replica tells of itself, and says whether it does; `at` gives its position and the
         name of that entry; `is_applied` waits, for so long at the most, until an entry is applied, and tells whether it
-        is."""
+        is; `last_led` is the change of the map of all groups by which this machine leads domains."""
         self.log, self.clock, self.seconds, self.register, self.at = log, clock, seconds, register, at
-        self.is_applied, self.until = is_applied, float("-inf")
+        self.is_applied, self.last_led, self.until = is_applied, last_led, float("-inf")
 
     def renew(self) -> Look:
         """Renews the lease, if this replica has caught up; what the log shows. An error where it isn't the log of
@@ -190,7 +191,7 @@ class Lease:
                         f"({(name or '-')[:12]}) was applied here: etcd was put back. Nothing is answered until its log "
                         "has that entry again (pdpd-replicas push)")
         # (while nothing is appended another program may decide by what the right one has applied: an upgrade)
-        is_right = look.program == self.log.program or bool(look.frozen)
+        is_right = (look.program == self.log.program or bool(look.frozen)) and look.led <= self.last_led()
         if look.out:
             self.end()
         elif is_registered and is_right and self.is_applied(look.head.number, EVERY):

@@ -12,7 +12,7 @@ import time
 from collections.abc import Callable
 
 from log.abandoned import connections_at
-from log.archive import NoRoom
+from log.archive import NoRoom, read_from
 from log.daemon import APPLIED, EXIT_BROKEN, UNAVAILABLE, UNKNOWN, Daemon
 from log.domains import Forgotten
 from log.history import Change as Archived
@@ -25,6 +25,7 @@ from . import core
 from .batches import Batches
 from .clocks import steps
 from .etcd import Down, Open, Refused
+from .groups import Follows
 from .leases import Leases
 from .running import Running
 from .shared_log import OF_MESSAGE, SKIPPED, Entry, SharedLog, Wrong
@@ -52,8 +53,8 @@ def is_of_state(reply: bytes | None) -> bool:
 def name_in(folder: pathlib.Path) -> str:
     """The name of the log of which this archive is the beginning."""
     try:
-        found = (folder / BEGINS).read_text(encoding="ascii").strip()
-    except (OSError, ValueError):
+        found = read_from(folder / BEGINS, 0, 100).decode("ascii").strip()
+    except (OSError, ValueError, Damaged):
         found = ""
     if not re.fullmatch("[0-9a-f]{64}", found):
         raise Wrong("nothing was applied here, and nothing says that this store is what the log begins with: "
@@ -65,9 +66,10 @@ class Replica(Daemon):
     """One shard's changes on one of several machines."""
 
     def __init__(self, *given, log: SharedLog, leases: Leases, running: Running, lease: float, ack: str, goes_on: bool,
-                 tail: int, **more):
+                 tail: int, follows: Follows | None = None, **more):
         super().__init__(*given, **more)
         self.log, self.leases, self.goes_on, self.ack, self.tail = log, leases, goes_on, ack, tail
+        self.follows = follows
         self.running = running
         self.waiting = Batches()
         self.applied, self.wake = threading.Condition(), threading.Event()
@@ -79,7 +81,7 @@ class Replica(Daemon):
         self.applying = core.Applying(position, name, log.program, self.record, self.answer_to)
         self.telling = Telling(log, lease, self.told, self.say)
         self.appending = core.Appending(log, core.CLOCK, self.why_none, self.say)
-        self.lease = core.Lease(log, core.CLOCK, lease, self.telling.register, self.at, self.is_applied)
+        self.lease = core.Lease(log, core.CLOCK, lease, self.telling.register, self.at, self.is_applied, self.last_led)
         self.acknowledging = core.Acknowledging(log, core.CLOCK, lease, self.telling.wait)
 
     def name_of(self, record: Record | None) -> str | None:
@@ -99,6 +101,17 @@ class Replica(Daemon):
                 self.applying.name = name_in(self.archive.folder)
             return self.applying.position, self.applying.name
 
+    # ---- the map of all groups
+
+    def last_led(self) -> int:
+        """By which change of it this machine leads domains; 0 where there is one group."""
+        return self.follows.last() if self.follows else 0
+
+    def is_others(self, message: Message, domain: str) -> bool:
+        """Whether a message makes a domain that is in another group or shard, or whose place can't be asked for."""
+        makes = message.method == "PUT" and message.path().startswith("/operator/domains/")
+        return makes and self.follows is not None and not self.follows.is_taken(domain)
+
     # ---- a client's change
 
     def reply_to(self, message: Message) -> bytes:
@@ -111,6 +124,8 @@ class Replica(Daemon):
         refused = self.refusal(message, who)
         if refused is not None or who is None:
             return UNAVAILABLE if not may_answer and is_of_state(refused) else refused or UNAVAILABLE
+        if self.is_others(message, domain):
+            return UNAVAILABLE
         change = core.Change(*entry_of(message, domain, who), core.CLOCK.monotonic() + core.APPENDING)
         self.waiting.add(change)
         change.done.wait()
@@ -149,9 +164,15 @@ class Replica(Daemon):
             return f"the log is frozen ({look.frozen})"
         if look.out or look.program != self.log.program:
             return look.out or self.telling.other_program(look.program)
+        if look.led > self.last_led():
+            return self.unled(look)
         if lacking := [name for name, told in self.telling.others.items() if not told.get("room", True)]:
             return f"the disk of {', '.join(sorted(lacking))} has less room than ROOM"
         return "" if self.archive.room() >= self.room else f"the disk has less than {self.room} bytes left (ROOM)"
+
+    def unled(self, look: core.Look) -> str:
+        return (f"domains are led by change {self.last_led()} of the map of all groups here, and have to be by "
+                f"{look.led}: pdpd-map isn't there, or can't ask the first group's etcd")
 
     def append_for_ever(self) -> None:
         while True:
@@ -213,7 +234,7 @@ class Replica(Daemon):
     def is_settled(self) -> bool:
         """Whether no message is under way at pdpd whose sender has gone, as `settle` waits for. One that takes no
         connections any more may still answer what it has."""
-        return not connections_at(self.pdpd)
+        return not connections_at(self.pdpd, self.user)
 
     def refuse_program(self) -> None:
         self.running.refuse_other()
@@ -308,6 +329,7 @@ class Replica(Daemon):
         self.is_out = bool(look.out)
         is_right = look.program == self.log.program or look.frozen
         self.telling.wrong("log", look.out or ("" if is_right else self.telling.other_program(look.program)))
+        self.telling.wrong("map", self.unled(look) if look.led > self.last_led() else "")
         if not self.is_out:
             self.telling.is_silent = False
         if self.tell_proxy() and self.is_out and self.leases.are_over(self.lease.seconds):
@@ -333,7 +355,8 @@ class Replica(Daemon):
         with self.applied:
             return {"position": self.applying.position, "name": self.applying.name, "program": self.log.program,
                     "room": self.archive.room() >= self.room, "head": self.head, "at": round(time.time(), 3),
-                    "settings": settings, "stands": self.telling.stands, "has_lease": self.lease.is_valid()}
+                    "settings": settings, "stands": self.telling.stands, "has_lease": self.lease.is_valid(),
+                    "led": self.last_led()}
 
     def figures(self) -> bytes:
         head, _, body = super().figures().partition(b"\r\n\r\n")

@@ -147,7 +147,13 @@ class Etcd:
     # ---- readings: of what a majority holds
 
     def range(self, key: bytes, end: bytes | None = None, limit: int = 0) -> list[Pair]:
-        return pairs_in(self.call("/v3/kv/range", reading(key, end, limit)["request_range"]))
+        return self.range_at(0, key, end, limit)[1]
+
+    def range_at(self, revision: int, key: bytes, end: bytes | None = None, limit: int = 0) -> tuple[int, list[Pair]]:
+        """The same as it was at a revision; with 0 as it is now, and at which revision that is."""
+        what = {**reading(key, end, limit)["request_range"], "revision": str(revision)}
+        reply = self.call("/v3/kv/range", what)
+        return revision or int(reply["header"]["revision"]), pairs_in(reply)
 
     def get(self, key: bytes) -> bytes | None:
         found = self.range(key)
@@ -205,7 +211,14 @@ class Etcd:
 
     def events(self, key: bytes, end: bytes) -> Iterator[list[Pair]]:
         """The changes of keys, a value or None for each, until nothing has come for some seconds."""
-        what = json.dumps({"create_request": {"key": text_of(key), "range_end": text_of(end)}})
+        for _, pairs in self.events_since(0, key, end):
+            yield pairs
+
+    def events_since(self, revision: int, key: bytes, end: bytes) -> Iterator[tuple[int, list[Pair]]]:
+        """The same of all revisions from that one on (0: from now on), and up to which one. A Refused where etcd has
+        dropped that one."""
+        asked = {"key": text_of(key), "range_end": text_of(end), "start_revision": str(revision)}
+        what, known = json.dumps({"create_request": asked}), max(0, revision - 1)
         for member in self.order():
             connection = member.connection(SILENCE)
             with contextlib.suppress(OSError, http.client.HTTPException, ValueError), contextlib.closing(connection):
@@ -214,8 +227,13 @@ class Etcd:
                 while line := reply.readline(LONGEST):
                     result = json.loads(line).get("result")
                     if result is None or result.get("canceled"):
+                        if "compact_revision" in (result or {}):
+                            raise Refused(f"revision {revision} is gone")
                         return
-                    yield [pair_of(event) for event in result.get("events", ())]
+                    events = result.get("events", ())
+                    # (the reply's own revision may be beyond events that come later)
+                    known = max((int(event["kv"]["mod_revision"]) for event in events), default=known)
+                    yield known, [pair_of(event) for event in events]
                 return
 
 

@@ -35,10 +35,14 @@ class Leases:
     def said(self, command: str) -> str | None:
         """What HAProxy says to a command; None where it isn't there."""
         try:
-            with socket.socket(socket.AF_UNIX) as asked:
-                asked.settimeout(PATIENCE)
-                asked.connect(str(self.admin))
-                asked.sendall(f"{command}\n".encode())
-                return b"".join(iter(lambda: asked.recv(4_096), b"")).decode(errors="replace").strip()
+            return self.asked(command)
         except OSError:
             return None
+
+    def asked(self, command: str, seconds: float = PATIENCE) -> str:
+        """The same; an error where it isn't there, or says nothing for so long."""
+        with socket.socket(socket.AF_UNIX) as asked:
+            asked.settimeout(seconds)
+            asked.connect(str(self.admin))
+            asked.sendall(f"{command}\n".encode())
+            return b"".join(iter(lambda: asked.recv(65_536), b"")).decode(errors="replace").strip()

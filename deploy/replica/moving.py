@@ -46,9 +46,10 @@ class Frozen(SharedLog):
         if not self.etcd.transaction([self.is_open()], [putting(self.of_program, self.program.encode())])[0]:
             raise Wrong("the log was thawed meanwhile")
 
-    def add(self, messages: list[Message]) -> None:
-        """Appends entries, and waits until all machines that are there have applied them."""
+    def add(self, messages: list[Message]) -> list[int]:
+        """Appends entries, and waits until all machines that are there have applied them; their numbers."""
         appending, left = core.Appending(self, core.CLOCK, lambda look: "", lambda what: None), list(messages)
+        numbers: list[int] = []
         while left:
             batch, size = [], 0
             while left and len(batch) < core.MOST_CHANGES:
@@ -62,11 +63,13 @@ class Frozen(SharedLog):
             if lacking := [one for one in batch if not one.number]:
                 raise Wrong(f"{len(lacking) + len(left)} entries weren't appended, or nobody knows: pdpd-replicas "
                             "status")
+            numbers += [one.number for one in batch]
         end = time.monotonic() + APPLYING
         while (behind := self.behind()) and time.monotonic() < end:
             time.sleep(PAUSE)
         if behind:
             raise Wrong(f"{', '.join(behind)} hasn't applied what was appended: wait, and go on by the next command")
+        return numbers
 
 
 def operators(domain: str, method: str, what: str = "", body: bytes = b"") -> Message:

@@ -8,6 +8,7 @@ from log.archive import Archive
 
 from .daemon import Replica
 from .etcd import PATIENCE, Etcd, Member, context_in
+from .groups import NUMBER, Follows, Map, etcd_of_group, groups_in
 from .leases import Leases
 from .machines import Machines, is_here, machines_in, refuse_elsewhere
 from .running import Running
@@ -30,6 +31,9 @@ def add(parser: argparse.ArgumentParser) -> None:
     parser.add_argument("--log-tail", type=int, default=10_000, metavar="ENTRIES")
     parser.add_argument("--proxy", type=pathlib.Path, metavar="SOCKET")
     parser.add_argument("--leases", default="", metavar="MAP")
+    parser.add_argument("--groups", metavar="NAME=HOST,HOST..")
+    parser.add_argument("--group", metavar="NAME")
+    parser.add_argument("--led", type=pathlib.Path, metavar="FOLDER")
 
 
 def etcd_of(machines: Machines, name: str, certificates: pathlib.Path | None, seconds: float = PATIENCE) -> Etcd:
@@ -41,6 +45,17 @@ def etcd_of(machines: Machines, name: str, certificates: pathlib.Path | None, se
     context = context_in(certificates) if certificates else None
     order = sorted(machines, key=lambda one: one != name)
     return Etcd([Member(*machines[one], context) for one in order], seconds)
+
+
+def follows_of(given: argparse.Namespace) -> Follows | None:
+    """What the daemon has of the map of all groups; nothing where there is one group."""
+    if not given.groups:
+        return None
+    groups = groups_in(given.groups)
+    if given.group not in groups or not given.led:
+        raise ValueError("with --groups there are --group, which is one of them, and --led, too")
+    etcd = etcd_of_group(next(iter(groups.values())), given.certificates, PATIENCE)
+    return Follows(Map(etcd), given.group, given.shard, given.led / NUMBER)
 
 
 def replica_of(given: argparse.Namespace, archive: Archive, user: int | None) -> Replica:
@@ -55,4 +70,4 @@ def replica_of(given: argparse.Namespace, archive: Archive, user: int | None) ->
     return Replica(archive, given.pdpd, given.token, given.room, user=user, lease=given.lease, ack=given.ack,
                    log=SharedLog(etcd, given.shard, given.name, running.program), running=running,
                    leases=Leases(given.proxy, given.leases, given.shard),
-                   goes_on=given.without_quorum == "go-on", tail=given.log_tail)
+                   goes_on=given.without_quorum == "go-on", tail=given.log_tail, follows=follows_of(given))

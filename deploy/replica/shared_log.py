@@ -6,6 +6,7 @@
     /pdpd/SHARD/program         "SHA256/N[/MAP]": the program that applies them, how many shards all machines have, and
                                 what stands for the map of domains
     /pdpd/SHARD/frozen          is there while no change is taken: why
+    /pdpd/SHARD/led             by which change of the map of all groups domains are led to this shard, at the least
     /pdpd/SHARD/trimmed         entries up to this one are gone
     /pdpd/SHARD/replica/NAME    what a replica tells of itself, under a lease
     /pdpd/SHARD/out/NAME        why that replica answers nothing, until it is made anew
@@ -115,6 +116,7 @@ class Look:
     frozen: str
     program: str
     out: str
+    led: int = 0
 
 
 class SharedLog:
@@ -126,7 +128,7 @@ class SharedLog:
         self.head, self.frozen, self.of_program = at + b"/head", at + b"/frozen", at + b"/program"
         self.trimmed, self.log = at + b"/trimmed", at + b"/log/"
         self.replicas, self.outs, self.rows = at + b"/replica/", at + b"/out/", at + b"/rows/"
-        self.skips, self.pause, self.begun = at + b"/skip/", at + b"/pause", at + b"/begun"
+        self.skips, self.pause, self.begun, self.led = at + b"/skip/", at + b"/pause", at + b"/begun", at + b"/led"
 
     def key(self, number: int) -> bytes:
         return self.log + b"%016d" % number
@@ -138,10 +140,10 @@ class SharedLog:
 
     def look(self) -> Look:
         """The head, by the quorum, and what else counts for this replica."""
-        keys = (self.head, self.frozen, self.of_program, self.outs + self.name.encode())
+        keys = (self.head, self.led, self.frozen, self.of_program, self.outs + self.name.encode())
         _, found = self.etcd.transaction([], [reading(key) for key in keys])
-        head, *more = [pairs[0][1] if pairs else None for pairs in found]
-        return Look(head_in(head), *((value or b"").decode(errors="replace") for value in more))
+        head, led, *more = [pairs[0][1] if pairs else None for pairs in found]
+        return Look(head_in(head), *((value or b"").decode(errors="replace") for value in more), int(led or 0))
 
     def entry(self, number: int) -> Entry | None:
         found = self.etcd.get(self.key(number))

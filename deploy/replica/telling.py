@@ -38,7 +38,7 @@ def reply_of(shown: list) -> bytes:
 
 def news_in(told: dict) -> tuple:
     """What is told at once where it changes."""
-    return tuple(told[name] for name in ("position", "room", "wrong", "stands", "has_lease"))
+    return tuple(told.get(name) for name in ("position", "room", "wrong", "stands", "has_lease", "led"))
 
 
 class Telling:

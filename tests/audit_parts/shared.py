@@ -69,7 +69,7 @@ class Logged:
     def start_pdpd(self, **more):
         """(It ends, and is started again, while the port is another's.)"""
         self.pdpd = Served(self.program, str(self.folder / "store.db"), str(self.token_file),
-                           port=self.pdpd_port or None, **more)
+                           port=self.pdpd_port or None, command="listen", **more)
         self.pdpd_port = self.pdpd.port
 
     def start_daemon(self, **more):

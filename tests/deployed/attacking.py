@@ -5,6 +5,7 @@ import csv
 import io
 import pathlib
 import re
+import shutil
 import socket
 import threading
 
@@ -203,11 +204,16 @@ time_t time(time_t *at) {
 def proxy_clock(folder):
     """HAProxy runs with a clock of its own meanwhile; gives what sets by how many seconds it is ahead."""
     ahead, shim, script = folder / "ahead", folder / "shim.so", pathlib.Path("/etc/sv/haproxy/run")
+    # (the service leaves HAProxy nothing of its environment but where programs are)
+    shimmed = folder / "shimmed" / "haproxy"
+    shimmed.parent.mkdir()
+    shimmed.write_text(f"#!/bin/sh\nLD_PRELOAD={shim} exec {shutil.which('haproxy')} \"$@\"\n")
+    shimmed.chmod(0o755)
     (folder / "shim.c").write_text(SHIM)
     sh(f"cc -shared -fPIC -O1 -DAHEAD='\"{ahead}\"' -o {shim} {folder}/shim.c")
     installed = script.readlink()
     script.unlink()
-    script.write_text(f"#!/bin/sh\nexport LD_PRELOAD={shim}\nexec {installed}\n")
+    script.write_text(f"#!/bin/sh\nPATH={shimmed.parent}:$PATH exec {installed}\n")
     script.chmod(0o755)
     ahead.write_bytes(b"x" * 60)
     sh("sv restart haproxy")

@@ -184,9 +184,9 @@ def archives(machine, checks):
     wanted = "root pdpd-replica 751 directory", "root root 700 directory", "file\n"
     checks.expect("whose the folders are", found, wanted)
     sys.path.insert(0, str(LIBRARY))
-    from operating import settings, supervisor
+    from operating import closing, settings
     try:
-        said = supervisor.close_archives_folder(settings.read())
+        said = closing.close_archives_folder(settings.read())
     except settings.Wrong as fault:
         said = str(fault)
     checks.expect("what the tools say", refusal in str(said), True)

@@ -18,7 +18,7 @@ from .machine import PATIENCE, TOP, sh, wait_until
 
 SUITE, MIRROR = "bookworm", "http://deb.debian.org/debian"
 PACKAGES = ("systemd-sysv", "dbus", "udev", "kmod", "haproxy", "python3", "openssl", "curl", "iproute2", "procps",
-            "man-db")
+            "man-db", "etcd-server")
 # Which files these are: others have other names. Debian's own, packed, and with the packages that are booted.
 KEY = hashlib.sha256(" ".join((SUITE, *PACKAGES)).encode()).hexdigest()[:8]
 CACHE = pathlib.Path(os.environ.get("XDG_CACHE_HOME") or pathlib.Path.home() / ".cache") / "pdpd-deploy-test"
@@ -99,6 +99,7 @@ def add_packages(made):
     run_fetching("env", "DEBIAN_FRONTEND=noninteractive", "LC_ALL=C", "chroot", made, "apt-get", "install", "-y",
                  "--no-install-recommends", *PACKAGES)
     policy.unlink()
+    sh(f"systemctl --root={made} disable etcd")  # (a machine of several begins it)
     # (with it each package that is installed has an index of all manual pages be made anew)
     (made / "var" / "lib" / "man-db" / "auto-update").unlink(missing_ok=True)
     (made / "etc" / "machine-id").write_text("")

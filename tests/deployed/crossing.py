@@ -24,11 +24,15 @@ EFFECT = re.compile(rb'"Decision":"(\w+)"')
 # names of `replies.odd_requests`, `cut_and_odd` and `streams_of`. (None makes a connection idle for ten minutes.)
 WAYS = {
     "the reply to HEAD": ("HEAD", "HEAD of a decision"),
-    "a transfer coding, trailers": ("a chunked body", "two codings", "a chunk of no size", "trailers"),
-    "a coding beside a length": ("chunked and a length",),
+    "a transfer coding, trailers": (
+        "a chunked body", "two codings", "a chunk of no size", "trailers", "a coding in odd letters",
+        "a coding behind a control", "an extension of a chunk", "a chunk's size with zeros",
+        "a chunk's size beyond all", "HTTP/2, a coding"),
+    "a coding beside a length": ("chunked and a length", "no coding and a length"),
     "a body of HTTP/2 without a length": ("HTTP/2",),
     "several lengths, or no number": (
-        "two lengths", "a length of letters", "one length twice", "HTTP/2, another length"),
+        "two lengths", "a length of letters", "one length twice", "two lengths in a field", "a length beyond all",
+        "HTTP/2, another length"),
     "a length with zeros before it": ("a length with zeros",),
     "a length that `Connection` names": ("Connection names the length", "HTTP/2, Connection"),
     "a body that its method doesn't want": ("a reading with a body",),
@@ -39,7 +43,7 @@ WAYS = {
     "a head or a body that is too large": ("64 fields", "a field of 16,384 bytes", "a length too large"),
     "lines that end with LF, or are folded": ("lines that end with LF alone", "a folded field"),
     "lines within a field of HTTP/2": (
-        "HTTP/2, lines in a value", "HTTP/2, lines in a name", "HTTP/2, lines in a path"),
+        "HTTP/2, lines in a value", "HTTP/2, lines in a name", "HTTP/2, lines in a path", "HTTP/2, lines in a method"),
     "a tunnel": ("CONNECT", "half of a websocket's handshake", "h2c"),
     "`Expect`": ("Expect",),
     "a message that is cut": ("a cut head", "a cut body", "a cut chunk"),
@@ -130,6 +134,14 @@ def cut_and_odd(operator, name):
     return {
         "HEAD of a decision": b"HEAD /domains/%b/pip HTTP/1.1%b\r\n\r\n" % (name.encode(), token),
         "trailers": forms.post(forms.coding, chunks + b"Content-Length: 99\r\n\r\n"),
+        "a coding in odd letters": forms.post(b"\r\nTransfer-Encoding:\tChUnKeD", chunks + b"\r\n"),
+        "a coding behind a control": forms.post(b"\r\nTransfer-Encoding: \x0bchunked" + length, chunks + b"\r\n"),
+        "an extension of a chunk": forms.post(forms.coding, chunks.replace(b"\r\n", b';x="\r\n', 1) + b"\r\n"),
+        "a chunk's size with zeros": forms.post(forms.coding, b"0" * 30 + chunks + b"\r\n"),
+        "a chunk's size beyond all": forms.post(forms.coding, b"1" + b"0" * 16 + chunks + b"\r\n"),
+        "no coding and a length": forms.post(b"\r\nTransfer-Encoding: identity" + length),
+        "two lengths in a field": forms.post(length + b", %d" % len(forms.body)),
+        "a length beyond all": forms.post(b"\r\nContent-Length: %d" % (2 ** 64 + len(forms.body))),
         "one length twice": forms.post(length + length),
         "a length with zeros": forms.post(b"\r\nContent-Length: 000%d" % len(forms.body)),
         "Connection names the length": forms.post(length + b"\r\nConnection: content-length, authorization"),
@@ -142,18 +154,21 @@ def cut_and_odd(operator, name):
 
 
 def streams_of(ask):
-    """Odd messages over HTTP/2, by their names: their paths and their fields."""
+    """Odd messages over HTTP/2, by their names: their methods, their paths and their fields."""
     head, _, _ = ask.partition(b"\r\n\r\n")
     path = head.split(b" ")[1]
     fields = [(b"authorization", re.search(rb"Authorization: (.*?)\r\n", head + b"\r\n")[1]),
               (b"content-type", b"application/json")]
+    lines = b" HTTP/1.1\r\nContent-Length: 0\r\nX: "
     return {
-        "HTTP/2": (path, fields),
-        "HTTP/2, another length": (path, [*fields, (b"content-length", b"3")]),
-        "HTTP/2, Connection": (path, [*fields, (b"connection", b"content-length")]),
-        "HTTP/2, lines in a value": (path, [*fields, (b"x", b"a\r\nContent-Length: 0")]),
-        "HTTP/2, lines in a name": (path, [*fields, (b"x: a\r\ncontent-length", b"0")]),
-        "HTTP/2, lines in a path": (path + b" HTTP/1.1\r\nContent-Length: 0\r\nX: ", fields),
+        "HTTP/2": (b"POST", path, fields),
+        "HTTP/2, a coding": (b"POST", path, [*fields, (b"transfer-encoding", b"chunked")]),
+        "HTTP/2, another length": (b"POST", path, [*fields, (b"content-length", b"3")]),
+        "HTTP/2, Connection": (b"POST", path, [*fields, (b"connection", b"content-length")]),
+        "HTTP/2, lines in a value": (b"POST", path, [*fields, (b"x", b"a\r\nContent-Length: 0")]),
+        "HTTP/2, lines in a name": (b"POST", path, [*fields, (b"x: a\r\ncontent-length", b"0")]),
+        "HTTP/2, lines in a path": (b"POST", path + lines, fields),
+        "HTTP/2, lines in a method": (b"POST " + path + lines, path, fields),
     }
 
 
@@ -188,12 +203,12 @@ class Odd:
     def ends_streams(self):
         """Over HTTP/2: bodies without a length, whole and cut, and streams that are ended."""
         what = list(self.streams)[next(self.turns) % len(self.streams)]
-        path, fields = self.streams[what]
+        method, path, fields = self.streams[what]
         body = self.ask.partition(b"\r\n\r\n")[2]
         with Http2(PLAIN, source=outside(0)) as client:
             try:
                 for piece in (body, b"", body[:9], body):
-                    stream = client.headers(b"POST", path, fields, ends=False)
+                    stream = client.headers(method, path, fields, ends=False)
                     client.data(stream, piece, ends=self.random.random() < 0.7)
                 client.socket.settimeout(0.3)
                 client.more()

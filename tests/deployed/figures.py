@@ -1,5 +1,7 @@
 """By hand: how many decisions a second one machine of three gives, and all three, and how long a change takes. The
 machines are namespaces of one computer, and wrk has a share of it too."""
+import concurrent.futures
+import json
 import os
 import re
 import statistics
@@ -9,7 +11,7 @@ import time
 from . import chaos
 from .three import NAMES, address
 
-SECONDS, CONNECTIONS, CHANGES = 8, 8, 60
+SECONDS, CONNECTIONS, CHANGES, CLIENTS = 8, 8, 60, 16
 
 
 def asking(three):
@@ -43,8 +45,27 @@ def change(client):
     return sorted(found)
 
 
+def crowd(client):
+    """How many changes a second so many clients make together, at all machines, each in a domain of its own."""
+    names, rows = [f"crowd-{number}" for number in range(CLIENTS)], (chaos.WARD / "rows.json").read_text()
+    for name in names:
+        at = f"/operator/domains/{name}"
+        client.sent("a", "PUT", at, client.operator)
+        client.sent("a", "POST", f"{at}/tokens", client.operator, json.dumps({"Role": "admin", "Token": chaos.ADMIN}))
+    made, end = [0] * CLIENTS, time.monotonic() + SECONDS
+
+    def work(number):
+        while time.monotonic() < end:
+            at = f"/domains/{names[number]}/pip"
+            made[number] += client.sent(NAMES[number % 3], "PUT", at, chaos.ADMIN, rows)[0] == 200
+    with concurrent.futures.ThreadPoolExecutor(CLIENTS) as pool:
+        list(pool.map(work, range(CLIENTS)))
+    return sum(made) / SECONDS
+
+
 def figures(three, client, checks):
     times = change(client)
+    checks.say(f"{CLIENTS} clients: {crowd(client):.0f} changes a second, load {os.getloadavg()[0]:.1f}")
     checks.expect("changes", len(times), CHANGES)
     median, most = statistics.median(times), times[len(times) * 9 // 10]
     checks.say(f"a change: median {median:.0f} ms, 90%: {most:.0f} ms, one client")

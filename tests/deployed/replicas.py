@@ -4,7 +4,7 @@ import pathlib
 import time
 import traceback
 
-from . import chaos, figures, recovered, rejoined, resharded
+from . import chaos, figures, grouped, recovered, rejoined, resharded
 from .machine import wait_until
 from .three import NAMES, OPERATOR, Three, commands, prepare
 
@@ -57,7 +57,7 @@ def parts():
     go. By hand some alone."""
     all_parts = (looked_at, upgraded, recovered.other_program, lost_disk, recovered.rows_differ, recovered.skipped,
                  recovered.rotated, recovered.mistake_undone, resharded.moved, chaos.run, rejoined.lost_machine,
-                 rejoined.added, recovered.etcd_lost, recovered.one_to_three, resharded.grown)
+                 rejoined.added, recovered.etcd_lost, recovered.one_to_three, resharded.grown, grouped.two_groups)
     return [part for part in all_parts if not ONLY or part.__name__ in ONLY]
 
 

@@ -1,4 +1,5 @@
 """The units, run by systemd itself: the commands of docs/guide/OPERATING.md, kills, backups, changes and a reboot."""
+import os
 import pathlib
 import re
 import shutil
@@ -10,7 +11,10 @@ from .booting import booted
 from .clients import Makers, Operator, decision, once
 from .logged_units import logs, units
 from .machine import PAGE, PLAIN, commands_of_page, wait_until
+from .replica_units import replicas
 
+# by hand some parts alone, by their names
+ONLY = os.environ.get("SYSTEMD_ONLY", "").split()
 SHARDS = range(4)
 SERVICES = (*(f"pdpd@{shard}" for shard in SHARDS), "pdpd-watchdog", "haproxy")
 LIST = ('curl --silent --cacert /etc/haproxy/pdpd.crt -H "Authorization: Bearer $(cat /etc/pdpd/token)" '
@@ -63,8 +67,8 @@ def systemd(made, checks):
     with booted(made.folder / "systemd") as machine:
         walk(machine, checks, archive)
         operator = Operator(machine.sh("cat /etc/pdpd/token"))
-        for part in (confinement, kills, stuck, stops, tokens, backups, moves, logs, unfailed, restarts,
-                     removal):
+        parts = (confinement, kills, stuck, stops, tokens, backups, moves, logs, unfailed, restarts, replicas, removal)
+        for part in (part for part in parts if not ONLY or part.__name__ in ONLY):
             began = time.time()
             part(machine, checks, operator)
             checks.say(f"{part.__name__}, in {time.time() - began:.0f} s")

@@ -27,7 +27,11 @@ DOMAINS = "https://localhost/operator/domains"
 C_LIBRARY = {"linux-vdso.so.1", "libc.so.6", "ld-linux-x86-64.so.2"}
 WRONG = ("SHARDS=0", "SHARDS=65", "SHARDS=four", "MAXCONN=61", "FIRST_PORT=no", f"SOCKETS=/{'x' * 100}", "SOCKETS=run",
          "NO_SUCH=1", "a line", "SUPERVISOR=cron", "AUDIT=1\nREPLICAS=a=10.0.0.1", "SELF=a\nREPLICAS=a=10.0.0.1",
-         "AUDIT=1\nSELF=a\nREPLICAS=a", "ACK=some", "TLS_BIND=", "LOG_DECISIONS=2", "DECISION_REQUESTS=some")
+         "AUDIT=1\nSELF=a\nREPLICAS=a", "ACK=some", "TLS_BIND=", "LOG_DECISIONS=2", "DECISION_REQUESTS=some",
+         *(f"AUDIT=1\nSELF=a\nREPLICAS=a=10.0.0.1\n{lines}" for lines in (
+             "ALL_GROUPS=one=10.0.0.1", "GROUP=two\nALL_GROUPS=one=10.0.0.1", "GROUP=one\nALL_GROUPS=one=10.0.0.2",
+             "GROUP=one\nALL_GROUPS='one=10.0.0.1 two=10.0.0.1'", "GROUP=one\nALL_GROUPS=one", "GROUP_PORT=0")),
+         "GROUP=one\nALL_GROUPS=one=10.0.0.1")
 
 
 def walk(machine, checks):
@@ -116,7 +120,7 @@ def installed(machine, checks):
     packed_again(machine, checks)
     units = "./pdpd@0.service ./pdpd-place@0.service ./pdpd-watchdog.service ./pdpd-backup@0.service ./pdpd-backup@0.timer"
     units += " ./pdpd-replica@0.service ./pdpd-decisions.service ./pdpd-verify.service ./pdpd-verify.timer"
-    units += " ./pdpd-figures.service ./pdpd-rows.service ./pdpd-rows.timer"
+    units += " ./pdpd-figures.service ./pdpd-rows.service ./pdpd-rows.timer ./pdpd-map.service"
     said = sh(f"cd /etc/systemd/system && systemd-analyze verify {units} 2>&1 || true")
     checks.expect("the units", said, "")
     there = machine.folder / "elsewhere"

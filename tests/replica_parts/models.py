@@ -7,7 +7,7 @@ import subprocess
 from audit_parts.shared import TOP, expect, folder
 
 FOLDER = TOP / "tests" / "model" / "replicas"
-MODELS = ("append", "apply", "lease")
+MODELS = ("append", "apply", "lease", "carry")
 # steps of one way, MB of memory, and how the search is compiled: assertions over the full state space
 MOST_DEPTH, MOST_MEMORY = 1_000_000, 4_000
 COMPILED = ("gcc", "-O2", "-w", "-DSAFETY", f"-DMEMLIM={MOST_MEMORY}", "-o", "search", "pan.c")
@@ -62,7 +62,7 @@ def models():
             if found and word in mistakes:
                 wrong.append(word)
                 print(f"    {word}: {found[1]}", flush=True)
-    wanted = {"NO_COMPARISON", "SYNC_LATER", "FROM_END", "NO_WAIT", "LATE_MESSAGE"}
+    wanted = {"NO_COMPARISON", "SYNC_LATER", "FROM_END", "NO_WAIT", "LATE_MESSAGE", "NO_LED", "NO_FENCE", "OPEN_COPY"}
     expect("wrong models that weren't found out", wanted - set(wrong), set())
 
 
