@@ -76,6 +76,8 @@ ADVICE = {
     "NoRoute": "the address leads to no server of this kind",
     "Unavailable": "the server is short of memory, its storage failed, or a decision wants more than its limits: "
                    "send it again, later, or ask for less at once",
+    **dict.fromkeys(("NotJson", "MissingMember", "UnknownMember", "BadValue", "IllTyped", "UnknownAlgorithm"),
+                    "`policy check` of the author's desk says where, if it is a document or rows"),
 }
 
 # ---- values

@@ -164,6 +164,9 @@ def administration():
             expect(f"{words} isn't sent", raised(admin.message, *words)[0], "Unsendable")
         admin.activate(*named)
         expect("it is active", admin.policies(), [Listed(*named, True)])
+        fault, said = raised(admin.upload, '{"Policy": {}}')
+        expect(f"a document with a fault: {said}", (fault, "`policy check` of the author's desk says" in said),
+               ("Refused", True))
         expect("what is active isn't deleted", raised(admin.delete, *named)[0], "Refused")
         admin.set_root("policy", named[1], EarliestVersion="1.0")
         admin.set_rows([row("AccessSubject", "ann", "urn:example:röle/x", "yes"),

@@ -247,7 +247,7 @@ class Names:
         last = name.rpartition(".")[2]
         ends = [full for full in known if full.endswith("." + name)] \
             or [full for full in known if full.rpartition(".")[2] == last]
-        alike = [full for full in known if names.likeness(full.rpartition(".")[2], last) > 0.75]
+        alike = [full for full in known if names.likeness(full.rpartition(".")[2], last) >= 0.75]
         return names.nearest(name, ends) or next(iter(ends), "") or names.nearest(name, known) \
             or next(iter(alike), "")
 

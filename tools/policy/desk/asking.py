@@ -66,7 +66,8 @@ class Asking:
     def needs(self, label: str, node: Node, name: str) -> bool:
         """Whether the member is there; else the fault."""
         if node.at(name) is None:
-            self.fault(node, f'{label} needs the member "{name}", which is missing.', f"the member {name}",
+            other = names.other_file(node.last()) if name == "Request" else ""
+            self.fault(node, f'{label} needs the member "{name}", which is missing.{other}', f"the member {name}",
                        listed(list(node.last()), "and"))
         return node.at(name) is not None
 

@@ -89,7 +89,8 @@ class CaseReader:
                            expected=text.listed(table), nearest=nearest)
         for name in needed:
             if node.at(name) is None:
-                self.fault(node, f'The member "{name}" is missing.')
+                other = names.other_file(node.last()) if name == "Case" else ""
+                self.fault(node, f'The member "{name}" is missing.{other}')
         return all(node.at(name) is not None for name in needed)
 
     def text(self, node: Node | None, known: list[str] | None = None) -> str | None:
@@ -295,11 +296,10 @@ def print_suite(suite: Suite) -> None:
         print_outcome(one)
 
 
-def run(paths: list[str], program: Program | None, junit_path: str | None, wants_coverage: bool) -> int:
+def run(readers: list[CaseReader], program: Program | None, junit_path: str | None, wants_coverage: bool) -> int:
     """Runs files of cases; the exit status."""
     suites, has_faults, agree, reached = [], False, True, coverage.Coverage()
-    for path in paths:
-        reader = CaseReader(path)
+    for reader in readers:
         suite = reader.suite()
         if suite is None:
             has_faults = True

@@ -3,8 +3,10 @@ from __future__ import annotations
 
 import argparse
 import json
+import pathlib
 import sys
 from collections.abc import Callable
+from dataclasses import dataclass
 
 from . import (
     ask, asking, cases, deploy, deploy_words, diff, domain, exchange, explain, explained, files, laid_out, lints,
@@ -12,6 +14,8 @@ from . import (
 from .check import Checked, Disagreement, Rows
 from .faults import Remark, Remarks
 from .live import weighed
+from .model import versions
+from .positions import Node
 from .verdicts import (
     DISAGREE, FAULTS, FINE, USAGE, all_agree, check_pairs, chosen_program, print_remarks, print_summary)
 
@@ -19,29 +23,56 @@ from .verdicts import (
 # check
 
 
-def checked_together(options: argparse.Namespace) -> tuple[list[Checked], Rows | None]:
-    """The documents and the rows, with the remarks of all checks."""
-    documents, rows = files.documents(options.files), files.rows(options.rows)
-    together.Together(documents).check()
+def domain_at(options: argparse.Namespace, path: str) -> bool:
+    """Whether a domain's folder says what decides: its documents, its root and its rows."""
+    return options.root is None and options.rows is None and domain.is_domain(path)
+
+
+@dataclass
+class Given:
+    """What `check` is given: documents, rows, a root and where it stands; and what is remarked of a domain's file."""
+    documents: list[Checked]
+    rows: Rows | None
+    root: versions.Reference | None
+    root_node: Node | None
+    remarks: Remarks
+
+
+def given(options: argparse.Namespace) -> Given:
+    """What the words of the command give, or the file of a domain's folder."""
+    if len(options.files) == 1 and domain_at(options, options.files[0]):
+        held, remarks = domain.domain_of(options.files[0])
+        return (Given([], None, None, None, remarks) if held is None
+                else Given(held.documents, held.rows, held.root, held.root_node, remarks))
+    documents = files.documents(options.files)
+    is_rooted = options.root is not None and all(one.is_sound for one in documents)
+    root = setting.root_of(options.root, documents) if is_rooted else None
+    return Given(documents, files.rows(options.rows), root, None, Remarks())
+
+
+def checked_together(options: argparse.Namespace) -> Given:
+    """What is given, with the remarks of all checks."""
+    held = given(options)
+    together.Together(held.documents).check()
     off = set(options.off)
     unknown = off - set(lints.NAMES) - set(together.NAMES)
     if unknown:
         raise setting.Usage(f"no lint is called {text.listed(sorted(unknown))}; `policy lints` lists them")
-    lints.Lints(documents, rows, off).run()
-    if rows is not None:
-        weighed(rows)
-    if options.root is not None and all(one.is_sound for one in documents):
-        setting.check_root(setting.Setting(documents, setting.root_of(options.root, documents), None),
-                           documents[0].remarks)
-    return documents, rows
+    lints.Lints(held.documents, held.rows, off).run()
+    if held.rows is not None:
+        weighed(held.rows)
+    if held.root is not None and all(one.is_sound for one in held.documents):
+        setting.check_root(setting.Setting(held.documents, held.root, None), held.remarks, held.root_node)
+    return held
 
 
 def check(options: argparse.Namespace) -> int:
     """Answers `check`."""
-    documents, rows = checked_together(options)
+    held = checked_together(options)
+    documents, rows = held.documents, held.rows
     found = chosen_program(options)
     pairs = check_pairs(documents, rows, found)
-    every = [remark for one in documents for remark in one.remarks.found] + (rows.remarks.found if rows else [])
+    every = [remark for one in [held, *documents, *([rows] if rows else [])] for remark in one.remarks.found]
     if options.json:
         print(json.dumps([remark.as_json() for remark in every], indent=2))
     else:
@@ -54,11 +85,6 @@ def check(options: argparse.Namespace) -> int:
 
 
 # ask and explain
-
-
-def domain_at(options: argparse.Namespace, path: str) -> bool:
-    """Whether a domain's folder says what decides: its documents, its root and its rows."""
-    return options.root is None and options.rows is None and domain.is_domain(path)
 
 
 def setting_of(options: argparse.Namespace, paths: list[str]) -> setting.Setting | None:
@@ -177,7 +203,8 @@ def add_question(parser: argparse.ArgumentParser) -> None:
 def add_check(parser: argparse.ArgumentParser) -> None:
     """The options of `check`."""
     parser.add_argument("files", nargs="+", metavar="FILE",
-                        help="policy documents, which are active together; a folder stands for its documents")
+                        help="policy documents, which are active together; a folder stands for its documents, or, "
+                             "alone and with a domain.json, for what that names")
     parser.add_argument("--rows", metavar="ROWS", help='source rows, {"Row":[..]}, checked too')
     parser.add_argument("--root", metavar="ID", help="the id of the document where decisions begin")
     parser.add_argument("--off", action="append", default=[], metavar="LINT",
@@ -188,7 +215,7 @@ def add_check(parser: argparse.ArgumentParser) -> None:
 
 def add_test(parser: argparse.ArgumentParser) -> None:
     """The options of `test`."""
-    parser.add_argument("files", nargs="+", metavar="FILE", help="files of cases")
+    parser.add_argument("files", nargs="+", metavar="FILE", help="files of cases, and folders of domains")
     parser.add_argument("--junit", metavar="OUT", help="writes the results as JUnit XML too")
     parser.add_argument("--coverage", action="store_true",
                         help="lists rules, targets and conditions that no case reached both ways")
@@ -258,9 +285,23 @@ def lints_run(_: argparse.Namespace) -> int:
     return FINE
 
 
+def readers_at(path: str) -> list[cases.CaseReader] | None:
+    """What reads a file of cases, or those of a domain's folder; None where the domain has faults, which are said."""
+    is_folder = domain.is_domain(path)
+    if not is_folder and not domain.is_about_a_domain(path):
+        return [cases.CaseReader(path)]
+    held = deploy.read_domain(path if is_folder else str(pathlib.Path(path).parent), is_deployed=False)
+    if held is not None and is_folder and not held.cases:
+        raise setting.Usage(f"{path} is a domain without cases: {domain.FILE} names none")
+    return held and [domain.DomainCases(each, held) for each in (held.cases if is_folder else [path])]
+
+
 def cases_run(options: argparse.Namespace) -> int:
     """Answers `test`."""
-    return cases.run(options.files, chosen_program(options), options.junit, options.coverage)
+    found = [readers_at(path) for path in options.files]
+    if None in found:
+        return FAULTS
+    return cases.run(sum(found, []), chosen_program(options), options.junit, options.coverage)
 
 
 def diff_run(options: argparse.Namespace) -> int:

@@ -8,7 +8,7 @@ domain.json is a JSON object:
                none); may be left out where there is one document
     Documents  an array of files and folders; the folder's own documents where it is left out
     Rows       a file of source rows; where it is left out, the rows of the server stay as they are
-    Cases      an array of files of cases; one without a Policy is about the domain as it is here
+    Cases      an array of files of cases; one in this folder without a Policy is about the domain as it is here
     Keep       how many deployments are kept on the server, 2 to 400: 20 where it is left out
 """
 from __future__ import annotations
@@ -24,7 +24,7 @@ from .faults import Remark, Remarks
 from .live import RECORD_ID, Key, key_of
 from .model import documents as documents_of_model
 from .model import route_bodies, versions
-from .positions import Node
+from .positions import Node, Source
 
 FILE = "domain.json"
 MEMBERS = ["Server", "Domain", "Root", "Documents", "Rows", "Cases", "Keep"]
@@ -169,6 +169,14 @@ class DomainCases(cases.CaseReader):
         found = [self.case(item, number) for number, item in enumerate(self.items(node.at("Case")), 1)]
         return None if self.remarks.faults() else cases.Suite(self.path, self.of_domain.setting(),
                                                               [case for case in found if case is not None])
+
+
+def is_about_a_domain(path: str) -> bool:
+    """Whether the file has cases, names no documents, and stands in the folder of a domain."""
+    if not is_domain(str(pathlib.Path(path).parent)):
+        return False
+    node = json_of(Source(path, files.held(path)), Remarks())
+    return node is not None and node.kind == "object" and node.at("Case") is not None and node.at("Policy") is None
 
 
 def requests_of(domain: Domain) -> list[tuple[bytes, int]]:

@@ -16,9 +16,11 @@ from .text import listed
 MOST_NAMED = 20
 KINDS = {"object": "an object", "array": "an array", "string": "a text", "number": "a number",
          "boolean": "true or false", "null": "null"}
+# how a policy document as a whole is called, and a body of rows
+WHOLE, ROWS = "A document", "The body"
 WHERE = {"Policy": "A policy", "PolicySet": "A policy set", "Reference": "A reference", "AnyOf": "An item of AnyOf",
          "AllOf": "An item of AllOf",
-         "Source": "The body", "SourceRow": "A row"}
+         "Source": ROWS, "SourceRow": "A row"}
 
 
 def name_node(member: Member) -> Node:
@@ -82,7 +84,7 @@ class Members:
     def unknown_member(self, label: str, name: str, member: Member, known: list[str], found: dict[str, Node]) -> None:
         """Remarks a member that the table hasn't; it stands for the one that was meant, where that one isn't there."""
         meant = names.nearest(name, known)
-        ask = f' Did you mean "{meant}"?' if meant else ""
+        ask = f' Did you mean "{meant}"?' if meant else names.other_file([name]) if label == ROWS else ""
         if meant and meant in found:
             ask = f' "{meant}" is there already.'
         elif meant:
@@ -117,7 +119,8 @@ class Members:
                 near = names.nearest(name, known)
                 self.unknown_form(member,
                                   f'{label} has no member "{name}".'
-                                  + (f' Did you mean "{near}"?' if near and not there else ""),
+                                  + (f' Did you mean "{near}"?' if near and not there else
+                                     names.other_file([name]) if label == WHOLE else ""),
                                   known, near)
                 meant = meant or (near, member.node) if near else meant
             elif name in there[1:]:

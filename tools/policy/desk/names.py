@@ -3,11 +3,14 @@ from __future__ import annotations
 
 import difflib
 import itertools
+import re
 from collections.abc import Iterable
 
 from .model import documents, functions, identifiers, values
 
 LEAST_LIKENESS = 0.6
+# how like one another two attributes' ids are of which one may be a slip
+MOST_ALIKE = 0.9
 # with how many names one is compared, and how long it may be: a file of very many names is read in time all the same
 MOST_KNOWN, MOST_LETTERS = 400, 200
 STANDARD = "urn:oasis:names:tc:xacml:1.0:"
@@ -22,7 +25,19 @@ LEFT_OUT = {
     "anyURI-substring": "anyURI-substring is left out",
     "access-permitted": "access-permitted is left out",
 }
+# what a file of an author's is by its members, and which word takes it
+FILES = {
+    "Case": "These are cases: `policy test FILE`.", "Server": "This makes its folder a domain: name the folder.",
+    "Row": "These are rows: `--rows FILE`.", "Request": "This is a request: `--request FILE`.",
+    "Policy": "This is a document: `policy check FILE`.", "PolicySet": "This is a document: `policy check FILE`.",
+}
 LEFT_OUT_TYPES = ("double", "x500Name", "rfc822Name", "ipAddress", "dnsName", "xpathExpression")
+
+
+def other_file(members: Iterable[str]) -> str:
+    """What a file with these members is, in a sentence with a blank before it; the empty text where that isn't
+    known."""
+    return next((f" {sentence}" for name, sentence in FILES.items() if name in members), "")
 
 
 def function_names() -> list[str]:
@@ -42,6 +57,13 @@ def short(name: str) -> str:
 def likeness(name: str, other: str) -> float:
     """How like one another two names are, from 0 to 1."""
     return difflib.SequenceMatcher(None, name.lower(), other.lower()).ratio()
+
+
+def may_be_meant(held: str, wanted: str) -> bool:
+    """Whether an attribute's id may stand where another is wanted: it ends as that one does, as `subject-id` or one of
+    another namespace, or is very like it."""
+    last, of_wanted = (re.split("[:/#]", name)[-1] for name in (held, wanted))
+    return bool(last) and last == of_wanted or likeness(held, wanted) >= MOST_ALIKE
 
 
 def nearest(name: str, known: Iterable[str]) -> str:

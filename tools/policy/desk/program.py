@@ -98,12 +98,17 @@ def tried() -> Program:
     return Program([str(path)], "" if is_proved else warning)
 
 
+def is_none(named: str) -> bool:
+    """Whether no program is wanted, by that name or by DESK_PROGRAM in the environment."""
+    return (named or os.environ.get("DESK_PROGRAM", "")) == "none"
+
+
 def found(named: str = "") -> Program | None:
     """The program: the one that is named, here or by DESK_PROGRAM in the environment, the proved one, or None. `try`
     is the one that is there soonest, proved or not."""
-    named = named or os.environ.get("DESK_PROGRAM", "")
-    if named == "none":
+    if is_none(named):
         return None
+    named = named or os.environ.get("DESK_PROGRAM", "")
     if named == "try":
         return tried()
     if named:

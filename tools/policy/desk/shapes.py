@@ -10,6 +10,7 @@ from collections.abc import Callable
 
 from .elements import (
     AllOf, AnyOf, Assignment, Designator, Document, Duty, Expression, Match, Reference, Rule, Target, Variable)
+from .members import WHOLE
 from .model import documents, versions
 from .positions import Node
 from .scalars import Scalars
@@ -194,7 +195,7 @@ class Shapes(Scalars):
 
     def document(self, node: Node) -> Document | None:
         """The document of a whole text."""
-        named = self.one_of("document", node, "A document")
+        named = self.one_of("document", node, WHOLE)
         if named is None:
             return None
         name, inner = named

@@ -123,6 +123,11 @@ def labelled(label: str, text: str) -> str:
     return wrapped(text, f"    {label:9} ", " " * 14)
 
 
+def of_server(code: str) -> str:
+    """The code of an error that the server answers, which says less than the desk's."""
+    return code.partition("(")[0]
+
+
 def remark_shown(remark: Remark) -> str:
     """A remark: where, what it is, and what helps."""
     place = f"{remark.source.path}:{remark.place.line}:{remark.place.column}"
@@ -138,7 +143,7 @@ def remark_shown(remark: Remark) -> str:
         elif text:
             lines.append(labelled(label, text))
     if remark.is_first:
-        lines.append(labelled("server", f"answers this fault: {remark.code}"))
+        lines.append(labelled("server", f"answers this fault: {of_server(remark.code)}"))
     return "\n".join(lines)
 
 

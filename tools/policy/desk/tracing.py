@@ -17,8 +17,6 @@ FAULTS = {
     "NotOne": "the bag has not exactly one value",
 }
 MOST_VALUES, MOST_NEAR = 8, 4
-# how like one another two ids are of which one may be a slip
-MOST_ALIKE = 0.9
 
 
 def value_shown(value: tuple) -> str:
@@ -85,29 +83,35 @@ class Origins(contexts.Context):
             for attribute in held.attributes:
                 same = (held.category == category, attribute.id == attribute_id, attribute.data_type == data_type,
                         issuer in (None, attribute.issuer))
-                if (sum(same) == 3 and attribute.values
-                    and (same[1] or names.likeness(attribute.id, attribute_id) >= MOST_ALIKE)):
-                    found.append(self.said("the request has it", same, held.category, attribute.id, attribute.data_type,
-                                           attribute.issuer))
+                if sum(same) == 3 and attribute.values and names.may_be_meant(attribute.id, attribute_id):
+                    of_it = attribute.id, attribute.data_type, attribute.issuer
+                    found.append(said("the request has it", same, held.category, of_it, attribute_id))
         entity = self.entity(category)
         for row in self.source:
             same = (row.category == category, row.attribute_id == attribute_id, row.value[0] == data_type,
                     issuer in (None, row.issuer))
             if all(same):
                 found.append(f'a row has it for the entity "{row.entity}", and the request names '
-                             + (f'"{entity}"' if entity else "none"))
-            elif (sum(same) == 3 and row.entity == entity
-                  and (same[1] or names.likeness(row.attribute_id, attribute_id) >= MOST_ALIKE)):
-                found.append(self.said("a row has it", same, row.category, row.attribute_id, row.value[0], row.issuer))
+                             + (f'"{entity}"' if entity else f"none{self.short_entity(category)}"))
+            elif sum(same) == 3 and row.entity == entity and names.may_be_meant(row.attribute_id, attribute_id):
+                of_it = row.attribute_id, row.value[0], row.issuer
+                found.append(said("a row has it", same, row.category, of_it, attribute_id))
         return list(dict.fromkeys(found))
 
-    def said(self, who: str, same: tuple[bool, ...], category: str, attribute_id: str, data_type: str,
-             issuer: str | None) -> str:
-        """How an attribute differs from the one that is wanted, in words."""
-        other = [f"in the category {names.category_shown(category)}", f"as {names.attribute_shown(attribute_id)}",
-                 f"as {names.kind_shown(data_type)}",
-                 f"by {issuer}" if issuer is not None else "without an issuer"]
-        return f"{who} {other[same.index(False)]}"
+    def short_entity(self, category: str) -> str:
+        """What the request has in place of the id of the category's entity; nothing, where it has none such."""
+        wanted = contexts.entity_id(category)
+        return next((f": it has {attribute.id} in place of {wanted}" for held in self.objects
+                     if wanted is not None and held.category == category for attribute in held.attributes
+                     if attribute.id != wanted and names.may_be_meant(attribute.id, wanted)), "")
+
+
+def said(who: str, same: tuple[bool, ...], category: str, of_it: tuple[str, str, str | None], wanted: str) -> str:
+    """How an attribute, which is given by its id, data type and issuer, differs from the one of the wanted id."""
+    held, data_type, issuer = of_it
+    other = [f"in the category {names.category_shown(category)}", f"as {held} in place of {wanted}",
+             f"as {names.kind_shown(data_type)}", f"by {issuer}" if issuer is not None else "without an issuer"]
+    return f"{who} {other[same.index(False)]}"
 
 
 class Tracing(expressions.Evaluation):

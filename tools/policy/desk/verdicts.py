@@ -17,10 +17,11 @@ from .model import rows as model_rows
 # remarks that are printed of a file
 MOST_PRINTED = 200
 FINE, FAULTS, USAGE, DISAGREE = 0, 1, 2, 3
-ONLY_MODEL = "There is no proved program: only the model in Python spoke. "
-WAY_TO_BOTH = ("`--program PATH` names a program that answers too." if program.IS_PACKED else
-               "`--program try` asks one that is compiled without proof, in minutes at first; `tools/policy/policy.py "
-               "build` proves and builds it, within an hour.")
+ONLY_MODEL = "only the model in Python spoke"
+NOT_BUILT = "xa_trials, the desk's proved program, isn't built: "
+WAY_TO_BOTH = (". `--program PATH` names a program that answers too." if program.IS_PACKED else
+               ". `--program try` compiles it without proof, in minutes; `tools/policy/policy.py build` proves it, "
+               "within an hour.")
 
 
 def chosen_program(options: argparse.Namespace) -> program.Program | None:
@@ -30,7 +31,7 @@ def chosen_program(options: argparse.Namespace) -> program.Program | None:
             program.built()
     found = program.found(options.program)
     if found is None:
-        text.warn(ONLY_MODEL + WAY_TO_BOTH)
+        text.warn(f"{ONLY_MODEL}." if program.is_none(options.program) else NOT_BUILT + ONLY_MODEL + WAY_TO_BOTH)
     elif found.warning:
         text.warn(found.warning)
     return found
@@ -78,7 +79,8 @@ def print_summary(documents: list[Checked], rows: Rows | None, every: list[Remar
     for one in documents:
         named = (f"{setting.KIND_NAMES[one.document.kind]} {one.document.name} {one.document.version or '?'}"
                  if one.document else "no document")
-        verdict = text.painted("taken", "green") if one.is_sound else text.painted(f"refused, {one.code}", "red")
+        verdict = (text.painted("taken", "green") if one.is_sound
+                   else text.painted(f"refused, {text.of_server(one.code)}", "red"))
         print(text.wrapped(f"{one.source.path}: {named}", "", "    ") + f": {verdict}")
     if rows is not None:
         left = "" if rows.code else f"; {bytes_left(row_lines(rows)):,} bytes of a body are left"

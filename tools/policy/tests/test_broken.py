@@ -7,11 +7,13 @@ import unittest
 from collections.abc import Callable
 from unittest import mock
 
-from . import test_commands, test_lints, test_positions, test_random_decisions, test_random_documents, test_slips
+from . import (
+    test_commands, test_folders, test_lints, test_positions, test_random_decisions, test_random_documents, test_slips)
 from .desk_tests import PROGRAM, check, faults, lints, positions, together
 
 from desk import (  # noqa: E402
-    ask, asking, cases, contradictions, coverage, explain, kinds, laid_out, made, names, setting, shapes, tracing)
+    ask, asking, cases, contradictions, coverage, domain, explain, kinds, laid_out, made, names, setting, shapes,
+    text, tracing)
 from desk.model import policies  # noqa: E402
 
 HALF, SEEDS = 60, range(3, 9)
@@ -104,6 +106,14 @@ BREAKS: list[tuple[object, str, object, Callable[[], bool]]] = [
     (laid_out, "shown", lambda results: "", fails(test_commands.Commands, "test_ask")),
     (ask.Answer, "agrees", True, fails(test_commands.Commands, "test_a_program_that_says_otherwise")),
     (tracing.Origins, "near", lambda self, designator: [], fails(test_commands.Commands, "test_what_is_nearly_found")),
+    (tracing.Origins, "short_entity", lambda self, category: "",
+     fails(test_commands.Commands, "test_what_is_nearly_found")),
+    (names, "may_be_meant", lambda held, wanted: held == wanted,
+     fails(test_commands.Commands, "test_what_is_nearly_found")),
+    (domain, "is_domain", lambda folder: False, fails(test_folders.Folders, "test_check_of_a_domain")),
+    (domain, "is_about_a_domain", lambda path: False, fails(test_folders.Folders, "test_cases_of_a_domain")),
+    (names, "other_file", lambda members: "", fails(test_folders.Files, "test_a_file_of_another_kind")),
+    (text, "of_server", lambda code: code, fails(test_folders.Files, "test_the_code_that_the_server_answers")),
     (cases, "differences", lambda expected, given: [], fails(test_commands.Cases, "test_cases_that_fail")),
     (coverage.Coverage, "add", nothing, fails(test_commands.Cases, "test_coverage")),
     (made.Maker, "request", lambda self: (b'{"Request":{}}', 0),

@@ -19,6 +19,7 @@ all_agree = cli.all_agree
 
 FILES = {"p.json": POLICY, "r.json": REQUEST, "rows.json": ROWS}
 ASK = ("--policy", "@p.json", "--request", "@r.json", "--at", "2026-11-23T10:00:00Z")
+SUBJECT_ID = "urn:oasis:names:tc:xacml:1.0:subject:subject-id"
 LIAR = "#!/bin/sh\nwhile read -r line; do printf '%%s\\n' '%s'; done\n"
 CASES = {"Policy": "p.json", "Case": [
     {"Name": "staff by day", "Request": json.loads(REQUEST), "At": "2026-11-23T10:00:00Z", "Decision": "Permit",
@@ -49,7 +50,13 @@ class Commands(DeskTest):
         self.assertEqual((status, written),
                          (0, "p.json: policy urn:test:shop 1.0: taken\n"
                              "0 faults, 0 warnings, 0 notes; by the model in Python alone.\n"))
-        self.assertIn("only the model in Python spoke", " ".join(said.split()))
+        self.assertIn("only the model in Python spoke.", " ".join(said.split()))
+        self.assertNotIn("built", said)
+        with mock.patch.object(program, "PLACES", ()), mock.patch.dict(os.environ, {"DESK_PROGRAM": ""}):
+            status, _, said = run("check", "@p.json", files=FILES, program="")
+        self.assertEqual(status, 0)
+        self.assertIn("xa_trials, the desk's proved program, isn't built: only the model in Python spoke. `--program ",
+                      " ".join(said.split()))
         status, written, _ = run("check", "@p.json", "--json",
                                  files={"p.json": edited(POLICY, ('"Permit"', '"Permitt"'))})
         self.assertEqual(status, 1)
@@ -195,15 +202,26 @@ class Commands(DeskTest):
                                  '"Resource": {"Attribute": {"AttributeId": "urn:test:role", "Value": "staff"}}, '
                                  '"AccessSubject": {"Attribute": [',
                                  "nearly: the request has it in the category Resource"),
-                                ("urn:test:role", "urn:test:rol", "nearly: the request has it as urn:test:rol")):
+                                ("urn:test:role", "urn:test:rol",
+                                 "nearly: the request has it as urn:test:rol in place of urn:test:role"),
+                                ("urn:test:role", "role",
+                                 "nearly: the request has it as role in place of urn:test:role"),
+                                ("urn:test:role", "https://example.org/role",
+                                 "nearly: the request has it as https://example.org/role in place of urn:test:role")):
             with self.subTest(words):
                 self.assertIn(words, " ".join(ask(edited(REQUEST, (old, new)), word="explain")[1].split()))
+        self.assertNotIn("nearly", ask(edited(REQUEST, ("urn:test:role", "urn:test:none")), word="explain")[1])
         held = edited(REQUEST,
                       ('{"AttributeId": "urn:test:role", "Value": "staff"}',
                        '{"AttributeId": "urn:oasis:names:tc:xacml:1.0:subject:subject-id", "Value": "bob"}'))
         written = ask(held, "0", "--rows", "@rows.json", word="explain")[1]
         self.assertIn('nearly: a row has it for the entity "alice", and the request names "bob"',
                       " ".join(written.split()))
+        written = ask(edited(held, (SUBJECT_ID, "subject-id")), "0", "--rows", "@rows.json", word="explain")[1]
+        self.assertIn('nearly: a row has it for the entity "alice", and the request names none: it has subject-id in '
+                      f"place of {SUBJECT_ID}", " ".join(written.split()))
+        written = ask(edited(held, (SUBJECT_ID, "urn:test:else")), "0", "--rows", "@rows.json", word="explain")[1]
+        self.assertIn("and the request names none NotApplicable: rule thieves", " ".join(written.split()))
 
     def test_rows_of_an_issuer(self) -> None:
         held = edited(REQUEST,
