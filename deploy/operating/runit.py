@@ -137,6 +137,9 @@ class Runit:
     def stop_replica(self, shard):
         self.sv("stop", f"pdpd-replica-{shard}")
 
+    def confine_etcd(self):
+        """Nothing is to be written: its service starts it with no rights but its user's."""
+
     def has_etcd(self):
         """Whether there is a service of etcd yet."""
         return self.starts_with_machine("pdpd-etcd")

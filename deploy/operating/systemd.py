@@ -121,8 +121,12 @@ class Systemd:
             hosts = " ".join(dict.fromkeys(host for host, _ in (*self.settings.machines.values(), *first.values())))
             for path in self.MACHINES:
                 self.add_to_unit(path, f"IPAddressAllow={hosts}")
-            # (Debian's unit confines it less)
-            self.add_to_unit(self.ETCD, *ETCD_MAY)
+            self.confine_etcd()
+
+    def confine_etcd(self):
+        """Has etcd confined from its next start on: Debian's unit confines it less."""
+        self.add_to_unit(self.ETCD, *ETCD_MAY)
+        run("systemctl", "daemon-reload")
 
     def close_sockets_folder(self):
         """Does so now, and before each start of HAProxy: Debian's package gives the folder to HAProxy's user."""

@@ -137,6 +137,7 @@ def write_environment(settings: Settings, state: str) -> None:
     text = etcd_lines(settings, state)
     certificates.close(pathlib.Path(settings.etcd_certificates))
     ENVIRONMENT.write_text(text)
+    supervisor.of(settings).confine_etcd()
 
 
 def etcd_anew(settings: Settings, state: str) -> pathlib.Path:
@@ -286,6 +287,9 @@ def skip(settings: Settings, words: list[str]) -> None:
 
 def rows(settings: Settings, words: list[str]) -> int:
     wrong = 0
+    if list(settings.machines) == [settings.self]:
+        say("this machine is the only one: there is nobody to compare its rows with")
+        return 0
     for shard, log in enumerate(logs_of(settings)):
         # (another one of this machine, as that of the hour, comes first)
         with only("rows"):

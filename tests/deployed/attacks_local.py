@@ -114,9 +114,11 @@ def sockets(machine, checks):
         "root root 711 directory", "pdpd haproxy 2710 directory", "pdpd haproxy 660 socket"])
     checks.expect("what is left of the pipe", "end" in os.listdir(f"{FOLDERS}/1"), False)
     for user, wanted in ((NOBODY, ""), ("pdpd-replica", ""), ("haproxy", "connects ")):
-        sh(f"id {user} > /dev/null 2>&1 || useradd --system {user}")
+        is_new = sh(f"id {user} > /dev/null 2>&1 || {{ useradd --system {user}; echo new; }}").strip() == "new"
         said = as_user(user, shlex.join([PYTHON, "-Ic", ENTERS, f"{FOLDERS}/1"]))
         checks.expect(f"what {user} can do", said, wanted)
+        if is_new:
+            sh(f"userdel {user}")  # (the page's own command makes it later)
     with Local(NOBODY, THIEF, f"{FOLDERS}/1/socket") as thief, Deciders(asks, 4) as deciders:
         wait_until(lambda: "waits" in thief.said(), "the thief doesn't begin")
         shards("restart", 1)
