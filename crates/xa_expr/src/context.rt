@@ -48,8 +48,8 @@ pub trait Context {
     }
 
     /// Takes the units from the work that the message may still ask for. A context that counts no work
-    /// lets all of it be done. No clause speaks of it: what is refused is answered as want of memory,
-    /// which every evaluation may answer.
+    /// lets all of it be done. No clause speaks of it: what is refused ends the evaluation as want of memory
+    /// does, and who has made the context asks it which of both it was.
     fn spend(&self, units: u64) -> Result<(), AllocError> {
         Ok(())
     }

@@ -53,5 +53,5 @@ pub use timeless::{HasDesignators, all_timeless, is_clock_id};
 pub use typed::Typed;
 pub use variables::{Definition, Variables};
 pub use work::{
-    Budget, LOOK, STEP, is_of_one_size, units_of, units_of_bag, units_of_given, units_of_values,
+    LOOK, STEP, is_of_one_size, units_of, units_of_bag, units_of_given, units_of_values,
 };

@@ -1,9 +1,8 @@
-//! How much work one message may ask for. One thread answers every domain, and the tenants write the
-//! policies and the requests. So that others aren't kept waiting, work is counted where it is done, and a
-//! message that asks for too much is refused. Work is counted and not timed: the same message on the same
-//! state is refused on every machine, or on none.
-use std::alloc::AllocError;
-use std::cell::Cell;
+//! How much work each step is, in units: a unit is a byte of text or of a value that is made, copied or
+//! compared. One thread answers every domain, and the tenants write the policies and the requests. So that
+//! others aren't kept waiting, work is counted where it is done, and a message that asks for too much is
+//! refused. Work is counted and not timed: the same message on the same state is refused on every machine, or
+//! on none.
 use xa_bag::{Bag, ValueOrBag};
 use xa_func::{BagFunction, FuncId, HigherOrder};
 use xa_value::{DataType, Value};
@@ -31,39 +30,6 @@ pub(crate) const VALUE: u64 = 16;
 /// is compared at most. From this many values and searches on (`ORDERED_FROM` of `xa_bag`) the values are
 /// ordered, and one that is searched for is compared with as many as the logarithm of their number.
 const MOST_COMPARISONS: u64 = 32;
-
-/// What is left of the work that a message may ask for, in units. A unit is a byte of text or of a value
-/// that is made, copied or compared. No clause speaks of it: a message that asks for too much is refused
-/// like one for which memory is wanting.
-#[derive(Drop)]
-pub struct Budget {
-    /// The units that may still be spent.
-    left: Cell<u64>,
-}
-
-impl Budget {
-    /// A budget of this many units.
-    pub fn new(units: u64) -> Budget {
-        Budget {
-            left: Cell::new(units),
-        }
-    }
-
-    /// Takes the units from what is left. If they are more than that, the error is `AllocError`, and nothing
-    /// is left afterwards: no smaller work is done after one that was refused.
-    pub fn spend(&self, units: u64) -> Result<(), AllocError> {
-        match self.left.get().checked_sub(units) {
-            Some(left) => {
-                self.left.set(left);
-                Ok(())
-            }
-            None => {
-                self.left.set(0);
-                Err(AllocError)
-            }
-        }
-    }
-}
 
 /// The units of a value of this many bytes of text.
 fn units_of_bytes(count: usize) -> u64 {
