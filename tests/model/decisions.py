@@ -1,6 +1,7 @@
 """Decisions on a request: its individual requests, each by the tree of the root (XACML 3.0, core, section 7.17;
 Multiple Decision Profile)."""
 import collections
+import json
 
 from contexts import FIRST_MOMENT, LAST_MOMENT, Context, SourceRow
 from documents import DocumentFault
@@ -19,6 +20,10 @@ View = collections.namedtuple("View", "active root source")
 
 class NoMoment(Exception):
     """The clock never stands there."""
+
+
+class TooLong(Exception):
+    """The response has more bytes than it may have."""
 
 
 def indeterminate(status):
@@ -54,9 +59,30 @@ def results(view, held, moment):
     return made
 
 
-def response(view, held, moment):
-    """The text of the response."""
-    return body(results(view, held, moment))
+def texts_in(shown):
+    """The bytes of the ids, issuers, categories and values of type string or anyURI that stand in a result, or in a
+    part of one, as JSON has them (RFC 8259, section 7)."""
+    if isinstance(shown, str):
+        return len(json.dumps(shown, ensure_ascii=False).encode()) - 2
+    if isinstance(shown, list):
+        return sum(map(texts_in, shown))
+    if isinstance(shown, dict):
+        return sum(texts_in(held) for name, held in shown.items() if name not in ("DataType", "Decision", "Status"))
+    return 0
+
+
+def response(view, held, moment, most=None):
+    """The text of the response; TooLong where it has more bytes than that, which may be known by the texts of its
+    first results alone."""
+    made, texts = results(view, held, moment), 0
+    for one in made if most is not None else []:
+        texts += texts_in(one)
+        if texts > most:
+            raise TooLong("Results")
+    text = body(made)
+    if most is not None and len(text.encode()) > most:
+        raise TooLong("Reply")
+    return text
 
 
 def row_of(field):
@@ -68,8 +94,9 @@ def row_of(field):
 
 
 def given(fields):
-    """What decides, and the moment, by fields `active:TEXT`, `root:REFERENCE`, `row:..` and `moment:SECONDS`."""
-    view, moment = View([], None, []), 0
+    """What decides, the moment, and how long the response may be, by fields `active:TEXT`, `root:REFERENCE`, `row:..`,
+    `moment:SECONDS` and `reply:BYTES`."""
+    view, moment, most = View([], None, []), 0, None
     for field in fields:
         word, text = field.split(":", 1)
         if word == "active":
@@ -82,7 +109,9 @@ def given(fields):
             moment = int(text)
             if not FIRST_MOMENT <= moment <= LAST_MOMENT:
                 raise NoMoment
-    return view, moment
+        elif word == "reply":
+            most = int(text)
+    return view, moment, most
 
 
 def decide(*fields):
@@ -90,9 +119,11 @@ def decide(*fields):
     if not fields:
         return ["!FieldCount"]
     try:
-        view, moment = given(fields[:-1])
-        return [encoded(response(view, decoded(fields[-1]), moment))]
+        view, moment, most = given(fields[:-1])
+        return [encoded(response(view, decoded(fields[-1]), moment, most))]
     except NotJson:
         return ["!NotJson"]
+    except TooLong as limit:
+        return ["!" + str(limit)]
     except (DocumentFault, NoMoment):
         return ["!Malformed"]

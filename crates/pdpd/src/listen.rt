@@ -1,5 +1,5 @@
 //! `pdpd listen`: connections, 64 at once.
-ghost use Rattle.std.specs.Prelude.{◌≡◌, ◌↔◌, false, Err, IfErr, IfOk};
+ghost use Rattle.std.specs.Prelude.{◌≡◌, ◌↔◌, false, Err, IfErr, IfOk, OnErr};
 ghost use Rattle.sqlite.specs.WalFiles.{image_at};
 ghost use Rattle.xa_server.specs.Lines.{none_open};
 ghost use Rattle.pdpd.specs.Beginning.{known_text};
@@ -26,7 +26,6 @@ use crate::listen::sockets::Sockets;
 use crate::listen::telling::Telling;
 use crate::serve::front_of_files;
 use crate::serve::served::Serving;
-use crate::serve::wall_clock::WallClock;
 use crate::store::FileRecords;
 use sqlite::Start;
 use std::fs::OpenFile;
@@ -35,7 +34,7 @@ use std::rt::HostRuntime;
 use std::time::{Clock as Time, Duration};
 use xa_reactor::{Halt, Limits, Network, Reactor, Timer};
 use xa_records::Records;
-use xa_server::Front;
+use xa_server::{Clock, Front};
 
 /// The machine's clock that isn't set.
 #[derive(Drop)]
@@ -64,11 +63,12 @@ fn fault_of_halt(halt: Halt) -> Fault
 
 /// Serves connections at once over a network, until the program is told to end and all have ended.
 #[tactic(auto, using(crate::proofs::ListeningLemmas::served_over))]
-fn serve_at_once<R: Records, N: Network>(
+fn serve_at_once<R: Records, N: Network, C: Clock>(
     rt: &HostRuntime,
     front: &mut Front<R>,
     network: &mut N,
     limits: Limits,
+    clock: &mut C,
 ) -> Result<(), Fault>
     requires { front.old.lines ≡ none_open }
     ensures { ServesAtOnceOver R.custody N.done result front.old front.new network.old network.new }
@@ -76,9 +76,8 @@ fn serve_at_once<R: Records, N: Network>(
     let Ok(mut reactor) = Reactor::new(rt.alloc(), limits) else {
         return Err(Fault::Memory);
     };
-    let mut clock = WallClock::new(rt);
     let mut timer = MachineTimer { rt: *rt };
-    match reactor.run(front, network, &mut clock, &mut timer) {
+    match reactor.run(front, network, clock, &mut timer) {
         Ok(()) => Ok(()),
         Err(halt) => Err(fault_of_halt(halt)),
     }
@@ -101,12 +100,13 @@ fn sockets_at<'a>(
 
 /// Takes connections at that place, says so, and serves them at once.
 #[tactic(auto, using(crate::proofs::ListeningLemmas::served_at_once))]
-fn listen_at<R: Records>(
+fn listen_at<R: Records, C: Clock>(
     rt: &HostRuntime,
     front: &mut Front<R>,
     place: Place<'_>,
     address: &str,
     settings: ListenSettings,
+    clock: &mut C,
 ) -> Result<(), Fault>
     requires { front.old.lines ≡ none_open }
     ensures { ServesAtOnce R.custody result front.old front.new }
@@ -116,7 +116,7 @@ fn listen_at<R: Records>(
         Err(fault) => return Err(fault),
     };
     sockets.tell("begins");
-    let result = serve_at_once(rt, front, &mut sockets, settings.limits());
+    let result = serve_at_once(rt, front, &mut sockets, settings.limits(), clock);
     sockets.tell_of_end(result.is_ok());
     result
 }
@@ -127,20 +127,23 @@ fn listen_at<R: Records>(
 /// looked for in this order: the address, PDPD_WORK, PDPD_REPLY, PDPD_READING, PDPD_VIEWS, PDPD_IDLE,
 /// PDPD_SUMS, PDPD_MESSAGE, PDPD_END, the token file, the store, the socket, standard input.
 #[tactic(auto, using(crate::proofs::ListeningLemmas::listen_settings_not_place, crate::proofs::ListeningLemmas::files_not_place, crate::proofs::ListeningLemmas::place_found, crate::proofs::ListeningLemmas::listen_settings_before, crate::proofs::ListeningLemmas::place_before, crate::proofs::ServingLemmas::files_before))]
-pub fn listen<S: Start, F: OpenFile + Read + Drop>(
+pub fn listen<S: Start, F: OpenFile + Read + Drop, C: Clock>(
     rt: &HostRuntime,
     listening: &ListenCommand<'_>,
     token: io::Result<F>,
     start: S,
+    clock: &mut C,
 ) -> Result<Serving<FileRecords<S>>, Fault>
     ensures served { IfOk result (λ is. ServesAtOnceFrom (image_at S.Start) (known_text F.remaining token)
         is.result is.front) }
     ensures before { IfErr result (λ fault. comes_of_serving fault ≡ false) }
+    ensures unasked { OnErr result (clock.new ≡ clock.old) }
     ensures place { (result ≡ Err faults.Place) ↔ IsNoPlace listening.now.address }
 {
     let place = place_of(listening.address.as_str())?;
     let settings = ListenSettings::read(rt)?;
     let mut front = front_of_files(rt, listening.asked(), settings.server, token, start)?;
-    let result = listen_at(rt, &mut front, place, listening.address.as_str(), settings);
+    let address = listening.address.as_str();
+    let result = listen_at(rt, &mut front, place, address, settings, clock);
     Ok(Serving { front, result })
 }

@@ -141,7 +141,8 @@ fn exit_of_words<S: Start>(
         }
         Some(Command::Listen(listening)) => {
             let token_file = File::open(rt, listening.token_file.as_str());
-            let ended = listen_and_close(rt, &listening, token_file, start);
+            let clock = &mut WallClock::new(rt);
+            let ended = listen_and_close(rt, &listening, token_file, start, clock);
             Served::by(rt, listening.asked(), ended)
         }
         None => Served::nothing(report_usage(rt, usage_fault(words))),

@@ -17,6 +17,7 @@ ghost use Rattle.pdpd.specs.Fault.{fault_of_end};
 ghost use Rattle.pdpd.specs.running.Serving.{Serves, ServesConnection, ServesNextOver, WasSound};
 
 pub(crate) mod listening;
+mod parting;
 mod peers;
 pub(crate) mod served;
 pub(crate) mod setting;

@@ -1,7 +1,8 @@
 //! The view of a domain: what its decisions depend on.
-ghost use Rattle.std.specs.Prelude.{◌≡◌, ◌+◌, ◌<◌, [], false, true, IfOk, IsOk, None};
+ghost use Rattle.std.specs.Prelude.{◌≡◌, ◌+◌, [], false, true, IfOk, IsOk, None};
 ghost use Rattle.xa_link.specs.Linking.{link};
 ghost use Rattle.xa_link.specs.Reading.{reading};
+ghost use Rattle.xa_shelf.specs.Allowance.{IsBeyond};
 ghost use Rattle.xa_decide.specs.declared.limits.OverLimit.TheVariants as over_limit;
 ghost use Rattle.xa_decide.specs.Decision.{tree_of, view_by};
 ghost use Rattle.xa_decide.specs.Limits.{IfOver};
@@ -53,7 +54,7 @@ impl Model for View {
 impl View {
     /// A view of these documents, this root and these rows. The documents to which the root leads are
     /// read, the tree is linked and the rows are put in order here, once for all requests. Fails with
-    /// `OverLimit::Reading`, if the reader's limit is reached.
+    /// `OverLimit::Reading`, if the reader's limit is reached, and never by a reader without one.
     pub fn new(
         alloc: Global,
         reader: &mut TextReader<'_>,
@@ -65,7 +66,7 @@ impl View {
         ensures read { IfOk result (λ view.
             IsNotTooLarge view.tree → reader.old.left ≡ reader.new.left + reading_for active.now root.now) }
         ensures refused { reader.old.is_spent ≡ false → reader.new.is_spent ≡ true
-            → reader.old.left < reading_for active.now root.now }
+            → IsBeyond reader.old (reading_for active.now root.now) }
         ensures over { IfOver result (λ over.
             (over ≡ over_limit.Reading) × (reader.new.is_spent ≡ true)) }
     {
@@ -140,7 +141,7 @@ fn linked_tree(
     ensures read { IfOk result (λ tree.
         IsOk tree → reader.old.left ≡ reader.new.left + reading active.now root.now) }
     ensures refused { reader.old.is_spent ≡ false → reader.new.is_spent ≡ true
-        → reader.old.left < reading active.now root.now }
+        → IsBeyond reader.old (reading active.now root.now) }
 {
     memory_apart(link(alloc, reader, active, root))
 }
@@ -156,7 +157,7 @@ fn tree_of(
     ensures read { IfOk result (λ tree.
         IsNotTooLarge tree → reader.old.left ≡ reader.new.left + reading_for active.now root.now) }
     ensures refused { reader.old.is_spent ≡ false → reader.new.is_spent ≡ true
-        → reader.old.left < reading_for active.now root.now }
+        → IsBeyond reader.old (reading_for active.now root.now) }
 {
     match root {
         Some(root) => Ok(Some(linked_tree(alloc, reader, active, root)?)),

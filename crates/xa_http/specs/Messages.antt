@@ -109,3 +109,8 @@ IsNext old next.More new = (old.ended ≡ false) × IsUnfinished old.held × (ne
 IsNext old (next.Fault fault) new =
     (old.ended ≡ false) × IsFaulty old.held fault × (new ≡ record old { ended = true })
 IsNext old next.Ended new = (old.ended ≡ true) × (new ≡ old)
+
+-- what a session that was asked gives, and what it holds then, before a fault has ended it
+abbrev pub IsCut : Stream → Next → Stream → Type 0
+IsCut old (next.Fault fault) new = IsLook old (look.Fault fault) × (new ≡ old)
+IsCut old given new = IsNext old given new

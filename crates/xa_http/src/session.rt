@@ -1,8 +1,8 @@
 //! The session of one stream: its whole messages, in whatever pieces the bytes come.
 ghost use Rattle.std.specs.Prelude.{◌≡◌, ◌≤◌, ◌++◌, [], true, false, length, drop};
 ghost use Rattle.std.specs.Prelude.{IfOk, IsTrue, MatchResult, Ok, OnOk, OnErr};
-ghost use Rattle.xa_http.specs.parsing.Front.{HasHead};
-ghost use Rattle.xa_http.specs.Messages.{IsLook, IsNext, IsUnfinished, StandsAtFront};
+ghost use Rattle.xa_http.specs.parsing.Front.{HasHead, IsFront};
+ghost use Rattle.xa_http.specs.Messages.{IsCut, IsLook, IsNext, IsUnfinished, StandsAtFront};
 ghost use Rattle.xa_http.specs.declared.session.Look.TheVariants as look;
 ghost use Rattle.xa_http.specs.declared.session.Next.TheVariants.{Ended};
 
@@ -124,23 +124,13 @@ impl Session {
         if self.ended {
             return Ok(Look::Ended);
         }
-        if let Some(head) = &self.head {
-            return Ok(look_behind(self.held(), head));
-        }
-        self.follow_begun();
-        if self.is_surely_open() {
-            return Ok(Look::More);
-        }
-        match read_front(self.alloc, self.held())? {
+        match self.front()? {
             Beginning::Head(head) => {
                 let look = look_behind(self.held(), &head);
                 self.head = Some(head);
                 Ok(look)
             }
-            Beginning::More => {
-                self.follow();
-                Ok(Look::More)
-            }
+            Beginning::More => Ok(Look::More),
             Beginning::Fault(fault) => Ok(Look::Fault(fault)),
         }
     }
@@ -163,27 +153,47 @@ impl Session {
             (λ _. self.new ≡ self.old) }
         ensures ended { self.old.ended ≡ true → result ≡ Ok Ended }
     {
+        let next = self.cut()?;
+        if let Next::Fault(_) = &next {
+            self.ended = true;
+        }
+        Ok(next)
+    }
+
+    /// `next`, but that a fault doesn't end the session yet: so who answers one may want memory for it, and
+    /// then `end`s the session.
+    pub fn cut(&mut self) -> Result<Next, AllocError>
+        ensures cut { MatchResult result (λ answer. IsCut self.old answer self.new)
+            (λ _. self.new ≡ self.old) }
+        ensures ended { self.old.ended ≡ true → result ≡ Ok Ended }
+    {
         if self.ended {
             return Ok(Next::Ended);
         }
+        match self.front()? {
+            Beginning::Head(head) => self.message_of(head),
+            Beginning::More => Ok(Next::More),
+            Beginning::Fault(fault) => Ok(Next::Fault(fault)),
+        }
+    }
+
+    /// What stands at the front, with the head that was kept, if one was: it isn't read again.
+    fn front(&mut self) -> Result<Beginning, AllocError>
+        ensures front { IfOk result (IsFront self.old.held) }
+        ensures same { self.new ≡ self.old }
+    {
         if let Some(head) = self.head.take() {
-            return self.message_of(head);
+            return Ok(Beginning::Head(head));
         }
         self.follow_begun();
         if self.is_surely_open() {
-            return Ok(Next::More);
+            return Ok(Beginning::More);
         }
-        match read_front(self.alloc, self.held())? {
-            Beginning::Head(head) => self.message_of(head),
-            Beginning::More => {
-                self.follow();
-                Ok(Next::More)
-            }
-            Beginning::Fault(fault) => {
-                self.ended = true;
-                Ok(Next::Fault(fault))
-            }
+        let front = read_front(self.alloc, self.held())?;
+        if let Beginning::More = &front {
+            self.follow();
         }
+        Ok(front)
     }
 
     /// Follows the head at the start to the end of what is held.
@@ -214,7 +224,7 @@ impl Session {
     fn message_of(&mut self, head: Head) -> Result<Next, AllocError>
         requires goes_on { self.old.ended ≡ false }
         requires head { HasHead self.old.held head }
-        ensures { MatchResult result (λ answer. IsNext self.old answer self.new) (λ _. self.new ≡ self.old) }
+        ensures { MatchResult result (λ answer. IsCut self.old answer self.new) (λ _. self.new ≡ self.old) }
     {
         let Some(body) = whole_body(self.alloc, &self.buffer[self.start..], &head)? else {
             self.head = Some(head);

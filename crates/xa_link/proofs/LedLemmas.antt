@@ -10,7 +10,7 @@ use Rattle.xa_notation.specs.declared.document.Document.{Document}
 use Rattle.xa_notation.specs.declared.document.Document.TheFolds.{fold-roll-Document, map-Document, ind-Document}
 use Rattle.xa_notation.specs.declared.document.Document.TheOpen.{Document-F}
 use Rattle.xa_notation.specs.declared.document.Parsed.{Parsed}
-use Rattle.xa_shelf.specs.Allowance.{Allowance}
+use Rattle.xa_shelf.specs.Allowance.{Allowance, IsBeyond}
 use Rattle.xa_link.specs.declared.active.Active.{Active}
 use Rattle.xa_link.specs.declared.placed.Placed.{Placed}
 use Rattle.xa_link.specs.declared.placed.Placed.TheFolds.{fold-roll-Placed}
@@ -184,7 +184,7 @@ module _ (active : List Active) (root : Reference) (wanted : ℕ → Bool) (led 
       omega (arith, whole, bytes, none_read)
 
   -- where more were asked for than were left, there are more
-  pub reading_is_more : Refuses wanted start before after → before.is_spent ≡ false → after.is_spent ≡ true → before.left < reading active root
+  pub reading_is_more : Refuses wanted start before after → before.is_spent ≡ false → after.is_spent ≡ true → IsBeyond before (reading active root)
   unfolding reading
   reading_is_more refuses not_before spent =
       let whole : bytes_at (λ place. is_read start.read place || wanted place) start.active ≡ bytes_at (leads_to active root) active =
@@ -192,4 +192,4 @@ module _ (active : List Active) (root : Reference) (wanted : ℕ → Bool) (led 
       ∙ bytes_same (λ place. is_read start.read place || wanted place) (leads_to active root) active all_read in
       let less : before.left + bytes_at (is_read start.read) start.active < bytes_at (λ place. is_read start.read place || wanted place) start.active =
       refuses.short not_before spent in
-      omega (arith, whole, less, none_read)
+      (refuses.by_limit not_before spent, omega (arith, whole, less, none_read))

@@ -77,11 +77,11 @@ bytes_put f (a ∷ rest) (suc place) is =
 -- where nothing is wanted, nothing is read
 pub reads_none : (wanted : ℕ → Bool) (now : Progress) (reader : Allowance) → ((place : ℕ) → wanted place ≡ false) → Reads wanted now now reader reader
 reads_none wanted now reader none =
-    record { places = λ place. sym (ap (λ b. is_read now.read place || b) (none place) ∙ or_false (is_read now.read place)); bytes = refl; spent = refl }
+    record { places = λ place. sym (ap (λ b. is_read now.read place || b) (none place) ∙ or_false (is_read now.read place)); bytes = refl; spent = refl; limited = refl }
 
 pub reads_same : (f g : ℕ → Bool) (old new : Progress) (before after : Allowance) → Reads f old new before after → ((place : ℕ) → f place ≡ g place) → Reads g old new before after
 reads_same f g old new before after reads same =
-    record { places = λ place. reads.places place ∙ ap (λ b. is_read old.read place || b) (same place); bytes = reads.bytes; spent = reads.spent }
+    record { places = λ place. reads.places place ∙ ap (λ b. is_read old.read place || b) (same place); bytes = reads.bytes; spent = reads.spent; limited = reads.limited }
 
 pub reads_then : (f g h : ℕ → Bool) (old mid new : Progress) (before between after : Allowance) → Reads f old mid before between → Reads g mid new between after
     → ((place : ℕ) → (f place || g place) ≡ h place) → Reads h old new before after
@@ -92,11 +92,16 @@ reads_then f g h old mid new before between after first second both =
           ∙ ap (λ b. is_read old.read place || b) (both place);
       bytes = second.bytes ∙ first.bytes;
       spent = second.spent ∙ first.spent;
+      limited = second.limited ∙ first.limited;
     }
 
 -- where no more was asked for than was left
 pub unspent_refuses : (wanted : ℕ → Bool) (old : Progress) (before after : Allowance) → after.is_spent ≡ before.is_spent → Refuses wanted old before after
-unspent_refuses wanted old before after same = record { short = λ not_before spent. absurd (true≢false (sym spent ∙ same ∙ not_before)) }
+unspent_refuses wanted old before after same =
+    record {
+      short = λ not_before spent. absurd (true≢false (sym spent ∙ same ∙ not_before));
+      by_limit = λ not_before spent. absurd (true≢false (sym spent ∙ same ∙ not_before));
+    }
 
 pub refuses_up : (f g : ℕ → Bool) (old : Progress) (before after : Allowance) → Refuses f old before after → ((place : ℕ) → f place ≡ true → g place ≡ true)
     → Refuses g old before after
@@ -107,6 +112,7 @@ refuses_up f g old before after refuses up =
           let more : bytes_at (λ place. is_read old.read place || f place) old.active ≤ bytes_at (λ place. is_read old.read place || g place) old.active =
           bytes_up (λ place. is_read old.read place || f place) (λ place. is_read old.read place || g place) old.active (λ place. or_up (is_read old.read place) (f place) (g place) (up place)) in
           omega (arith, less, more);
+      by_limit = refuses.by_limit;
     }
 
 pub refuses_then : (f g h : ℕ → Bool) (old mid : Progress) (before between after : Allowance) → Reads f old mid before between → Refuses g mid between after
@@ -121,6 +127,7 @@ refuses_then f g h old mid before between after first second same both =
           ap (λ b. b || g place) (first.places place) ∙ or_assoc (is_read old.read place) (f place) (g place) ∙ ap (λ b. is_read old.read place || b) (both place)) in
           let start : allowed mid between ≡ allowed old before = first.bytes in
           omega (arith, less, whole, start);
+      by_limit = λ not_before spent. sym first.limited ∙ second.by_limit (first.spent ∙ not_before) spent;
     }
 
 pub refuses_after : (f g : ℕ → Bool) (old new : Progress) (before after : Allowance) → Reads f old new before after → Refuses g old before after
@@ -149,9 +156,15 @@ module _ {X E : Type 0} where
 
 -- ---- one document
 
-asked_within : (bytes : ℕ) (before : Allowance) → bytes ≤ before.left → asked bytes before ≡ record { left = before.left - bytes; is_spent = before.is_spent }
+asked_within : (bytes : ℕ) (before : Allowance) → bytes ≤ before.left → asked bytes before ≡ record before { left = before.left - bytes }
 asked_within bytes before within =
-    ap (λ b. if b then record { left = before.left - bytes; is_spent = before.is_spent } else record { left = 0; is_spent = true }) (le-leb bytes before.left within)
+    ap (λ b. if b then record before { left = before.left - bytes } else record before { left = 0; is_spent = before.is_limited || before.is_spent }) (le-leb bytes before.left within)
+
+-- more were asked for than were left, which is told of a limit alone
+asked_beyond : (bytes : ℕ) (before : Allowance) → nat_le bytes before.left ≡ false → before.is_spent ≡ false → (asked bytes before).is_spent ≡ before.is_limited
+asked_beyond bytes before beyond not_before =
+    ap (λ b. (if b then record before { left = before.left - bytes } else record before { left = 0; is_spent = before.is_limited || before.is_spent }).is_spent) beyond
+    ∙ ap (λ b. before.is_limited || b) not_before ∙ or_false before.is_limited
 
 -- it is wanted, and hasn't been read
 module _ (old : Progress) (before after : Allowance) (place : ℕ) (unread : is_read old.read place ≡ false) (spends : after ≡ asked (length_at old.active place) before) where
@@ -168,14 +181,21 @@ module _ (old : Progress) (before after : Allowance) (place : ℕ) (unread : is_
                 let whole : bytes_at (λ other. is_read old.read other || (other == place)) old.active ≡ bytes_at (is_read old.read) old.active + length_at old.active place =
                 bytes_put (is_read old.read) old.active place unread in
                 omega (arith, more, whole);
+            by_limit = λ not_before spent.
+                sym (asked_beyond (length_at old.active place) before beyond not_before) ∙ sym (ap (λ (a : Allowance). a.is_spent) spends) ∙ spent;
           }
 
   pub one_read : (new : Progress) → new.active ≡ old.active → ((other : ℕ) → is_read new.read other ≡ (is_read old.read other || (other == place)))
       → length_at old.active place ≤ before.left → Reads (λ other. other == place) old new before after
   one_read new same places within =
-      record { places = places; bytes = left_and_read; spent = ap (λ (a : Allowance). a.is_spent) there }
+      record {
+        places = places;
+        bytes = left_and_read;
+        spent = ap (λ (a : Allowance). a.is_spent) there;
+        limited = ap (λ (a : Allowance). a.is_limited) there;
+      }
     where
-      there : after ≡ record { left = before.left - length_at old.active place; is_spent = before.is_spent }
+      there : after ≡ record before { left = before.left - length_at old.active place }
       there = spends ∙ asked_within (length_at old.active place) before within
 
       left_and_read : allowed new after ≡ allowed old before
@@ -188,7 +208,7 @@ module _ (old : Progress) (before after : Allowance) (place : ℕ) (unread : is_
 
 -- it has been read
 pub read_before : (old : Progress) (reader : Allowance) (place : ℕ) → is_read old.read place ≡ true → Reads (λ other. other == place) old old reader reader
-read_before old reader place is = record { places = λ other. sym (by_test other (other == place) refl); bytes = refl; spent = refl }
+read_before old reader place is = record { places = λ other. sym (by_test other (other == place) refl); bytes = refl; spent = refl; limited = refl }
   where
     by_test : (other : ℕ) (b : Bool) → (other == place) ≡ b → (is_read old.read other || (other == place)) ≡ is_read old.read other
     by_test other false differ = ap (λ b. is_read old.read other || b) differ ∙ or_false (is_read old.read other)

@@ -1,8 +1,9 @@
 //! The tree that a reference leads to.
-ghost use Rattle.std.specs.Prelude.{◌≡◌, ◌≤◌, ◌<◌, ◌+◌, ◌-◌, ◌∷◌, ℕ, false};
+ghost use Rattle.std.specs.Prelude.{◌≡◌, ◌≤◌, ◌+◌, ◌-◌, ◌∷◌, ℕ, false};
 ghost use Rattle.std.specs.Prelude.{true, List, map, None, IfOk, IsTrue};
 ghost use Rattle.xa_value.specs.Gives.{Gives, answered};
 ghost use Rattle.xa_policy.specs.declared.linked.Linked.TheVariants.{Unresolved};
+ghost use Rattle.xa_shelf.specs.Allowance.{IsBeyond};
 ghost use Rattle.xa_link.specs.declared.active.Active.{Active as Document};
 ghost use Rattle.xa_link.specs.Linking.{document_at, link, replaced_in, tree_within, unless_circular};
 ghost use Rattle.xa_link.specs.placing.Placed.{led_within, linked};
@@ -265,7 +266,7 @@ pub fn link(
     ensures exact { resolve active.now root.now ≡ None → result ≡ answered (link active.now root.now) }
     ensures read { IfOk result (λ _. reader.old.left ≡ reader.new.left + reading active.now root.now) }
     ensures refused { reader.old.is_spent ≡ false → reader.new.is_spent ≡ true
-        → reader.old.left < reading active.now root.now }
+        → IsBeyond reader.old (reading active.now root.now) }
 {
     let mut resolved = Resolved::new(alloc, active);
     let place = resolve(active, root);

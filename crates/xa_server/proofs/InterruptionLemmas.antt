@@ -4,6 +4,7 @@ use Rattle.std.specs.FinMap.{get}
 use Rattle.std.specs.Prelude.{bytes_eq, option_map}
 use Rattle.std.proofs.lemmas.Bool.Decides.{not_from_Decides}
 use Rattle.std.proofs.lemmas.Slice.Eq.{bytes_eq-Decides}
+use Rattle.std.proofs.lemmas.List.{take_all}
 use Rattle.std.proofs.Math.Seq.{take-append_seam, take-append-add}
 use Rattle.xa_http.specs.declared.message.Message.{Message}
 use Rattle.xa_records.specs.declared.refusal.Failure.TheVariants.{Memory, Store}
@@ -129,6 +130,28 @@ module _ {R : Type 0} (custody : R → Custody) (is_open : (s : R) → (custody 
       (world custody all.0, all.1.served on, is_run all.0 new events replies all.3 clean on)
   is_run old new [] (reply ∷ replies) all clean sound = absurd all
   is_run old new (event ∷ events) [] all clean sound = absurd all
+
+  -- ---- a crash after them
+
+  pub leaves_those : (old new : ServerModel R) (events : List Event) (replies : List Reply) → ServesAll custody old events replies new → (custody new.records).clean → (custody old.records).sound
+      → LeavesFirst custody old new (answered_events events replies) (length (answered_events events replies))
+  leaves_those old new events replies all clean sound =
+      let answered = answered_events events replies in
+      let on = sound_after old new events replies all clean sound in
+      let run = is_run old new events replies all clean sound in
+      let whole : take (length answered) answered ≡ answered = take_all (length answered) answered (omega arith) in
+      record {
+        states = λ left may. (
+          length answered,
+          omega arith,
+          subst (λ es. AreStatesAfter (world custody old) es left) (sym whole)
+              (λ domain. ap (state_of domain) (settled new.records on left may) ∙ (isolated domain (world custody old) (world custody new) events replies run).left),
+        );
+        some = (
+          beyond (custody new.records).kept,
+          λ may. omega (arith, ap (λ (kept : Kept). kept.next) (settled new.records on (beyond (custody new.records).kept) may)),
+        );
+      }
 
   -- ---- the message in which the crash comes
 

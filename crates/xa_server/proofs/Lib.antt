@@ -28,3 +28,4 @@ pub mod NextLemmas
 pub mod FrontLawLemmas
 pub mod InterruptionLemmas
 pub mod ServingLemmas
+pub mod StepLemmas

@@ -1,16 +1,17 @@
 -- The next answer of one connection, and of a front.
-use Rattle.std.proofs.Common.{◌≡◌, ℤ, Bool, Some, None, Ok, Err, refl, ap, subst}
+use Rattle.std.proofs.Common.{◌≡◌, ℤ, Bool, List, [], ◌∷◌, Option, Some, None, Ok, Err, refl, ap, subst}
 use Rattle.std.specs.declared.alloc.AllocError.{AllocError}
 use Rattle.xa_http.specs.declared.fault.SessionFault.{SessionFault}
 use Rattle.xa_http.specs.declared.message.Message.{Message}
 use Rattle.xa_http.specs.declared.session.Look.TheVariants as look
 use Rattle.xa_http.specs.declared.session.Next.{Next}
 use Rattle.xa_http.specs.declared.session.Next.TheVariants as next
-use Rattle.xa_http.specs.Messages.{IsFirst, IsLook, IsNext}
+use Rattle.xa_http.specs.Messages.{IsCut, IsFirst, IsLook, IsNext}
 use Rattle.xa_http.specs.Stream.{Stream}
 use Rattle.xa_http.proofs.LawLemmas.{answers_messages}
 use Rattle.xa_records.specs.Keeper.{Custody}
-use Rattle.xa_server.specs.Connection.{AnswersNext, EndsBy, ServesFirst, answer_of}
+use Rattle.xa_server.specs.Connection.{AnswersNext, AnswersNow, EndsBy, IsGiven, ServesNext, TellsFor, answer_of}
+use Rattle.xa_server.specs.Connection.{reply_of}
 use Rattle.xa_server.specs.declared.connection.Answered.{Answered}
 use Rattle.xa_server.specs.declared.connection.Answered.TheVariants as answered
 use Rattle.xa_server.specs.declared.event.Answer.{Answer}
@@ -18,7 +19,9 @@ use Rattle.xa_server.specs.declared.front.Front.{Front}
 use Rattle.xa_server.specs.declared.front_error.FrontError.TheVariants.{Memory}
 use Rattle.xa_server.specs.declared.lines.Conn.{Conn}
 use Rattle.xa_server.specs.Front.{AnswersLine}
+use Rattle.xa_server.specs.Interruption.{ServesMessage}
 use Rattle.xa_server.specs.Lines.{IsOpen, with_line}
+use Rattle.xa_server.specs.Transfers.{Grows}
 use Rattle.xa_server.specs.World.{ServerModel}
 use Rattle.xa_server.proofs.LineLemmas.{line_kept}
 
@@ -31,33 +34,46 @@ only_message old new given (on, (message, rest, begins)) is =
 
 -- ---- what a connection is answered
 
-module _ {R : Type 0} (custody : R → Custody) (moment : ℤ) (old : ServerModel R) (s t looked : Stream) where
-  pub first_answered : (new : ServerModel R) (answer : Answer) → looked ≡ s
-      → ServesFirst custody moment old looked answer new t
+module _ {R : Type 0} (custody : R → Custody) (moment : ℤ) (old : ServerModel R) (s t : Stream) where
+  pub message_answered : (new : ServerModel R) (message : Message) (answer : Answer) → IsFirst s message t
+      → answer.last ≡ t.ended → ServesMessage custody old new (moment, message) answer.reply
       → AnswersNext custody moment old s (Ok (answered.Reply answer)) new t
-  first_answered new answer same (message, first, over, serves) = (
+  message_answered new message answer first over serves = (
     next.Message message,
-    subst (λ (u : Stream). IsFirst u message t) same first,
+    first,
     (answer.reply, ap (λ (last : Bool). answered.Reply (record { reply = answer.reply; last = last })) over),
     serves,
   )
 
-  pub fault_answered : (fault : SessionFault) (answer : Answer) → looked ≡ s → EndsBy fault looked answer t
-      → AnswersNext custody moment old s (Ok (answered.Reply answer)) old t
-  fault_answered fault answer same (is, said) = (
+  pub fault_answered : (looked : Stream) (fault : SessionFault) (answer : Answer) → looked ≡ s
+      → EndsBy fault looked answer t → AnswersNext custody moment old s (Ok (answered.Reply answer)) old t
+  fault_answered looked fault answer same (is, said) = (
     next.Fault fault,
     subst (λ (u : Stream). IsNext u (next.Fault fault) t) same is,
     ap (λ (a : Answer). answered.Reply a) said,
     refl,
   )
 
-pub waits_answered : {R : Type 0} (custody : R → Custody) (moment : ℤ) (server : ServerModel R) (s t : Stream)
-    → IsLook s look.More → t ≡ s → AnswersNext custody moment server s (Ok answered.Waits) server t
-waits_answered custody moment server s t (on, more) same = (next.More, (on, more, same), refl, refl)
+  pub waits_answered : IsCut s next.More t → AnswersNext custody moment old s (Ok answered.Waits) old t
+  waits_answered is = (next.More, is, refl, refl)
 
-pub ended_answered : {R : Type 0} (custody : R → Custody) (moment : ℤ) (server : ServerModel R) (s t : Stream)
-    → IsLook s look.Ended → t ≡ s → AnswersNext custody moment server s (Ok answered.Ended) server t
-ended_answered custody moment server s t ended same = (next.Ended, (ended, same), refl, refl)
+  pub ended_answered : IsCut s next.Ended t → AnswersNext custody moment old s (Ok answered.Ended) old t
+  ended_answered is = (next.Ended, is, refl, refl)
+
+  -- ---- by a clock
+
+  module _ (told told_new : Option (List (Option ℤ))) where
+    pub message_now : (new : ServerModel R) (answered : Answered) → IsLook s look.Message
+        → Grows told told_new (Some moment ∷ []) → AnswersNext custody moment old s (Ok answered) new t
+        → AnswersNow custody told told_new old s (Ok answered) new t
+    message_now new answered stands tells (given, is, gives, serves) =
+        (moment, given, is, gives, serves, rw (only_message s t given stands is).1 tells)
+
+    -- anything else, at any moment
+    pub other_now : (given : Next) (answered : Answered) → IsNext s given t → IsGiven given t answered
+        → ServesNext custody moment old (Some given) (reply_of answered) old → TellsFor given moment told told_new
+        → AnswersNow custody told told_new old s (Ok answered) old t
+    other_now given answered is gives serves tells = (moment, given, is, gives, serves, tells)
 
 -- ---- what a connection of a front is answered
 

@@ -24,7 +24,7 @@ module _ {R : Type 0} (custody : R → Custody) where
   -- ---- what they come to
 
   -- for the keeper
-  keeper_each : (old new : ServerModel R) (events : List Event) (replies : List Reply) (servers : List (ServerModel R))
+  pub keeper_each : (old new : ServerModel R) (events : List Event) (replies : List Reply) (servers : List (ServerModel R))
       → ServesEach custody old events replies servers new
       → LeavesKeeper (custody old.records) (custody new.records) replies
   keeper_each old new [] [] [] same =

@@ -7,12 +7,15 @@ use Rattle.xa_http.specs.declared.message.Message.{Message}
 use Rattle.xa_http.specs.declared.session.Look.TheVariants as look
 use Rattle.xa_http.specs.declared.session.Next.{Next}
 use Rattle.xa_http.specs.declared.session.Next.TheVariants as next
-use Rattle.xa_http.specs.Messages.{Cuts, IsFirst, IsLook, IsNext}
+use Rattle.xa_http.specs.Messages.{Cuts, IsLook, IsNext}
 use Rattle.xa_http.specs.Stream.{Stream, fed}
 use Rattle.xa_records.specs.Keeper.{Custody}
 use Rattle.xa_server.specs.Alone.{Event, message_of}
 use Rattle.xa_server.specs.declared.connection.Answered.{Answered}
 use Rattle.xa_server.specs.declared.connection.Answered.TheVariants as answered
+use Rattle.xa_server.specs.declared.drive_end.DriveEnd.{DriveEnd}
+use Rattle.xa_server.specs.declared.drive_end.DriveEnd.TheVariants as end
+use Rattle.xa_server.specs.declared.drive_end.DriveEnd.TheVariants.{NoClock}
 use Rattle.xa_server.specs.declared.event.Answer.{Answer}
 use Rattle.xa_server.specs.declared.front_error.FrontError.{FrontError}
 use Rattle.xa_server.specs.declared.front_error.FrontError.TheVariants.{Memory, Full}
@@ -25,6 +28,7 @@ use Rattle.xa_server.specs.Interruption.{ServesMessage}
 use Rattle.xa_server.specs.Isolation.{IsIsolated, IsIsolatedBesideRefusals}
 use Rattle.xa_server.specs.Replies.{bytes_of}
 use Rattle.xa_server.specs.Served.{IsRun}
+use Rattle.xa_server.specs.Transfers.{Grows}
 use Rattle.xa_server.specs.Work.{IsWorkOfRun}
 use Rattle.xa_server.specs.World.{ServerModel, ServerState}
 
@@ -93,12 +97,24 @@ AnswersNext custody moment old stream (Ok answered) new after =
     × ServesNext custody moment old (Some given) (reply_of answered) new
 AnswersNext custody moment old stream (Err _) new after = (stream.ended ≡ false) × (new ≡ old) × (after ≡ stream)
 
--- the message that stands first was served
-abbrev pub ServesFirst : {R : Type 0} → (R → Custody) → ℤ → ServerModel R → Stream → Answer → ServerModel R → Stream
-    → Type 0
-ServesFirst custody moment old stream answer new after =
-    (message : Message) × IsFirst stream message after × (answer.last ≡ after.ended)
-    × ServesMessage custody old new (moment, message) answer.reply
+-- what a clock tells for what a session gives: a moment for a message, and it isn't asked for anything else
+abbrev pub TellsFor : Next → ℤ → Option (List (Option ℤ)) → Option (List (Option ℤ)) → Type 0
+TellsFor (next.Message message) moment old new = Grows old new (Some moment ∷ [])
+TellsFor _ moment old new = new ≡ old
+
+-- the next of a connection was answered, a message at the moment that the clock told for it; or there was no moment for
+-- a message, or no memory, and nothing was done
+abbrev pub AnswersNow : {R : Type 0} → (R → Custody) → Option (List (Option ℤ)) → Option (List (Option ℤ))
+    → ServerModel R → Stream → Result Answered DriveEnd → ServerModel R → Stream → Type 0
+AnswersNow custody told told_new old stream (Ok answered) new after =
+    (moment : ℤ) × (given : Next) × IsNext stream given after × IsGiven given after answered
+    × ServesNext custody moment old (Some given) (reply_of answered) new × TellsFor given moment told told_new
+AnswersNow custody told told_new old stream (Err NoClock) new after =
+    IsLook stream look.Message × Grows told told_new (None ∷ []) × (new ≡ old) × (after ≡ stream)
+AnswersNow custody told told_new old stream (Err end.Memory) new after =
+    (new ≡ old) × (after ≡ stream)
+    × ((told_new ≡ told) ⊎ ((moment : ℤ) × IsLook stream look.Message × Grows told told_new (Some moment ∷ [])))
+AnswersNow custody told told_new old stream (Err _) new after = ⊥
 
 -- the session has ended by the fault that stands first
 abbrev pub EndsBy : SessionFault → Stream → Answer → Stream → Type 0

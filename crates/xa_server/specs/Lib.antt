@@ -20,6 +20,7 @@ pub mod Connection
 pub mod Lines
 pub mod Front
 pub mod Serving
+pub mod Steps
 pub mod FrontLaws
 pub mod Transfers
 pub mod Driven

@@ -120,7 +120,7 @@ fn new_view<R: Records>(
 fn new_view_within_limit<R: Records>(
     alloc: Global,
     texts: &mut PolicyTexts,
-    most: u64,
+    most: Option<u64>,
     records: &mut R,
     ask: &Ask<'_>,
 ) -> Result<CachedView, HandlingError>
@@ -181,7 +181,7 @@ fn reply_by_new_view<R: Records>(
         return Err(HandlingError::Failed(Cause::OverLimit(OverLimit::Reading)));
     }
     let limits = resources.limits;
-    let most = limits.most_to_read();
+    let most = limits.reading;
     let ready = new_view_within_limit(alloc, &mut resources.texts, most, records, read.ask)?;
     let decisions = &mut resources.decisions;
     let reply = reply_by_view(alloc, decisions, &ready.view, limits.deciding, read)?;

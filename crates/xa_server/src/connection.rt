@@ -1,12 +1,12 @@
 //! A connection: the messages of its own bytes, each answered by a server.
 //!
-//! What stands at the front of its stream is told by a look, which keeps the head that it has read. By it a
-//! message is cut off and served (`serve_first`), or the session ends by a fault (`end_by`).
+//! `answer` is its step: it cuts off the first message and has it served, or ends the session by a fault.
 ghost use Rattle.std.specs.Prelude.{◌≡◌, true, IfOk, MatchResult, Ok};
 ghost use Rattle.xa_http.specs.declared.session.Look.TheVariants as look;
 ghost use Rattle.xa_http.specs.Messages.{IsLook};
-ghost use Rattle.xa_server.specs.Connection.{AnswersNext, EndsBy, IsHolding, ServesFirst, TakesPiece};
+ghost use Rattle.xa_server.specs.Connection.{AnswersNext, EndsBy, IsHolding, TakesPiece};
 ghost use Rattle.xa_server.specs.Connection.{answer_of, empty_stream};
+ghost use Rattle.xa_server.specs.Interruption.{ServesMessage};
 
 use crate::error_code::fault_reply;
 use crate::event::Answer;
@@ -16,7 +16,7 @@ use crate::replies::Reply;
 use crate::server::Server;
 use std::alloc::{AllocError, Global};
 use std::marker::Model;
-use xa_http::{Look, Next, Session, SessionFault};
+use xa_http::{Look, Message, Next, Session, SessionFault};
 use xa_records::Records;
 use xa_value::Moment;
 
@@ -131,32 +131,22 @@ impl Connection {
     ) -> Result<Answered, AllocError>
         ensures { AnswersNext R.custody moment server.old self.old result server.new self.new }
     {
-        match self.session.look()? {
-            Look::Message => Ok(Answered::Reply(self.serve_first(server, moment)?)),
-            Look::Fault(fault) => Ok(Answered::Reply(self.end_by(fault)?)),
-            Look::More => Ok(Answered::Waits),
-            Look::Ended => Ok(Answered::Ended),
+        match self.session.cut()? {
+            Next::Message(message) => Ok(Answered::Reply(self.serve(server, moment, &message))),
+            Next::Fault(fault) => Ok(Answered::Reply(self.end_by(fault)?)),
+            Next::More => Ok(Answered::Waits),
+            Next::Ended => Ok(Answered::Ended),
         }
     }
 
-    /// Has the message that stands at the front of its stream answered by the server, at that moment.
-    pub(crate) fn serve_first<R: Records>(
-        &mut self,
-        server: &mut Server<R>,
-        moment: Moment,
-    ) -> Result<Answer, AllocError>
-        requires { IsLook self.old look.Message }
-        ensures { MatchResult result
-            (λ answer. ServesFirst R.custody moment server.old self.old answer server.new self.new)
-            (λ _. (server.new ≡ server.old) × (self.new ≡ self.old)) }
+    /// Has a message that was cut off answered by the server, at that moment.
+    fn serve<R: Records>(&self, server: &mut Server<R>, moment: Moment, message: &Message) -> Answer
+        ensures last { result.last ≡ self.now.ended }
+        ensures serves { ServesMessage R.custody server.old server.new (moment, message.now) result.reply }
     {
-        // The look has read the head, and the session has kept it: it isn't read again.
-        let Next::Message(message) = self.session.next()? else {
-            unreachable!()
-        };
-        let reply = server.serve(moment, &message);
+        let reply = server.serve(moment, message);
         let last = self.session.has_ended();
-        Ok(Answer { reply, last })
+        Answer { reply, last }
     }
 
     /// Ends its session by the fault that stands at the front of its stream, and gives the reply to it.

@@ -4,10 +4,12 @@
 //! 1. `drive`: is the connection open? From there on no other is in scope (`IsConnection`).
 //! 2. `drive_open`: when has it ended? It answers what it holds, and reads where it waits (`IsDrivenWithin`).
 //! 3. `read_piece`: what did the reader give, and was it taken? (`ReadsOnce`)
-//! 4. `answer_next`: what stands at the front of the stream? By a look, without a clock. A message is
-//!    answered at the clock's moment, a fault at any, both by the connection (`IsNextAnswered`).
-//! 5. `send_answer`: is the reply sent whole, and does the connection go on? (`IsSentAs`)
+//! 4. `answer_next`: was there a next? (`IsNextAnswered`)
+//! 5. `Connection::answer_now`: what stands at the front of the stream? By a look, without a clock. A message
+//!    is answered at the clock's moment, a fault at any (`AnswersNow`).
+//! 6. `send_answer`: is the reply sent whole, and does the connection go on? (`IsSentAs`)
 ghost use Rattle.std.specs.Prelude.{◌≡◌, ◌<◌, ℕ, true, List, length, Option, Ok};
+ghost use Rattle.xa_server.specs.Connection.{AnswersNow};
 ghost use Rattle.xa_server.specs.Driven.{IsConnection, IsDrivenWithin, IsWaiting, seen_by, situation};
 ghost use Rattle.xa_server.specs.handling.Driving.{IsNextAnswered, IsSentAs, ReadsOnce};
 ghost use Rattle.xa_server.specs.Replies.{bytes_of};
@@ -15,7 +17,7 @@ ghost use Rattle.xa_server.specs.Served.{may_go_on};
 ghost use Rattle.xa_server.specs.Transfers.{IsWritten, ReadEnd};
 
 use crate::clock::Clock;
-use crate::connection::Connection;
+use crate::connection::{Answered, Connection};
 use crate::drive_end::DriveEnd;
 use crate::event::Answer;
 use crate::front::Front;
@@ -72,10 +74,35 @@ fn send_answer<R: Records, W: Writer>(
     Ok(true)
 }
 
-/// Has the next of a connection answered, a message at the clock's moment, and sends the reply. Whether there
-/// was one; if not, more bytes are wanted. Fails with how the connection has ended, if it has: also if there
-/// was the fault by which its stream ends, and the reply to it was sent. No clock is asked if there is no
-/// message.
+impl Connection {
+    /// `answer`, a message at the clock's moment. No clock is asked for anything else. Fails with `NoClock`,
+    /// if it tells no moment for a message, or with `Memory`: then the server and the connection are as they
+    /// were.
+    pub fn answer_now<R: Records, C: Clock>(
+        &mut self,
+        server: &mut Server<R>,
+        clock: &mut C,
+    ) -> Result<Answered, DriveEnd>
+        ensures { AnswersNow R.custody (C.told clock.old) (C.told clock.new) server.old self.old result
+            server.new self.new }
+    {
+        match self.look()? {
+            Look::Message => {
+                let Some(moment) = clock.now() else {
+                    return Err(DriveEnd::NoClock);
+                };
+                Ok(self.answer(server, moment)?)
+            }
+            Look::Fault(fault) => Ok(Answered::Reply(self.end_by(fault)?)),
+            Look::More => Ok(Answered::Waits),
+            Look::Ended => Ok(Answered::Ended),
+        }
+    }
+}
+
+/// Has the next of a connection answered, and sends the reply. Whether there was one; if not, more bytes are
+/// wanted. Fails with how the connection has ended, if it has: also if there was the fault by which its
+/// stream ends, and the reply to it was sent.
 fn answer_next<R: Records, W: Writer, C: Clock>(
     server: &mut Server<R>,
     connection: &mut Connection,
@@ -88,20 +115,11 @@ fn answer_next<R: Records, W: Writer, C: Clock>(
         (situation W.Writer C.Clock left reads server.new connection.new writer.new clock.new) }
     ensures fewer { result ≡ Ok true → length connection.new.held < length connection.old.held }
 {
-    match connection.look()? {
-        Look::Message => {
-            let Some(moment) = clock.now() else {
-                return Err(DriveEnd::NoClock);
-            };
-            let answer = connection.serve_first(server, moment)?;
-            send_answer(server, writer, &answer)
-        }
-        Look::Fault(fault) => {
-            let answer = connection.end_by(fault)?;
-            send_answer(server, writer, &answer)
-        }
-        Look::More => Ok(false),
-        Look::Ended => Err(DriveEnd::Ended),
+    match connection.answer_now(server, clock) {
+        Ok(Answered::Reply(answer)) => send_answer(server, writer, &answer),
+        Ok(Answered::Waits) => Ok(false),
+        Ok(Answered::Ended) => Err(DriveEnd::Ended),
+        Err(end) => Err(end),
     }
 }
 

@@ -1,5 +1,6 @@
 //! What a crash leaves of a list of messages.
 ghost use Rattle.xa_server.specs.Interruption.{KeepsAnswered};
+ghost use Rattle.xa_server.specs.Steps.{StepsAreKept};
 
 use crate::server::Server;
 use xa_records::Records;
@@ -12,5 +13,13 @@ impl<R: Records> Server<R> {
     /// but a refusal for want of storage it always can. The law rests on the clauses of `serve` alone.
     pub fn keeps_what_was_answered(&self)
         ensures { KeepsAnswered R.custody self.now }
+    {}
+
+    /// Law: an answer of a connection (`Connection::answer`) is a step, and so is one of a front
+    /// (`Front::step`): a message is served, or none. Any number of steps, after which the keeper can go on,
+    /// and then a crash inside the next, or after it, leave the states after the first k messages, as
+    /// `keeps_what_was_answered` says. What `run`, `play` and `drive` say was served are steps.
+    pub fn steps_are_kept()
+        ensures { StepsAreKept R.custody }
     {}
 }

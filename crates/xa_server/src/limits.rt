@@ -21,10 +21,4 @@ impl MessageLimits {
             reading: None,
         }
     }
-
-    /// How many bytes may be read. No domain has so many as may be without a limit: that bounds what it may
-    /// be given.
-    pub(crate) fn most_to_read(self) -> u64 {
-        self.reading.unwrap_or(u64::MAX)
-    }
 }

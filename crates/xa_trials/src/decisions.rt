@@ -1,13 +1,13 @@
 //! Rows of decisions: the response to a request, by active documents, a root and a source of attributes,
-//! at a moment.
+//! at a moment, and perhaps under limits.
 use crate::answer::Answer;
 use crate::bodies::rows_of;
 use crate::clock::moment_of;
-use crate::field::{bytes_of, word_and_text};
+use crate::field::{bytes_of, number_of, word_and_text};
 use crate::no_answer::NoAnswer;
 use crate::references::{active_of, root_of};
 use std::alloc::Global;
-use xa_decide::{SourceRow, View};
+use xa_decide::{Limits, RequestBody, SourceRow, View, respond};
 use xa_link::Active;
 use xa_policy::Reference;
 use xa_shelf::{Shelf, TextReader};
@@ -24,6 +24,8 @@ struct Case {
     source: Items<SourceRow>,
     /// The moment of the decision.
     moment: Moment,
+    /// What it may cost.
+    limits: Limits,
 }
 
 impl Case {
@@ -35,6 +37,8 @@ impl Case {
             "root" => self.root = root_of(alloc, text)?,
             "source" => self.source = rows_of(alloc, text)?,
             "moment" => self.moment = moment_of(text)?,
+            "work" => self.limits.work = Some(number_of(text)?),
+            "reply" => self.limits.reply = Some(number_of(text)?),
             _ => return Err(NoAnswer::Malformed),
         }
         Ok(())
@@ -49,6 +53,7 @@ fn case_of(alloc: Global, fields: &[&str]) -> Result<Case, NoAnswer> {
         root: None,
         source: Items::new(alloc),
         moment,
+        limits: Limits::none(),
     };
     for field in fields {
         case.take(alloc, field)?;
@@ -63,11 +68,30 @@ fn view_of(alloc: Global, case: Case) -> Result<View, NoAnswer> {
         active,
         root,
         source,
-        moment: _,
+        ..
     } = case;
-    let mut reader = TextReader::new(&mut shelf, u64::MAX);
+    let mut reader = TextReader::new(&mut shelf, None);
     let view = View::new(alloc, &mut reader, active.as_slice(), &root, source)?;
     Ok(view)
+}
+
+/// Adds the body of the response to the request whose body the field has, or the limit that it is over.
+fn push_response_within(
+    answer: &mut Answer,
+    view: &View,
+    field: &str,
+    moment: Moment,
+    limits: Limits,
+) -> Result<(), NoAnswer> {
+    let alloc = answer.alloc();
+    let bytes = bytes_of(alloc, field)?;
+    let body = RequestBody::read(alloc, &bytes)?;
+    match answer.success(respond(alloc, view, &body, moment, limits)) {
+        Some(Some(response)) => answer.push_field("", response.body.as_slice()),
+        Some(None) => answer.push_word("!NotJson"),
+        None => {}
+    }
+    Ok(())
 }
 
 /// Adds the body of the response to the request whose body the field has.
@@ -92,7 +116,10 @@ pub fn decision(answer: &mut Answer, fields: &[&str]) -> Result<(), NoAnswer> {
     };
     let alloc = answer.alloc();
     let case = case_of(alloc, fields)?;
-    let moment = case.moment;
+    let (moment, limits) = (case.moment, case.limits);
     let view = view_of(alloc, case)?;
-    push_response(answer, &view, body, moment)
+    if limits.work.is_none() && limits.reply.is_none() {
+        return push_response(answer, &view, body, moment);
+    }
+    push_response_within(answer, &view, body, moment, limits)
 }

@@ -37,7 +37,7 @@ pub fn tree(answer: &mut Answer, fields: &[&str]) -> Result<(), NoAnswer> {
     let root = reference_of(alloc, root)?;
     let documents = documents_of(alloc, texts)?;
     let mut shelf = Shelf::new(alloc)?;
-    let mut reader = TextReader::new(&mut shelf, u64::MAX);
+    let mut reader = TextReader::new(&mut shelf, None);
     if let Some(tree) = answer.success(link(alloc, &mut reader, &documents, &root)) {
         push_tree(answer, &tree);
     }

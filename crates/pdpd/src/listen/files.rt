@@ -15,18 +15,21 @@ use sqlite::{FileFrom, Start};
 use std::fs::OpenFile;
 use std::io::{self, Read};
 use std::rt::HostRuntime;
+use xa_server::Clock;
 
 /// Serves connections at once, and then closes the store's files. `token` is the token file as it was opened.
-pub fn listen_and_close<S: Start, F: OpenFile + Read + Drop>(
+pub fn listen_and_close<S: Start, F: OpenFile + Read + Drop, C: Clock>(
     rt: &HostRuntime,
     listening: &ListenCommand<'_>,
     token: io::Result<F>,
     start: S,
+    clock: &mut C,
 ) -> Ended<FileFrom<S>, FileRecords<S>>
-    ensures served { HasServedAtOnce (image_at S.Start) (known_text F.remaining token) result }
+    ensures served { HasServedAtOnce (image_at S.Start) (known_text F.remaining token) (C.told clock.old)
+        (C.told clock.new) result }
     ensures place { IsNoPlace listening.now.address → result ≡ Unbegun Place }
 {
-    let left = match listen(rt, listening, token, start) {
+    let left = match listen(rt, listening, token, start, clock) {
         Ok(left) => left,
         Err(fault) => return Ended::Unbegun(fault),
     };

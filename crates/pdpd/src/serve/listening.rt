@@ -4,6 +4,7 @@ ghost use Rattle.pdpd.specs.declared.fault.Fault.TheVariants.{Connection, Memory
 ghost use Rattle.pdpd.specs.Fault.{goes_on_after, is_of_network, is_passing, is_want_of_room};
 
 use crate::fault::Fault;
+use crate::serve::parting::part_with;
 use crate::serve::peers::Peers;
 use std::alloc::Global;
 use std::io::{self, ErrorKind, Read, Write};
@@ -96,19 +97,25 @@ impl Listening {
 pub struct SharedStream {
     /// The socket.
     stream: Rc<TcpStream>,
+    /// Whether the peer sends nothing more, or a call failed.
+    is_over: bool,
 }
 
 impl Read for SharedStream {
     fn read(&mut self, room: &mut [u8]) -> io::Result<usize> {
         let mut stream = &*self.stream;
-        stream.read(room)
+        let given = stream.read(room);
+        self.is_over = !matches!(given, Ok(1..));
+        given
     }
 }
 
 impl Write for SharedStream {
     fn write(&mut self, bytes: &[u8]) -> io::Result<usize> {
         let mut stream = &*self.stream;
-        stream.write(bytes)
+        let taken = stream.write(bytes);
+        self.is_over = taken.is_err();
+        taken
     }
 
     fn flush(&mut self) -> io::Result<()> {
@@ -128,8 +135,14 @@ fn shared(alloc: Global, stream: TcpStream) -> Result<(SharedStream, SharedStrea
         return Err(Fault::Memory);
     };
     Ok((
-        SharedStream { stream: input },
-        SharedStream { stream: output },
+        SharedStream {
+            stream: input,
+            is_over: false,
+        },
+        SharedStream {
+            stream: output,
+            is_over: false,
+        },
     ))
 }
 
@@ -146,7 +159,11 @@ impl Peers for Listening {
         shared(self.rt.alloc(), stream)
     }
 
-    fn part(&mut self, _input: SharedStream, _output: SharedStream) {}
+    fn part(&mut self, input: SharedStream, output: SharedStream) {
+        if !input.is_over && !output.is_over {
+            part_with(&self.rt, &input.stream);
+        }
+    }
 }
 
 /// Whether the next connection may be taken after a failure of that kind. It was the peer's or the

@@ -47,11 +47,13 @@ pub record Reads (wanted : ℕ → Bool) (old new : Progress) (before after : Al
   pub places : (place : ℕ) → is_read new.read place ≡ (is_read old.read place || wanted place)
   pub bytes : allowed new after ≡ allowed old before
   pub spent : after.is_spent ≡ before.is_spent
+  pub limited : after.is_limited ≡ before.is_limited
 
--- if more bytes were asked for than were left, the documents at these places have more
+-- if more bytes were asked for than a limit allows, there is one, and the documents at these places have more
 pub record Refuses (wanted : ℕ → Bool) (old : Progress) (before after : Allowance) : Type 0 where
   pub short : before.is_spent ≡ false → after.is_spent ≡ true
       → allowed old before < bytes_at (λ place. is_read old.read place || wanted place) old.active
+  pub by_limit : before.is_spent ≡ false → after.is_spent ≡ true → before.is_limited ≡ true
 
 -- `Reads` if there is an answer, `Refuses` if there is none
 abbrev pub Counted : {X E : Type 0} → Result X E → (ℕ → Bool) → Progress → Progress → Allowance → Allowance → Type 0

@@ -1,54 +1,26 @@
-use Rattle.std.proofs.Common.{◌≡◌, Err, refl, rules, sym}
-use Rattle.xa_server.specs.declared.drive_end.DriveEnd.TheVariants.{Memory}
-use Rattle.xa_server.proofs.EndLemmas.{ended_before, fault_next, holds_less, message_next, untimed, waits_for_more}
-use Rattle.xa_server.proofs.EndLemmas.{wanted, wanted_at}
+use Rattle.xa_server.proofs.EndLemmas.{ended_next, holds_less, reply_next, unanswered, waits_next}
 use Rattle.xa_server.proofs.driving.answer_next.Goals as goal
 
-pub returns-in_err-look-clause-answered : goal.returns-in_err-look-clause-answered
-returns-in_err-look-clause-answered g c = λ left reads.
-    let failed : c.from_residual.result ≡ Err Memory = search rules in
-    rw (failed, c.look.ensures.same) (wanted g.R.Records.custody _)
+pub returns-in-Err-clause-answered : goal.returns-in-Err-clause-answered
+returns-in-Err-clause-answered g c = λ left reads.
+    unanswered g.R.Records.custody _ _ _ _ c.in-Err.end (rw c.in-Err.is at c.answer_now.ensures)
 
-pub returns-in-More-clause-answered : goal.returns-in-More-clause-answered
-returns-in-More-clause-answered g c = λ left reads.
-    rw c.look.ensures.same (waits_for_more g.R.Records.custody _ (rw c.in-More.is at c.in_ok-look.ensures.look))
+pub returns-in-Ok-Waits-clause-answered : goal.returns-in-Ok-Waits-clause-answered
+returns-in-Ok-Waits-clause-answered g c = λ left reads.
+    waits_next g.R.Records.custody _ _ _ _
+    (rw (c.in-Ok-Waits.is, c.in-Ok-Waits.field-0-is) at c.answer_now.ensures)
 
-pub returns-in-Ended-clause-answered : goal.returns-in-Ended-clause-answered
-returns-in-Ended-clause-answered g c = λ left reads.
-    rw c.look.ensures.same (ended_before g.R.Records.custody _ (rw c.in-Ended.is at c.in_ok-look.ensures.look))
+pub returns-in-Ok-Ended-clause-answered : goal.returns-in-Ok-Ended-clause-answered
+returns-in-Ok-Ended-clause-answered g c = λ left reads.
+    ended_next g.R.Records.custody _ _ _ _
+    (rw (c.in-Ok-Ended.is, c.in-Ok-Ended.field-0-is) at c.answer_now.ensures)
 
-pub returns-in_default-clause-answered : goal.returns-in_default-clause-answered
-returns-in_default-clause-answered g c = λ left reads.
-    rw c.look.ensures.same
-    (untimed g.R.Records.custody _ _ (rw c.in-Message.is at c.in_ok-look.ensures.look)
-    (rw c.in_default.is at c.now.ensures))
+pub returns-in-Ok-Reply-clause-answered : goal.returns-in-Ok-Reply-clause-answered
+returns-in-Ok-Reply-clause-answered g c = λ left reads.
+    reply_next g.R.Records.custody _ _ _ _ c.in-Ok-Reply.answer c.send_answer.result _ _
+    (rw (c.in-Ok-Reply.is, c.in-Ok-Reply.field-0-is) at c.answer_now.ensures) c.send_answer.ensures
 
-pub returns-in_err-answer-in-Message-clause-answered : goal.returns-in_err-answer-in-Message-clause-answered
-returns-in_err-answer-in-Message-clause-answered g c = λ left reads.
-    let failed : c.from_residual-in_err-answer-in-Message.result ≡ Err Memory = search rules in
-    let none = c.in_err-answer-in-Message.ensures in
-    rw (failed, none.0, none.1, c.look.ensures.same)
-    (wanted_at g.R.Records.custody _ _ c.in-Some.moment c.in-Some.ensures)
-
-pub returns-in_err-answer-in-Fault-clause-answered : goal.returns-in_err-answer-in-Fault-clause-answered
-returns-in_err-answer-in-Fault-clause-answered g c = λ left reads.
-    let failed : c.from_residual-in_err-answer-in-Fault.result ≡ Err Memory = search rules in
-    rw (failed, c.in_err-answer-in-Fault.ensures, c.look.ensures.same) (wanted g.R.Records.custody _)
-
-pub returns-in_ok-answer-in-Message-clause-answered : goal.returns-in_ok-answer-in-Message-clause-answered
-returns-in_ok-answer-in-Message-clause-answered g c = λ left reads.
-    let answer = c.in_ok-answer-in-Message in
-    message_next g.R.Records.custody _ _ c.in-Some.moment answer.answer
-    (rw (sym c.look.ensures.same) answer.ensures) refl refl c.in-Some.ensures c.send_answer.result
-    c.send_answer.ensures
-
-pub returns-in_ok-answer-in-Fault-clause-answered : goal.returns-in_ok-answer-in-Fault-clause-answered
-returns-in_ok-answer-in-Fault-clause-answered g c = λ left reads.
-    let answer = c.in_ok-answer-in-Fault in
-    fault_next g.R.Records.custody _ c.send_answer-in-Fault.result c.end_by.new.self c.in-Fault.fault _ _
-    (rw (sym c.look.ensures.same) answer.ensures.0) (rw answer.ensures.1 at c.send_answer-in-Fault.ensures)
-
-pub returns-in_ok-answer-in-Message-clause-fewer : goal.returns-in_ok-answer-in-Message-clause-fewer
-returns-in_ok-answer-in-Message-clause-fewer g c = λ same.
-    let served = c.in_ok-answer-in-Message.ensures in
-    holds_less c.args.connection.now c.serve_first.new.self c.look.new.self served.0 c.look.ensures.same served.1
+pub returns-in-Ok-Reply-clause-fewer : goal.returns-in-Ok-Reply-clause-fewer
+returns-in-Ok-Reply-clause-fewer g c = λ same.
+    holds_less g.R.Records.custody _ _ _ _ _ _ c.in-Ok-Reply.answer
+    (rw (c.in-Ok-Reply.is, c.in-Ok-Reply.field-0-is) at c.answer_now.ensures) (rw same at c.send_answer.ensures).2

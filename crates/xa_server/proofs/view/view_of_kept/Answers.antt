@@ -1,8 +1,9 @@
 -- The active documents by their keys are those that the texts are.
-use Rattle.std.proofs.Common.{◌≡◌, ◌+◌, ◌<◌, false, sym, subst, true, ◌∙◌}
+use Rattle.std.proofs.Common.{◌≡◌, ◌+◌, false, sym, subst, true, ◌∙◌}
 use Rattle.std.specs.Prelude.{IfOk}
 use Rattle.xa_decide.specs.Decision.{view_by}
 use Rattle.xa_decide.specs.Reading.{IsNotTooLarge, reading_for}
+use Rattle.xa_shelf.specs.Allowance.{IsBeyond}
 use Rattle.xa_server.specs.View.{active_of}
 use Rattle.xa_server.proofs.KeyedLemmas.{active_are}
 use Rattle.xa_server.proofs.view.view_of_kept.Goals as goal
@@ -20,4 +21,4 @@ returns-clause-read c = λ keyed.
 pub returns-clause-refused : goal.returns-clause-refused
 returns-clause-refused c = λ keyed.
     let all : c.as_slice.result.now ≡ active_of c.args.kept.texts = c.as_slice.ensures ∙ c.in_ok-active.ensures ∙ sym (active_are c.args.kept.texts keyed) in
-    subst (λ active. c.args.reader.now.is_spent ≡ false → c.new.new.reader.is_spent ≡ true → c.args.reader.now.left < reading_for active c.args.kept.root) all c.new.ensures.refused
+    subst (λ active. c.args.reader.now.is_spent ≡ false → c.new.new.reader.is_spent ≡ true → IsBeyond c.args.reader.now (reading_for active c.args.kept.root)) all c.new.ensures.refused

@@ -5,6 +5,9 @@ use Rattle.pdpd.specs.Beginning.{known_text}
 use Rattle.pdpd.specs.declared.fault.Fault.TheVariants.{Place}
 use Rattle.pdpd.proofs.listen.files.listen_and_close.Goals as goal
 
+pub returns-in-Err-clause-served : goal.returns-in-Err-clause-served
+returns-in-Err-clause-served g c = (c.in-Err.ensures.before, ap g.C.Clock.told c.in-Err.ensures.unasked)
+
 pub returns-in-Err-result-clause-served : goal.returns-in-Err-result-clause-served
 returns-in-Err-result-clause-served g c =
     serves_at_once_as (image_at g.S.Start) (known_text g.F.Read.remaining c.args.token) c.in-Ok.left.result (Err c.in-Err-result.fault) c.in-Ok.left.front c.in-Err-result.is
