@@ -1,21 +1,23 @@
 #!/usr/bin/env python3
-"""How long a past decision takes to work out, over two generated archives: of a year in which a table of 20 rows is put
-again each minute, and of a day of tables of 3,500 rows, nearly as many as a body has room for.
+"""How long a past decision takes to work out, over generated archives of a year in which a table is put again each
+minute, of 20 rows and of 3,500, nearly as many as a body has room for; and of a day of the latter. Each is one of 500.
 
 Usage: bench/audit.py [--write] [--entries N] [--rows ROWS] [--moments MOMENTS] [--folder FOLDER] [--at-once N]
                       [--no-whole] [PDPD]
 
 PDPD: the built program (build/pdpd, which `make pdpd` makes). Each of the random moments is asked from the last
-checkpoint before it, some of them by the command `pdpd-log decide`, and all of them in one replay of the whole log; the
-two have to be the same, and none may take more than 20 s. With --write the table is written into docs/PERFORMANCE.md
-too.
+checkpoint before it, some of them by the command `pdpd-log decide`. None may take more than 20 s. Then the whole log is
+read: by all its records the domain has to have had at each moment what it had by the checkpoint. And it is replayed:
+each answer has to be the same. (To replay a year of 3,500 rows would take days: that is done for the day.) With --write
+the table is written into docs/PERFORMANCE.md too.
 
 With --entries, --rows or --moments one archive of that kind is asked, a table each minute. FOLDER is where the archives
-are written, and left, or where an earlier run has left them; else they are temporary. So many moments are asked at once
-(1). All is timed before the whole logs are replayed, which takes long: --no-whole leaves that out.
+are written, and left, or where an earlier run has left them; else they are temporary, and take 12 GB. So many moments
+are asked at once (1). All is timed before the whole logs are read, which takes long: --no-whole leaves that out.
 """
 import argparse
 import concurrent.futures
+import itertools
 import os
 import pathlib
 import random
@@ -32,10 +34,9 @@ sys.path[:0] = [str(TOP / "tests"), str(TOP / "deploy")]
 
 from audit_parts import generated  # noqa: E402
 from log import audit  # noqa: E402
-from log.archive import segments_in  # noqa: E402
-from log.history import ask, by_archive  # noqa: E402
+from log.history import State, ask, by_archive  # noqa: E402
 from log.messages import bytes_of_entry  # noqa: E402
-from log.past import Past  # noqa: E402
+from log.past import Past, state_before, until  # noqa: E402
 from log.replaying import OPERATOR, replay  # noqa: E402
 from page import Machine, shown  # noqa: E402
 
@@ -50,8 +51,13 @@ class Kind(NamedTuple):
     rows: int = 20
     moments: int = 1_000
 
+    def is_replayed(self):
+        """Whether the whole log is replayed: the time of a table grows with the square of its rows."""
+        return self.entries * self.rows ** 2 <= MOST_REPLAYED
 
-KINDS = Kind(), Kind(MINUTES_OF_A_DAY, 3_500, 200)
+
+KINDS = Kind(), Kind(rows=3_500), Kind(MINUTES_OF_A_DAY, 3_500, 200)
+MOST_REPLAYED = MINUTES_OF_A_DAY * 3_500 ** 2
 
 
 def options():
@@ -89,6 +95,15 @@ def by_the_whole_log(past, moments):
     return dict(zip(sorted(moments), found.values()))
 
 
+def states_by_all(past, moments):
+    """What the domain had at each moment, in order, by all records: without the change that was under way then."""
+    state, changes, first = State(), past.scanned(0), []
+    for moment in sorted(moments):
+        held = iter([first.pop()] if first else [])
+        state.take_all(until(moment, itertools.chain(held, changes), first))
+        yield moment, state
+
+
 def processor():
     """The processor time of this process and of those that have ended below it, in seconds."""
     return sum(sum(resource.getrusage(whose)[:2]) for whose in (resource.RUSAGE_SELF, resource.RUSAGE_CHILDREN))
@@ -101,11 +116,11 @@ class Asked:
         self.kind, self.folder, self.at_once = kind, folder, at_once
         (segments,) = by_archive([folder])
         self.past = Past(segments, "acme")
-        self.size = sum(segment.path.stat().st_size for segment in segments_in([folder]))
+        self.size = sum(path.stat().st_size for path in folder.rglob("*") if path.is_file())
         places, chance = self.past.places, random.Random(SEED)
         first, last = places[5].ended / 1e6, places[len(places) - 1].ended / 1e6 - 1
         self.moments = [chance.uniform(first, last) for _ in range(kind.moments)]
-        self.same = None
+        self.same = self.same_states = None
 
     def ask(self):
         """Asks at each moment from a checkpoint, and some by the command."""
@@ -134,7 +149,15 @@ class Asked:
         return time.perf_counter() - began
 
     def compare(self):
-        """Counts the answers that are those of the whole log."""
+        """Counts the moments at which the domain had by a checkpoint what it had by all records, and the answers that
+        are those of the whole log's replay."""
+        began = time.perf_counter()
+        self.same_states = sum(state_before(self.past, moment)[0] == state
+                               for moment, state in states_by_all(self.past, self.moments))
+        print(f"{self.same_states:,} of {len(self.moments):,} states as by all records, in "
+              f"{time.perf_counter() - began:.0f} s", flush=True)
+        if not self.kind.is_replayed():
+            return
         began = time.perf_counter()
         whole = by_the_whole_log(self.past, self.moments)
         self.same = sum(self.answers[moment] == whole[moment] for moment in self.moments)
@@ -142,13 +165,15 @@ class Asked:
               f"{len(set(whole.values()))} different answers, {self.same} of {len(whole)} the same", flush=True)
 
     def fails(self):
-        return max(*self.times, self.by_command) > LONGEST or self.same not in (None, len(self.moments))
+        counts = {self.same, self.same_states} - {None, len(self.moments)}
+        return max(*self.times, self.by_command) > LONGEST or bool(counts)
 
     def line(self):
         middle, longest = self.times[len(self.times) // 2], self.times[-1]
-        same = "" if self.same is None else f"{self.same:,} of {len(self.moments):,}"
+        counts = ["-" if count is None else f"{count:,}" for count in (len(self.moments), self.same_states, self.same)]
         return (f"{self.kind.rows:>6,}{len(self.past.places):>10,}{self.size / 1e6:>8,.0f}{middle:>9.2f}"
-                f"{longest:>9.2f}{self.processor:>11.2f}{self.by_command:>12.2f}   {same}".rstrip())
+                f"{longest:>9.2f}{self.processor:>11.2f}{self.by_command:>12.2f}" +
+                "".join(f"{count:>{width}}" for count, width in zip(counts, (9, 12, 10))))
 
 
 def written(kind, folder):
@@ -163,7 +188,7 @@ def written(kind, folder):
 
 def table(asked, told):
     """Prints what was found."""
-    print("  rows   changes      MB   half, s   all, s  processor  by command   as by the whole log")
+    print("  rows   changes      MB   half, s   all, s  processor  by command  moments  same state  same by replay")
     for one in asked:
         print(one.line())
     print(told)

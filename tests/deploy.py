@@ -32,9 +32,15 @@ sys.path.insert(0, str(TOP / "tests"))
 
 from checks import Checks  # noqa: E402
 from deployed import (  # noqa: E402
-    attacks_front, attacks_local, attacks_logs, attacks_most, attacks_pdpd, attacks_posing, attacks_proxy, audit,
-    backups, booting, changes, clients, containers, crossing, dear, deb, enforcement, failures, machine, metrics,
-    misplaced, mistakes, observed, removal, replicas, replies, slowness, states, surroundings, systemd, units, unseen)
+    attacks_endless, attacks_front, attacks_local, attacks_logs, attacks_most, attacks_pdpd, attacks_posing,
+    attacks_proxy, audit, backups, booting, changes, clients, containers, crossing, dear, deb, enforcement, failures,
+    machine, metrics, misplaced, mistakes, observed, overlooked, overlooked_logged, removal, replicas, replies,
+    slowness, states, surroundings, systemd, units, unseen)
+
+# the files with parts that play an adversary: ATTACKS, and AUDITED, those that have the log of changes on
+ATTACKING = (attacks_front, crossing, attacks_local, attacks_pdpd, attacks_proxy, attacks_logs, attacks_most,
+             attacks_posing, attacks_endless)
+ATTACKS, AUDITED = ([part for file in ATTACKING for part in getattr(file, kind, ())] for kind in ("ATTACKS", "AUDITED"))
 
 PARTS = (
     units.walk, units.decision, units.configurations, units.installed, units.calls,
@@ -45,25 +51,18 @@ PARTS = (
     backups.backups, backups.checkpoints, backups.emptied, backups.anew,
     changes.moves, changes.crossed, changes.killed, changes.live, changes.keeping, changes.older, enforcement.clients,
     *states.STATES, *mistakes.MISTAKES, *surroundings.SURROUNDINGS, *misplaced.MISPLACED,
-    unseen.unseen, *observed.OBSERVED,
-    *attacks_front.ATTACKS, *crossing.ATTACKS, *attacks_local.ATTACKS, *attacks_pdpd.ATTACKS, *attacks_proxy.ATTACKS,
-    *attacks_logs.ATTACKS, *attacks_most.ATTACKS, *attacks_posing.ATTACKS,
+    unseen.unseen, overlooked.overlooked, *observed.OBSERVED,
+    *ATTACKS,
     units.certificate, units.want_of_memory, units.upgrade, changes.growth, changes.miscounted, units.status,
-    audit.audit, unseen.unseen_logged, audit.restarted_logged, *attacks_logs.AUDITED, *attacks_posing.AUDITED,
+    audit.audit, unseen.unseen_logged, overlooked_logged.overlooked_logged, audit.restarted_logged, *AUDITED,
     audit.killed_logged,
     metrics.metrics, units.secrets, removal.removal)
 # those that have a machine of their own each, with the commands that they want and Debian's packages of these
 ALONE = {systemd.systemd: booting.WANTED, deb.deb: booting.WANTED, containers.containers: containers.WANTED,
          replicas.replicas: replicas.WANTED}
 # words that name several of them
-GROUPS = {"states": states.STATES, "attacks_front": attacks_front.ATTACKS,
-          "attacks_local": attacks_local.ATTACKS, "attacks_logs": (*attacks_logs.ATTACKS, *attacks_logs.AUDITED),
-          "attacks_most": attacks_most.ATTACKS,
-          "attacks_pdpd": attacks_pdpd.ATTACKS, "attacks_proxy": attacks_proxy.ATTACKS,
-          "attacks_posing": (*attacks_posing.ATTACKS, *attacks_posing.AUDITED),
-          "attacks": (*attacks_front.ATTACKS, *crossing.ATTACKS, *attacks_local.ATTACKS, *attacks_pdpd.ATTACKS,
-                      *attacks_proxy.ATTACKS, *attacks_logs.ATTACKS, *attacks_most.ATTACKS, *attacks_posing.ATTACKS,
-                      *attacks_logs.AUDITED, *attacks_posing.AUDITED)}
+GROUPS = {"states": states.STATES, "attacks": [*ATTACKS, *AUDITED],
+          **{file.__name__.rpartition(".")[2]: [*file.ATTACKS, *getattr(file, "AUDITED", ())] for file in ATTACKING}}
 
 
 # of so many names is told what became of them, and so many lines of each log are kept

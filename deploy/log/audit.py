@@ -4,6 +4,7 @@ from __future__ import annotations
 import collections
 import contextlib
 import hashlib
+import itertools
 import json
 import pathlib
 import re
@@ -138,21 +139,31 @@ def decide(past: Past, at: float, request: bytes) -> list[tuple[int, Reply]]:
 
 
 def decide_by_all(past: Past, at: float, request: bytes) -> list[tuple[int, Reply]]:
-    """The same by all messages of the domain up to then, as they were sent."""
+    """The same by all messages of the domain up to then, as they were sent. None is held in memory."""
     state_before(past, at)  # (that the archive has it)
-    state, parts, places = State(), [], []
-    changes = [change for change in past.scanned(0) if change.began() <= at and not change.is_skipped()]
-    for change in [*changes, None]:
+    asked: dict[int, int] = {}
+    found = [(asked[place], reply) for place, reply in enumerate(replay(all_messages(past, at, request, asked)))
+             if place in asked]
+    return [(number if place else 0, reply) for place, (number, reply) in enumerate(found)]
+
+
+def all_messages(past: Past, at: float, request: bytes, asked: dict[int, int]) -> Iterator[tuple[int, bytes]]:
+    """All messages of a domain up to a moment, and the asks: behind all of them, and before the change that was under
+    way then. `asked` gets their places, each with the entry before it."""
+    state, count, last = State(), 0, 0
+    until = itertools.takewhile(lambda change: change.began() <= at, past.scanned(0))
+    for change in itertools.chain((change for change in until if not change.is_skipped()), [None]):
+        parts = []
         if change is None or change.ended() > at:
-            asked, which = state.asks(past.domain, [request])
-            places.append((0 if not places else changes[-1].number(), len(parts) + which[0]))
-            parts += asked
-        if change is not None:
+            parts, which = state.asks(past.domain, [request])
+            asked[count + which[0]] = last
+        if change:
             parts.append(bytes_of_entry(change.entry.head, change.body(), OPERATOR))
+            last = change.number()
             if change.reply:
                 state.take(change)
-    replies = list(replay((int(at // 1), part) for part in parts))
-    return [(number, replies[place]) for number, place in places]
+        count += len(parts)
+        yield from ((int(at // 1), part) for part in parts)
 
 
 # ---- states

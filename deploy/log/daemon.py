@@ -18,7 +18,6 @@ from .keeping import Keeping
 from .messages import Message, bytes_of, bytes_of_entry, entry_of, is_one_of, route_of, token_in
 from .pdpd import Another, Lost, NotSent, Reply, replies
 from .record import Record
-from .sealing import sealed
 from .server import answer
 
 # How long a change waits for its turn, and then for its reply; both are less than HAProxy waits for the daemon.
@@ -189,7 +188,8 @@ class Daemon:
         """How far it is, as JSON; HAProxy leads no client here."""
         archive = self.archive
         body = json.dumps({
-            "position": archive.position, "pending": int(archive.pending is not None), "waiting": len(self.waiting),
+            "position": archive.position, "last_change_timestamp_seconds": archive.at,
+            "pending": int(archive.pending is not None), "waiting": len(self.waiting),
             "archive_bytes": sum(segment.path.stat().st_size for segment in segments_in([archive.folder])),
             "room_bytes": archive.room() - self.room}).encode()
         return b"HTTP/1.1 200 OK\r\nContent-Type: application/json\r\nContent-Length: %d\r\n\r\n%s" % (len(body), body)
@@ -245,8 +245,8 @@ class Daemon:
             change.end(UNAVAILABLE)
             return
         try:
-            more, key = self.keeping.before(change.head["domain"], self.archive.position + 1)
-            entry = self.archive.add_entry({**change.head, **more}, sealed(key, change.body))
+            more, data = self.keeping.as_kept(change.head["domain"], self.archive.position + 1, change.body)
+            entry = self.archive.add_entry({**change.head, **more}, data)
         except (NoRoom, OSError, Forgotten) as fault:
             self.say(f"no change is taken: {fault}")
             change.end(UNAVAILABLE)

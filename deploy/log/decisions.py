@@ -10,6 +10,7 @@ import bisect
 import hashlib
 import itertools
 import json
+import os
 import pathlib
 import re
 from collections.abc import Iterable, Iterator
@@ -17,7 +18,7 @@ from dataclasses import dataclass
 
 from .archive import Segment
 from .domains import Forgotten
-from .history import Change, Unknown, ask, messages_again
+from .history import Change, State, Unknown, ask, messages_again
 from .past import Past, micros, pasts_of
 from .receiving import files_in
 from .replaying import ASKER, replay
@@ -31,7 +32,9 @@ def lines_of(path: pathlib.Path, since: float) -> Iterator[str]:
     for file in files_in(path) if path.is_dir() else [path]:
         if file.stat().st_mtime < since:
             continue
-        with open(file, encoding="utf-8", errors="replace") as lines:
+        # (the open of a pipe would wait for whoever writes into it)
+        opened = os.open(file, os.O_RDONLY | os.O_NONBLOCK | os.O_CLOEXEC)
+        with open(opened, encoding="utf-8", errors="replace") as lines:
             for line in lines:
                 found = re.match(r'\{"begin":(\d{1,17}),', line)
                 if not found or int(found[1]) >= since * 1e6:
@@ -90,25 +93,32 @@ def by_life(past: Past, asked: list[Decision]) -> list[list[Decision]]:
 
 
 def work_out(past: Past, asked: list[Decision]) -> None:
-    """Notes which decisions are as they were logged: from a checkpoint before the first one on. The bodies of the
-    changes since are held in memory."""
+    """Notes which decisions are as they were logged: from a checkpoint before the first one on. The changes since are
+    held in memory, as the archive has them."""
     state, rest = past.since(min(one.begin for one in asked))
     last = max(one.end for one in asked)
     changes = list(itertools.takewhile(lambda change: change.began() <= last, rest))
-    behind = asked_behind(changes, asked)
-    parts = [(0, message) for message in state.messages(past.domain)]
-    wanted: list[tuple[int, Decision]] = []
+    wanted: dict[int, Decision] = {}
+    for place, reply in enumerate(replay(messages_of(past, state, changes, asked, wanted))):
+        one = wanted.pop(place, None)
+        if one and reply.status == 200 and hashlib.sha256(reply.body()).hexdigest() == one.digest:
+            one.is_same = True
+
+
+def messages_of(past: Past, state: State, changes: list[Change], asked: list[Decision],
+                wanted: dict[int, Decision]) -> Iterator[tuple[int, bytes]]:
+    """A state, the changes behind it, and between them the requests for decisions that may have been answered there.
+    `wanted` gets the places of these, each with its decision."""
+    behind, count = asked_behind(changes, asked), 0
     for place in range(max(behind, default=-1) + 1):
-        if place > 0:
-            parts += [(0, message) for message in messages_again(changes[place - 1])]
+        made = messages_again(changes[place - 1]) if place else state.messages(past.domain)
+        count += len(made)
+        yield from ((0, message) for message in made)
         for moment, ones in sorted(behind.get(place, {}).items()):
             for one in ones:
-                wanted.append((len(parts), one))
-                parts.append((moment, ask(past.domain, ASKER, one.request)))
-    replies = list(replay(parts))
-    for place, one in wanted:
-        if replies[place].status == 200 and hashlib.sha256(replies[place].body()).hexdigest() == one.digest:
-            one.is_same = True
+                wanted[count] = one
+                count += 1
+                yield moment, ask(past.domain, ASKER, one.request)
 
 
 def verify(archives: list[list[Segment]], lines: Iterable[str]) -> Iterator[tuple[str, str]]:

@@ -3,7 +3,7 @@
     domains/D/places          where its changes are, 56 bytes for each: see Place
     domains/D/K.key           the key of the bodies from entry K on, until the domain is removed
     domains/D/K/N.TIME        the checkpoint behind entry N, which was answered at TIME, in microseconds
-    domains/D/K/DIGEST.text   a text of such checkpoints, sealed, under its SHA-256
+    domains/D/K/DIGEST.text   a text of such checkpoints, deflated and sealed, under its SHA-256
 
 D is of the SHA-256 of the domain's name. Places and checkpoints only save time: each entry names the domain's entry
 before it, so one that is missing among the places is seen, and then all records are read.
@@ -16,10 +16,11 @@ import pathlib
 import re
 import shutil
 import struct
+import zlib
 from collections.abc import Callable
 from typing import NamedTuple
 
-from .sealing import KEY_BYTES, opened, sealed
+from .sealing import KEY_BYTES, inflated, opened, sealed
 
 PLACE = struct.Struct("<7Q")
 KEY = re.compile(r"(\d{16})\.key")
@@ -83,7 +84,8 @@ class Places:
 
     def __init__(self, folder: pathlib.Path):
         try:
-            self.file = os.open(folder / "places", os.O_RDONLY | os.O_CLOEXEC | os.O_NOFOLLOW)
+            # (the open of a pipe would wait for whoever writes into it)
+            self.file = os.open(folder / "places", os.O_RDONLY | os.O_NOFOLLOW | os.O_NONBLOCK | os.O_CLOEXEC)
         except FileNotFoundError:
             self.file, self.count = -1, 0
             return
@@ -191,7 +193,7 @@ def add_text(folder: pathlib.Path, key: bytes, text: bytes) -> str:
     digest = hashlib.sha256(text).hexdigest()
     path = folder / f"{digest}.text"
     if not path.exists():
-        write_synced(path, sealed(key, text))
+        write_synced(path, sealed(key, zlib.compress(text)))
     return digest
 
 
@@ -199,6 +201,8 @@ def text_of(folder: pathlib.Path, key: bytes, digest: str) -> bytes | None:
     """The text of that digest; None where it isn't what was kept."""
     try:
         text = opened(key, read_whole(folder / f"{digest}.text"))
-    except OSError:
+        if hashlib.sha256(text).hexdigest() != digest:  # (earlier versions deflated none)
+            text = inflated(text)
+    except (OSError, ValueError):
         return None
     return text if hashlib.sha256(text).hexdigest() == digest else None

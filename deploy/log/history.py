@@ -12,7 +12,7 @@ from .domains import Forgotten, key_at
 from .messages import bytes_of
 from .record import Damaged, Record, first_prev
 from .replaying import ASKER, OPERATOR
-from .sealing import opened
+from .sealing import inflated, opened
 
 # a domain has no more tokens
 MOST_TOKENS = 32
@@ -34,7 +34,18 @@ class Change:
         """The body of the message."""
         if not self.entry.body:
             return b""
-        return opened(key_at(self.home, self.domain(), self.entry.head["key"]), self.entry.body)
+        data = opened(key_at(self.home, self.domain(), self.entry.head["key"]), self.entry.body)
+        if self.entry.head.get("coding") != "deflate":
+            return data
+        try:
+            return inflated(data)
+        except ValueError as fault:
+            raise self.unreadable(fault) from None
+
+    def unreadable(self, fault: ValueError) -> Damaged:
+        """The error that its body isn't what was logged, though its record is."""
+        return Damaged(f"the body of entry {self.number()} can't be read ({fault}): its domain's key is another one "
+                       "than it was sealed with")
 
     def is_forgotten(self) -> bool:
         """Whether the domain that it changed was removed and forgotten."""
@@ -49,6 +60,11 @@ class Change:
         if not is_of_whole(self) or self.entry.head["method"] != "DELETE":
             return False
         return self.status() == 200 or self.is_again() and self.status() == 404
+
+    def sets_rows(self) -> bool:
+        """Whether it has replaced the table of attributes."""
+        return self.entry.head["who"] == "admin" and self.entry.head["path"].endswith("/pip") and \
+            self.status() in (200, 201)
 
     def number(self) -> int:
         return self.entry.head["n"]
@@ -183,8 +199,26 @@ class State:
         if is_older(change, self.is_there):
             self.is_known = False
         if made:
-            parts = head["path"].split("/")
-            (self.take_operators if parts[1] == "operator" else self.take_admins)(head, parts, change.body())
+            parts, body = head["path"].split("/"), change.body()
+            try:
+                (self.take_operators if parts[1] == "operator" else self.take_admins)(head, parts, body)
+            except ValueError as fault:
+                raise change.unreadable(fault) from None
+
+    def take_all(self, changes: Iterable[Change]) -> None:
+        """Makes changes in order. Of a table that a later one replaces the body isn't read."""
+        rows = None
+        for change in changes:
+            if is_of_whole(change) and rows:
+                self.take(rows)
+                rows = None
+            if change.sets_rows():
+                self.is_known = self.is_known and not is_older(change, self.is_there)
+                rows = change
+            else:
+                self.take(change)
+        if rows:
+            self.take(rows)
 
     def take_operators(self, head: dict, parts: list[str], body: bytes) -> None:
         if len(parts) == 4:

@@ -12,6 +12,7 @@ from .domains import Place, Places, add_places, checkpoints_in, folder_of, key_a
 from .history import Change, Unknown, changes_in
 from .past import Past, Wrong, micros
 from .record import Damaged, Record
+from .sealing import deflated, sealed
 
 # a checkpoint is written behind so many changes of a domain, or so many bytes of their bodies
 MOST_CHANGES, MOST_BYTES = 1_000, 2_000_000
@@ -76,6 +77,12 @@ class Keeping:
             key = make_key(self.home, domain, number)
             return {"before": known.last, "key": number}, key
         return {"before": known.last, "key": known.key}, key_at(self.home, domain, known.key)
+
+    def as_kept(self, domain: str, number: int, body: bytes) -> tuple[dict, bytes]:
+        """The same of an entry with that body, and the body as the archive has it."""
+        more, key = self.before(domain, number)
+        short = deflated(body)
+        return (more, sealed(key, body)) if short is None else ({**more, "coding": "deflate"}, sealed(key, short))
 
     def behind(self, entry: Record, reply: Record) -> None:
         """Notes the place of a change that is answered."""

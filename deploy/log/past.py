@@ -3,6 +3,7 @@ checkpoints, or by all records where there are no such or wrong ones."""
 from __future__ import annotations
 
 import hashlib
+import itertools
 import json
 import pathlib
 from collections.abc import Iterator
@@ -98,7 +99,10 @@ class Past:
         digest, _, data = read_whole(path).partition(b"\n")
         if hashlib.sha256(data).hexdigest().encode() != digest:
             return None
-        held = json.loads(opened(key, data))
+        try:
+            held = json.loads(opened(key, data))
+        except ValueError:
+            return None  # (the key is another one)
         index = self.places.behind(lambda place: place.number < number)
         if held["record"] != self.change_at(index).reply.digest:
             return None
@@ -156,8 +160,7 @@ class Past:
     def state_behind(self, count: int) -> State:
         """What the domain has behind the first so many places."""
         index, state = self.start(count)
-        for place in range(index, count):
-            state.take(self.change_at(place))
+        state.take_all(self.change_at(place) for place in range(index, count))
         return state
 
     def since(self, at: float) -> tuple[State, Iterator[Change]]:
@@ -169,16 +172,18 @@ class Past:
             rest = self.changes(index)
         except Wrong:
             rest = self.scanned(0)
-        for change in rest:
-            if change.ended() > at:
-                return state, following(change, rest)
-            state.take(change)
-        return state, iter(())
+        first: list[Change] = []
+        state.take_all(until(at, rest, first))
+        return state, itertools.chain(first, rest)
 
 
-def following(first: Change, rest: Iterator[Change]) -> Iterator[Change]:
-    yield first
-    yield from rest
+def until(at: float, changes: Iterator[Change], first: list[Change]) -> Iterator[Change]:
+    """The changes that had ended by a moment; `first` gets the one behind them."""
+    for change in changes:
+        if change.ended() > at:
+            first.append(change)
+            return
+        yield change
 
 
 def state_before(past: Past, at: float) -> tuple[State, Change | None]:

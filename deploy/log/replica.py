@@ -61,7 +61,8 @@ def main(words: list[str]) -> int:
         print(f"pdpd-replica: {fault}", file=sys.stderr)
         return EXIT_DAMAGED
     except (OSError, ValueError, KeyError) as fault:
-        print(f"pdpd-replica: {fault}", file=sys.stderr)
+        reason = [str(found) for name in ("filename", "strerror") if (found := getattr(fault, name, None))]
+        print(f"pdpd-replica: {': '.join(reason) or fault}", file=sys.stderr)
         return EXIT_DISK
     daemon.start()
     print(f"listening {given.listen}", flush=True)

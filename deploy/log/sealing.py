@@ -1,4 +1,5 @@
 """Bodies under a domain's own key: AES-256 in counter mode, by the libcrypto of OpenSSL, which Python's own hashes use.
+Before that they are deflated (RFC 1950): what is sealed can't be made shorter any more.
 
 Who has no key reads no body, and neither does anybody once the key is gone. That a sealed body wasn't changed is shown
 by the record that has it, and not here.
@@ -8,9 +9,12 @@ from __future__ import annotations
 import ctypes
 import functools
 import os
+import zlib
 
 KEY_BYTES, START_BYTES = 32, 16
 LIBRARIES = ("libcrypto.so.3", "libcrypto.so.1.1")
+# how long a body is that is inflated: twice pdpd's longest
+MOST_INFLATED = 1 << 20
 
 
 class Sealing(Exception):
@@ -60,3 +64,21 @@ def sealed(key: bytes, body: bytes) -> bytes:
 def opened(key: bytes, data: bytes) -> bytes:
     """The body in what `sealed` gave."""
     return counted(key, data[:START_BYTES], data[START_BYTES:]) if data else b""
+
+
+def deflated(body: bytes) -> bytes | None:
+    """A body, deflated; None where that wouldn't be shorter."""
+    found = zlib.compress(body)
+    return found if len(found) < len(body) else None
+
+
+def inflated(data: bytes) -> bytes:
+    """The body that was deflated; a ValueError where it is none of at most so many bytes."""
+    reader = zlib.decompressobj()
+    try:
+        found = reader.decompress(data, MOST_INFLATED)
+    except zlib.error as fault:
+        raise ValueError(f"it isn't deflated: {fault}") from None
+    if not reader.eof:
+        raise ValueError(f"it is cut, or has more than {MOST_INFLATED} bytes")
+    return found

@@ -8,7 +8,7 @@ from __future__ import annotations
 import contextlib
 import copy
 import pathlib
-from collections.abc import Iterator
+from collections.abc import Iterable, Iterator
 
 from . import trial
 from .settings import FILE, Settings, Wrong, read, text_of, words_of, write_whole
@@ -37,6 +37,25 @@ def apply(settings: Settings, name: int | str) -> None:
     FOLDER.mkdir(exist_ok=True)
     FOLDER.chmod(0o755)  # (whatever root's umask is: `pdpd-run` looks into it as the user pdpd)
     write_whole(place(name), settings.text)
+
+
+def note_kept(settings: Settings, shards: Iterable[int]) -> None:
+    """Notes of shards that answer that there is a store, and an archive of changes: where one isn't there any more, as
+    where its disk isn't mounted, no empty one is begun in its place (`pdpd-run`). (Of several machines one that has
+    lost its store begins with nothing, and the log says what it lacks.)"""
+    for shard in shards if not settings.machines else ():
+        archive = pathlib.Path(settings.archives) / str(shard)
+        kept = {"store": (settings.folder(shard) / trial.STORE).exists(),
+                "archive": settings.audit and archive.is_dir() and any(archive.glob("*.log"))}
+        for kind, is_there in kept.items():
+            if is_there and not (note := FOLDER / f"{shard}.{kind}").exists():
+                FOLDER.mkdir(exist_ok=True)
+                write_whole(note, "")
+
+
+def is_lost(settings: Settings, shard: int) -> bool:
+    """Whether a shard's store isn't there, and was."""
+    return (FOLDER / f"{shard}.store").exists() and not (settings.folder(shard) / trial.STORE).exists()
 
 
 def apply_where_none(settings: Settings, shards: list[int]) -> None:

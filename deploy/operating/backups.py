@@ -6,7 +6,6 @@ instant would have left, so all that was answered is in it. Files that are copie
 refused as damaged, or, worse, open and lack what was answered.
 """
 import contextlib
-import hashlib
 import os
 import pathlib
 import re
@@ -17,10 +16,10 @@ import sys
 import time
 
 from . import applied, listener, supervisor
-from .owned import Folder, run
+from .owned import Folder, run, sum_of
 from .standing import user_of_shards
 from .settings import Wrong, alone, harmless, put_off_signals, words_of
-from .trial import FILES, copy_files, domains_in_backup
+from .trial import FILES, copy_files, domains_in_backup, refuse_moved
 
 # the name of a backup
 NAME = re.compile(r"[0-9]{8}T[0-9]{6}(\.[0-9]{3})?Z")
@@ -30,10 +29,14 @@ SOON = 60
 AHEAD = 60
 # how long the program may take that copies a backup away, in seconds
 HOOK = 3600.0
+# how many letters of a reason are kept
+TOLD = 500
 # the file in a backup's folder that says that it was
 COPIED = "copied"
 
 
+# the file in a shard's folder of backups that says why the last one that a service tried wasn't made
+FAILED = "failed"
 # the file of a backup that has its number of domains, and that of the backup before, and the one that has the SHA-256
 # of each of its files, as `sha256sum --check` reads it
 COUNTS, SUMS = "domains", "sums"
@@ -81,7 +84,7 @@ def fill_backup(settings, shard, pid, made):
             copy_files(place, made, is_open_in=pid)
         took = time.perf_counter() - began
     # where its domains are found, for a machine that begins anew
-    made.write("shard", f"{shard} of {settings.shards}\n")
+    made.write("shard", f"{shard} of {settings.shards}\n{os.uname().nodename}\n")
     if settings.map.exists():
         made.write(settings.map.name, settings.map.read_text())
     made.sync()
@@ -93,11 +96,8 @@ def sums_of(folder):
     lines = ""
     for name in FILES:
         if folder.has(name):
-            digest = hashlib.sha256()
             with folder.reading(name) as file, open(file, "rb", closefd=False) as read:
-                while data := read.read(2 ** 20):
-                    digest.update(data)
-            lines += f"{digest.hexdigest()}  {name}\n"
+                lines += f"{sum_of(read, str(folder.path / name))}  {name}\n"
     return lines
 
 
@@ -130,6 +130,7 @@ def backup(settings, shard):
     if not pid:
         raise Wrong(f"shard {shard} doesn't run: start it, or copy its files, which nobody changes, yourself")
     make_lost_folder(settings, shard)
+    refuse_moved(settings.folder(shard), pid)
     name = name_of_moment()
     path = pathlib.Path(settings.backups) / str(shard)
     path.parent.mkdir(mode=0o711, exist_ok=True)
@@ -147,6 +148,7 @@ def backup(settings, shard):
                 unfinished.write(SUMS, sums_of(unfinished))
                 unfinished.sync()
             os.rename(f".{name}", name, src_dir_fd=folders.fd, dst_dir_fd=folders.fd)
+            folders.clear(FAILED)
             folders.sync()
         finally:
             folders.clear(f".{name}")
@@ -208,6 +210,28 @@ def emptied(settings, shard):
             "backup says nothing of it")
 
 
+def note_failure(settings, shard, why):
+    """Notes why a service's backup of a shard wasn't made, until one is: `status` tells it."""
+    place = pathlib.Path(settings.backups) / str(shard)
+    with contextlib.suppress(Wrong, OSError):  # (of one that can't be noted the log tells, and the age of the others)
+        with Folder(place) as folders:
+            folders.clear(FAILED)
+            folders.write(FAILED, f"{harmless(why)[:TOLD]}\n")
+
+
+def failure(settings, shard):
+    """What is told where the last backup of a shard that a service tried wasn't made, and none since then."""
+    path = pathlib.Path(settings.backups) / str(shard) / FAILED
+    try:
+        with open(path, encoding="utf-8", errors="replace") as file:
+            at, why = path.stat().st_mtime, file.read(TOLD).strip()
+    except FileNotFoundError:
+        at, why = supervisor.of(settings).failed_backup(shard)
+    newest = max((folder.stat().st_mtime for folder in backups_of(settings, shard)[-1:]), default=0.0)
+    moment = time.strftime("%H:%M UTC", time.gmtime(at))
+    return f"the last backup of shard {shard}, at {moment}, failed: {why}" if at > newest else None
+
+
 def summary(path, domains, took):
     """What is told of a backup."""
     return f"{path}, {len(domains)} domains, still for {took * 1000:.0f} ms"
@@ -247,4 +271,6 @@ def keep_making(seconds):
             except (Wrong, OSError, subprocess.SubprocessError) as fault:
                 what = "NO BACKUP" if path is None else "NO COPY of the backup"
                 tell(f"{what} of shard {shard}: {words_of(fault)}")
+                if path is None:
+                    note_failure(settings, shard, words_of(fault))
         time.sleep(seconds if found else SOON)

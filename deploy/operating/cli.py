@@ -31,8 +31,8 @@ import subprocess
 import sys
 
 from . import (
-    applied, backups, figures, listener, metrics, moving, proxy, replicated, restoring, room, status, supervisor, talk,
-    watchdog, written)
+    applied, backups, figures, front, installed, listener, metrics, moving, proxy, replicated, restoring, room, status,
+    supervisor, talk, watchdog, written)
 from .settings import DOMAIN, ENDS, FILE, Wrong, alone, errors_of, harmless, number_in_word, read, words_of
 
 
@@ -40,11 +40,15 @@ def say(what):
     print(harmless(f"pdpd-shards: {what}"), flush=True)
 
 
+def tell_warning(what):
+    print(harmless(f"pdpd-shards: WARNING: {what}"), file=sys.stderr, flush=True)
+
+
 def warn(settings):
     """Tells of settings of earlier versions, and where other users of the machine can take ports."""
     found = listener.warning(settings)
     for what in (*settings.advice(), *([found] if found else [])):
-        print(f"pdpd-shards: WARNING: {what}", file=sys.stderr, flush=True)
+        tell_warning(what)
 
 
 def shards_in(settings, words):
@@ -59,7 +63,7 @@ def keep_room(settings):
             with alone():
                 room.reserve(settings, shard)
         except (Wrong, OSError) as fault:
-            print(harmless(f"pdpd-shards: WARNING: {words_of(fault)}"), file=sys.stderr, flush=True)
+            tell_warning(words_of(fault))
 
 
 def config(settings, words):
@@ -96,8 +100,12 @@ def services(settings, words):
     if not talk.is_there(settings):
         # (by a reload it would go on with sockets that another one took, which was started beside it)
         by.restart_proxy()
+        if not talk.is_there(settings) and (why := talk.why_away(settings)):
+            raise Wrong(f"HAProxy doesn't start. Its log says: {why}")
     for shard in range(settings.shards):
         talk.wait_until_up(settings, shard)
+    applied.note_kept(settings, range(settings.shards))
+    installed.note(is_upgrade=False)
     keep_room(settings)
     say(f"{settings.shards} shards answer, under {settings.supervisor}")
 
@@ -110,13 +118,17 @@ def reload(settings, words):
         raise Wrong(f"{settings.haproxy_etc}/haproxy.cfg leads where the shards aren't yet: give pdpd-shards restart, "
                     "and then reload")
     # a process that begins while another tool holds messages back would know nothing of it
-    by = supervisor.of(settings)
+    by, before = supervisor.of(settings), front.names_shown(settings)
     with alone():
         has_other_logs = applied.changed_of_logs(settings)
         talk.reload(settings, by)
         if has_other_logs:
             by.restart_logs(range(settings.shards))
     say("HAProxy has read its files")
+    now = front.names_shown(settings)
+    if now and (lost := sorted(before - now)):
+        tell_warning(f"the certificate isn't valid for {', '.join(lost)} any more, as the one before was, but for "
+                     f"{', '.join(sorted(now))}: clients that ask for another name refuse it")
 
 
 def restart(settings, words):
@@ -159,6 +171,7 @@ def upgrade(settings, words):
     restart(settings, [])
     with alone():
         talk.reload(settings, by)
+    installed.note(is_upgrade=True)
     say("HAProxy, the watchdog and the backups run what is installed")
     keep_room(settings)
 
@@ -345,6 +358,8 @@ def main(words):
         print(__doc__, file=sys.stderr)
         return 2
     try:
+        if os.geteuid() and (words[0] in CHANGES or words[-1] == "--write"):
+            raise Wrong(f"only root can do that: run pdpd-shards {' '.join(words)} as root")
         settings = None if words[0] in READERS else read()
         if settings:
             replicated.refuse(settings, words[0])

@@ -31,6 +31,7 @@ HELP = {
     "pdpd_disk_free_bytes": ("gauge", "what the disk of a place has left"),
     "pdpd_replica_up": ("gauge", "1 where the daemon answers that logs a shard's changes"),
     "pdpd_replica_position": ("counter", "the last entry of a shard that is answered"),
+    "pdpd_replica_last_change_timestamp_seconds": ("gauge", "the moment of a shard's last change, as it is logged"),
     "pdpd_replica_waiting": ("gauge", "changes that wait for their turn at the daemon"),
     "pdpd_replica_pending": ("gauge", "1 while an entry has no reply"),
     "pdpd_replica_archive_bytes": ("gauge", "the archive's files of a shard, but for what was moved away"),

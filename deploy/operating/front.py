@@ -13,6 +13,8 @@ import socket
 import ssl
 import subprocess
 import time
+from collections.abc import Iterator
+from typing import NamedTuple
 
 from . import talk
 from .findings import Findings
@@ -92,15 +94,26 @@ def look_at_configuration(settings, findings: Findings) -> None:
         look_whether_it_starts(path, findings)
 
 
+def rows_of(settings, which: str) -> Iterator[dict[str, str]]:
+    """What HAProxy tells of some of its parts (`show stat`)."""
+    return csv.DictReader(io.StringIO(talk.admin_reply(settings, f"show stat {which}").lstrip("# ")))
+
+
 def look_at_limits(settings, findings: Findings) -> None:
     """Whether HAProxy was told by hand to take fewer connections than its file says, or was replaced under its
     process."""
-    said = talk.admin_reply(settings, "show stat pdp 1 -1").lstrip("# ")
-    row = next(csv.DictReader(io.StringIO(said)), {})
-    found = int(row.get("slim") or 0), int(row.get("rate_lim") or 0), talk.info(settings, "ConnRateLimit")
-    if found != (settings.clients, 0, 0):
+    row = next(rows_of(settings, "pdp 1 -1"), {})
+    rates = [talk.info(settings, f"{kind}RateLimit") for kind in ("Conn", "Sess", "Ssl")]
+    found = int(row.get("slim") or 0), int(row.get("rate_lim") or 0), *rates
+    if found != (settings.clients, 0, 0, 0, 0):
         findings.add(f"HAProxy takes {found[0]} connections of clients, and CLIENTS is {settings.clients}, or fewer a "
                      "second than come: it was told so by hand, and pdpd-shards reload has it go by its file")
+    others = [row["pxname"] for row in rows_of(settings, "-1 4 -1")
+              if re.fullmatch(r"shard\d+", row["pxname"]) and row["svname"] == "pdpd"
+              and row["slim"] not in ("", str(settings.maxconn))]
+    if others:
+        findings.add(f"HAProxy sends {first_of(others)} another number of messages at a time than MAXCONN, which is "
+                     f"{settings.maxconn}: it was told so by hand, and pdpd-shards reload has it go by its file")
     if was_removed(f"/proc/{talk.info(settings, 'Pid')}/exe"):
         findings.add("HAProxy's program was replaced since it began, as by an upgrade of its package: pdpd-shards "
                      "reload has the new one run")
@@ -181,20 +194,38 @@ def ask(address: tuple[str, int], is_tls: bool) -> tuple[int, bytes | None]:
         return connection.getresponse().status, shown
 
 
-def last_moment(address: tuple[str, int], shown: bytes) -> float | None:
-    """Until when a certificate is valid, in seconds since 1970; nothing where it isn't now. (It is verified as its own
-    authority, since Python tells no dates of others.)"""
+class Certificate(NamedTuple):
+    """Until when a certificate is valid, in seconds since 1970, and the names for which it is."""
+    last: float
+    names: list[str]
+
+
+def valid(address: tuple[str, int], shown: bytes) -> Certificate | None:
+    """What a certificate says that is shown there; nothing where it isn't valid now. (It is verified as its own
+    authority, since Python tells nothing of others.)"""
     context = ssl.SSLContext(ssl.PROTOCOL_TLS_CLIENT)
     context.check_hostname = False
     context.load_verify_locations(cadata=shown)
     context.verify_flags |= ssl.VERIFY_X509_PARTIAL_CHAIN
     try:
         with socket.create_connection(address, timeout=PATIENCE) as plain, context.wrap_socket(plain) as wrapped:
-            return ssl.cert_time_to_seconds(wrapped.getpeercert()["notAfter"])
+            held = wrapped.getpeercert()
     except ssl.SSLCertVerificationError as fault:
         if fault.verify_code in (EXPIRED, NOT_YET):
             return None
         raise
+    names = [value for _, value in held.get("subjectAltName", ())]
+    return Certificate(ssl.cert_time_to_seconds(held["notAfter"]), names or [
+        value for part in held.get("subject", ()) for kind, value in part if kind == "commonName"])
+
+
+def names_shown(settings) -> set[str]:
+    """For which names the certificate is valid that clients are shown; none where that can't be found out."""
+    with contextlib.suppress(*talk.NO_REPLY, ValueError, Wrong):
+        address = address_of(settings.tls_bind) if settings.tls_bind.strip() else None
+        if address and (found := valid(address, ask(address, True)[1])):
+            return {*found.names}
+    return set()
 
 
 def ends_soon(text: str) -> bool:
@@ -203,12 +234,12 @@ def ends_soon(text: str) -> bool:
     return subprocess.run(words, input=text, capture_output=True, text=True, check=False).returncode == 1
 
 
-def look_at_certificate(settings, address: tuple[str, int], shown: bytes, findings: Findings) -> float | None:
-    """Whether clients are shown the file's certificate, and for how many days it is valid."""
-    last = last_moment(address, shown)
-    days = (last - time.time()) / 86_400 if last is not None else 0.0
+def look_at_certificate(settings, address: tuple[str, int], shown: bytes, findings: Findings) -> Certificate | None:
+    """Whether clients are shown the file's certificate, and what it says if it is valid."""
+    said = valid(address, shown)
+    days = (said.last - time.time()) / 86_400 if said else 0.0
     if days < DAYS:
-        state = f"is valid for {days:.1f} days more" if last is not None else "has expired, or isn't valid yet"
+        state = f"is valid for {days:.1f} days more" if said else "has expired, or isn't valid yet"
         findings.add(f"the certificate {state}: put a new one into {settings.certificate}, then pdpd-shards reload")
     path = pathlib.Path(settings.certificate)
     with findings.looking("the certificate"):
@@ -219,12 +250,12 @@ def look_at_certificate(settings, address: tuple[str, int], shown: bytes, findin
             if ends_soon(text):
                 findings.add(f"a certificate that stands behind the first one in {path} is valid for less than {DAYS} "
                              "days: put a newer one there, then pdpd-shards reload")
-    return days if last is not None else None
+    return said
 
 
-def look_as_client(settings, findings: Findings) -> float | None:
-    """Asks as clients do. Gives for how many days the certificate is valid, if one is shown."""
-    days = None
+def look_as_client(settings, findings: Findings) -> Certificate | None:
+    """Asks as clients do. Gives what the certificate says, if one is shown."""
+    said = None
     for name, bind in (("TLS_BIND", settings.tls_bind), ("PLAIN_BIND", settings.plain_bind)):
         if not bind.strip():
             continue
@@ -237,16 +268,22 @@ def look_as_client(settings, findings: Findings) -> float | None:
             if status != ANSWER:
                 findings.add(f"a client's question at {name} ({bind}) is answered with {status}, in place of {ANSWER}")
             if shown:
-                days = look_at_certificate(settings, address, shown, findings)
+                said = look_at_certificate(settings, address, shown, findings)
         except (*talk.NO_REPLY, ValueError) as fault:
             findings.add(f"a client's question at {name} ({bind}) isn't answered ({words_of(fault)}): HAProxy doesn't "
                          "run with these settings, or its log says why")
     if not settings.tls_bind.strip() and not settings.plain_bind.strip():
         findings.add("TLS_BIND and PLAIN_BIND are empty: no client can connect")
-    return days
+    return said
 
 
-def look(settings, findings: Findings) -> float | None:
+def look_whether_it_starts_again(settings, findings: Findings) -> None:
+    """Why HAProxy isn't there, as its log says."""
+    if not talk.is_there(settings, AGAIN) and (why := talk.why_away(settings)):
+        findings.add(f"HAProxy doesn't run. Its log says: {why}")
+
+
+def look(settings, findings: Findings) -> Certificate | None:
     """All of it."""
     with findings.looking("HAProxy's map"):
         look_at_map(settings, findings)
@@ -256,6 +293,8 @@ def look(settings, findings: Findings) -> float | None:
         look_at_log(settings, findings)
     with findings.looking("HAProxy's limits"), contextlib.suppress(talk.NoProxy):  # (all else tells that)
         look_at_limits(settings, findings)
+    with findings.looking("HAProxy's end"):
+        look_whether_it_starts_again(settings, findings)
     try:
         return look_as_client(settings, findings)
     except Wrong as fault:

@@ -30,7 +30,7 @@ def of_shards(report) -> Iterator[Metric]:
 
 def of_all(report) -> Iterator[Metric]:
     """Those of the whole deployment."""
-    days = report.certificate_days
+    days = report.certificate_days()
     yield "pdpd_certificate_valid_seconds", "For how long the certificate is valid.", [
         ({}, None if days is None else days * DAY)]
     yield "pdpd_wrong", "How many things are wrong, the lines WRONG of pdpd-shards status.", [

@@ -54,17 +54,21 @@ def wait_until_up(settings, shards, seconds=30.0):
     for shard in shards:
         talk.wait_until_up(settings, shard, end - time.time())
     replicas.wait_until_there(settings, shards)
+    applied.note_kept(settings, shards)
 
 
 @contextlib.contextmanager
-def restart_shards(settings, *shards):
+def restart_shards(settings, *shards, are_replaced=False):
     """Restarts the shards' programs, which are stopped meanwhile, and waits until they answer.
 
-    None is stopped while the operator's token, or the program, is one with which it wouldn't start. After an error it
-    doesn't wait for long: one of them may stay away, and the messages of the others are held back meanwhile.
+    None is stopped while the operator's token, the program, or a file of its own, unless these are replaced, is one
+    with which it wouldn't start. After an error it doesn't wait for long: one of them may stay away, and the messages
+    of the others are held back meanwhile.
     """
     settings.operator()
     standing.refuse_unrunnable(settings)
+    for shard in shards if not are_replaced else ():
+        standing.refuse_unstartable(applied.where_it_is(settings, shard), shard)
     if talk.asks_elsewhere(settings):
         raise NotBegun(f"{FILE} has the shards at other places than HAProxy asks them: give pdpd-shards restart before")
     try:
@@ -78,9 +82,9 @@ def restart_shards(settings, *shards):
 
 
 @contextlib.contextmanager
-def restart_between_messages(settings, shard):
+def restart_between_messages(settings, shard, *, are_replaced=False):
     """Restarts a shard's program, which is stopped meanwhile, while its messages are held back."""
-    with holding.hold_messages(settings, shard), restart_shards(settings, shard):
+    with holding.hold_messages(settings, shard), restart_shards(settings, shard, are_replaced=are_replaced):
         yield
 
 
@@ -91,6 +95,8 @@ def restart_elsewhere(settings):
     standing.refuse_unrunnable(settings)
     written.write_configuration(settings)
     shards = range(settings.shards)
+    for shard in shards:
+        standing.refuse_unstartable(applied.where_it_is(settings, shard), shard)
     with holding.hold_messages(settings, *shards):
         with stop_shards(settings, shards):
             pass
@@ -232,6 +238,7 @@ def grow(settings, shards):
     set_in_file("SHARDS", shards)
     for shard in range(shards):
         talk.wait_until_up(larger, shard)
+    applied.note_kept(larger, range(shards))
     talk.set_in_map(larger, {"NEW": None})
     return len(shard_of)
 

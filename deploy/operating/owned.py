@@ -7,6 +7,7 @@ files is run with the owner's rights.
 from __future__ import annotations
 
 import contextlib
+import hashlib
 import os
 import pathlib
 import pwd
@@ -16,7 +17,7 @@ import stat
 import subprocess
 import time
 from collections.abc import Iterator, Sequence
-from typing import Any, NamedTuple
+from typing import Any, BinaryIO, NamedTuple
 
 from .settings import ENDS, Wrong
 
@@ -131,10 +132,14 @@ class Folder:
         with self.making(name, user) as file, open(file, "w", encoding="utf-8", closefd=False) as lines:
             lines.write(text)
 
-    def line(self, name: str) -> str:
-        """The first line of a small file, which a tool may have made."""
+    def lines(self, name: str) -> list[str]:
+        """The lines of a small file, which a tool may have made."""
         with self.reading(name, is_tools=True) as file:
-            return os.read(file, 200).decode(errors="replace").partition("\n")[0]
+            return os.read(file, 200).decode(errors="replace").split("\n")
+
+    def line(self, name: str) -> str:
+        """The first one."""
+        return self.lines(name)[0]
 
     def new_folder(self, name: str) -> Folder:
         """A new folder into which nobody else can put anything, whoever owns this one."""
@@ -219,6 +224,17 @@ def run(what: str, words: Sequence[object], seconds: float = PATIENCE, **how: An
     if child.returncode < 0:
         raise Wrong(f"{what} was ended by signal {-child.returncode}")
     return child.returncode, said.strip()
+
+
+def sum_of(file: BinaryIO, what: str, seconds: float = PATIENCE) -> str:
+    """The SHA-256 of a file, which its user may have made longer than any disk is: an error where it isn't read to its
+    end within that time."""
+    digest, end = hashlib.sha256(), time.monotonic() + seconds
+    while data := file.read(2 ** 20):
+        if time.monotonic() > end:
+            raise Wrong(f"{what} isn't read to its end within {seconds:.0f} s: look what it is")
+        digest.update(data)
+    return digest.hexdigest()
 
 
 def copy_file(source: Folder, target: Folder, name: str, user: User | None = None) -> None:

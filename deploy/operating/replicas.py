@@ -18,11 +18,15 @@ from .processes import removed_files
 from .settings import Settings
 
 FIGURES = ("position", "waiting", "pending", "archive_bytes", "room_bytes")
+# and what one of an earlier version doesn't tell
+LAST = "last_change_timestamp_seconds"
 LONGEST = 4_096
 # how long a question waits, and an entry may be without its reply before that is told, in seconds
 PATIENCE, PENDING = 2.0, 3.0
 # after how long decisions should have been worked out again, in seconds
 VERIFIED = 26 * 3600
+# by how much the last change may be beyond now, in seconds
+AHEAD = 60
 # what the nightly job tells of (pdpd-log verify)
 KINDS = ("same", "other", "refused", "unverified")
 # what is raised where nothing is told
@@ -59,7 +63,8 @@ def figures(settings: Settings, shard: int) -> dict[str, float] | None:
     try:
         connection.request("GET", "/figures")
         held = json.loads(connection.getresponse().read(LONGEST))
-        return {name: float(held[name]) for name in (*FIGURES, *(["lease"] if settings.machines else []))}
+        more = ["lease"] if settings.machines else []
+        return {**{name: float(held[name]) for name in (*FIGURES, *more)}, LAST: float(held.get(LAST, 0))}
     except PermissionError:
         raise
     except UNTOLD:
@@ -84,6 +89,21 @@ def wait_until_there(settings: Settings, shards: Iterable[int], seconds: float =
             time.sleep(0.05)
 
 
+def unit_of(settings: Settings, shard: int) -> str:
+    """How the supervisor calls the daemon of a shard."""
+    return f"pdpd-replica{'-' if settings.supervisor == 'runit' else '@'}{shard}"
+
+
+def why_silent(settings: Settings, shard: int) -> str:
+    """Why a daemon doesn't answer whose archive is well: its socket was removed, or its log says it."""
+    by, unit = supervisor.of(settings), unit_of(settings, shard)
+    path = pathlib.Path(settings.audit_run) / str(shard) / "socket"
+    if by.supervised(unit) and not path.exists():
+        return f"the socket {path} of pdpd-replica isn't there: restart {unit}"
+    line = by.last_line(unit)
+    return f"pdpd-replica doesn't answer: the log of {unit} ends with: {line or 'nothing'}"
+
+
 def why_away(settings: Settings, shard: int) -> str:
     """Why the daemon of a shard doesn't answer."""
     folder = pathlib.Path(settings.archives) / str(shard)
@@ -96,12 +116,12 @@ def why_away(settings: Settings, shard: int) -> str:
         return str(fault)
     except UNTOLD as fault:
         return f"{folder} can't be read ({fault!r})"
-    return f"pdpd-replica doesn't answer: the log of pdpd-replica-{shard} says why"
+    return why_silent(settings, shard)
 
 
 def tell_removed(settings: Settings, name: str, folder: pathlib.Path, findings: Findings) -> None:
     """Tells of files that were removed while a service writes into them."""
-    unit = name if settings.supervisor == "runit" else name.replace("replica-", "replica@")
+    unit = name if settings.supervisor == "runit" else name.replace("replica-", "replica@")  # (as `unit_of`)
     for file, place in removed_files(supervisor.of(settings).supervised(unit)).items():
         if file.startswith(f"{folder}/"):
             findings.add(f"{file} was removed while {unit} writes into it, and what is in it is lost once that ends: "
@@ -141,6 +161,12 @@ def look(settings: Settings, shard: int, findings: Findings) -> int | None:
         if found.get("lease") == 0:
             findings.add(f"shard {shard} decides nothing on this machine, whose lease is over: pdpd-replicas status")
         tell_removed(settings, f"pdpd-replica-{shard}", pathlib.Path(settings.archives) / str(shard), findings)
+        if (ahead := found[LAST] - time.time()) > AHEAD:
+            findings.add(f"the archive of shard {shard} is {ahead / 3600:.1f} hours beyond this clock, which was "
+                         "ahead, or is behind: changes are logged as of that moment until then. If the clock is right "
+                         f"now, begin another archive: stop {unit_of(settings, shard)}, move what is in "
+                         f"{settings.archives}/{shard} elsewhere, remove {applied.FOLDER}/{shard}.archive, and start "
+                         "it")
         position = int(found["position"])
         if found["pending"] and time.monotonic() >= end:
             findings.add(f"entry {position + 1} of shard {shard} gets no reply, and no change passes it: the log of "

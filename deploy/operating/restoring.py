@@ -97,6 +97,10 @@ class Plan(NamedTuple):
     astray: dict[str, object]
     # whether its sums have shown that it is as it was made
     is_summed: bool
+    # the machine on which it was made, where that isn't this one
+    elsewhere: str
+    # whether changes are logged
+    is_logged: bool
 
     def lines(self) -> list[str]:
         """What is told before it is done."""
@@ -108,6 +112,10 @@ class Plan(NamedTuple):
             lines += [f"away then: {listed(now - then)}", f"there again: {listed(then - now)}"]
             lines.append(f"as they were then: {listed(now & then)}. Policies and attributes are those of then, and "
                          "tokens that were revoked since are valid again")
+        if self.elsewhere:
+            lines.append(f"it was made on another machine, {self.elsewhere}, and this is {os.uname().nodename}")
+        if self.is_logged:
+            lines.append("the log of changes isn't told: what it says of since then isn't what the shard has")
         if not self.is_summed:
             lines.append("it has no sums: that all of it is there, and as it was made, isn't known")
         if self.astray:
@@ -149,6 +157,12 @@ def refuse_other_shard(shard: int, source: Folder) -> None:
                     "nobody")
 
 
+def made_elsewhere(source: Folder) -> str:
+    """The name of the machine on which a backup was made; nothing where that is this one, or isn't known."""
+    said = source.lines("shard")[1:2] if source.has("shard") else []
+    return said[0] if said and said[0] not in ("", os.uname().nodename) else ""
+
+
 def plan(settings, shard: int, name: str) -> Plan:
     """What a put-back would do. The backup is opened."""
     settings.operator()
@@ -156,6 +170,7 @@ def plan(settings, shard: int, name: str) -> Plan:
         refuse_other_shard(shard, source)
         refuse_damaged(source)
         is_summed = source.has(SUMS) or ASIDE.fullmatch(name) is not None
+        elsewhere = made_elsewhere(source)
         domains = domains_in_folder(settings, shard, source)
     try:
         before = talk.domains_of(settings, shard)
@@ -166,7 +181,7 @@ def plan(settings, shard: int, name: str) -> Plan:
     known, _ = moving.map_or_why_not(settings)
     places = {name: talk.place(settings, known, name) for name in domains}
     return Plan(shard, name, domains, before, {name: led for name, led in places.items() if led != shard},
-                is_summed)
+                is_summed, elsewhere, bool(settings.audit))
 
 
 def put_back(settings, planned: Plan) -> pathlib.Path:
@@ -180,7 +195,7 @@ def put_back(settings, planned: Plan) -> pathlib.Path:
         with place.new_folder(COMING) as coming, folder_aside(place) as aside, leave_nothing(place, aside):
             copy_files(source, coming, place.owner)
             coming.sync()
-            with moving.restart_between_messages(settings, shard):
+            with moving.restart_between_messages(settings, shard, are_replaced=True):
                 write_mark(place, coming, aside)
                 replace_files(place, coming, aside)
                 place.clear(COMING)

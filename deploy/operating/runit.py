@@ -87,18 +87,31 @@ class Runit:
         """Whether runit runs a service once it looks into its folder anew."""
         return (self.services / name / "run").exists() and not (self.services / name / "down").exists()
 
+    def files(self):
+        """The folders and scripts by which runit starts what there is of the deployment."""
+        names = sorted({*self.folders.glob("pdpd-*"), self.folders / "haproxy"})
+        return [self.services, self.folders, *names, *(place / name for place in names for name in ("run", "log/run"))]
+
     def log_of(self, name):
         """Where the log of a service is."""
         return str(LOGS / name / "current")
 
+    def last_lines(self, name):
+        """The last lines of it, without their moments."""
+        return [line.partition(" ")[2] for line in end_of(self.log_of(name))]
+
     def last_line(self, name):
-        """The last line of it, without its moment."""
-        return last_of([line.partition(" ")[2] for line in end_of(self.log_of(name))])
+        """The last one."""
+        return last_of(self.last_lines(name))
 
     def unlogged(self, names):
         """Those of these services that run and whose lines nobody takes, or wouldn't after the machine's next start."""
         return [name for name in names if self.process(name)
                 and (not self.is_running(f"{name}/log") or (self.services / name / "log" / "down").exists())]
+
+    def failed_backup(self, shard):
+        """When one failed, and why: never, since the service of backups notes it, and goes on."""
+        return 0.0, ""
 
     def removed_logs(self, names):
         """Those of these services whose log goes into a file that was removed."""

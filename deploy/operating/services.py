@@ -7,7 +7,7 @@ from .processes import REMOVED, children_of
 from .settings import Wrong
 
 # what holds the pipe of a program's input: the program is its child
-HOLDER = b"/pdpd-hold"
+HOLDER = "/pdpd-hold"
 
 
 def run(*words):
@@ -17,13 +17,21 @@ def run(*words):
     return result.stdout.strip()
 
 
+def holder_of(process):
+    """The path of the script that holds a shard's program, by the process that is supervised; nothing where it does
+    not."""
+    try:
+        words = pathlib.Path(f"/proc/{process}/cmdline").read_text(errors="replace").split("\0")
+    except (FileNotFoundError, ProcessLookupError):
+        return ""
+    return next((word for word in words[:2] if word.endswith(HOLDER)), "")
+
+
 def program_of(process):
     """The process of a shard's program, by the one that is supervised; 0 where it runs none yet."""
-    try:
-        words = pathlib.Path(f"/proc/{process}/cmdline").read_bytes().split(b"\0")
-    except (FileNotFoundError, ProcessLookupError):
+    if not process or not os.path.exists(f"/proc/{process}"):
         return 0
-    if not any(word.endswith(HOLDER) for word in words[:2]):
+    if not holder_of(process):
         return process  # (of an earlier version)
     return next(iter(children_of(process)), 0)
 

@@ -7,8 +7,10 @@ import pathlib
 import pwd
 import stat
 import time
+from collections.abc import Iterator
+from typing import NamedTuple
 
-from . import applied, supervisor, talk, trial
+from . import applied, installed, supervisor, talk, trial, writable
 from .findings import Findings
 from .owned import User, advice, as_user, name_of, run, surroundings
 from .processes import is_stopped
@@ -16,6 +18,8 @@ from .settings import FILE, LIBRARY, Settings, Wrong
 
 # the user of the shards' programs, as their services have it
 USER = "pdpd"
+# what SQLite may have beside a store
+BESIDE = f"{trial.STORE}-journal", f"{trial.STORE}-shm"
 # after how long is looked again for a service that doesn't run: a supervisor starts it again within a second
 AGAIN = 1.5
 
@@ -69,41 +73,83 @@ def look_at_secrets(settings: Settings, findings: Findings) -> None:
                 findings.add(f"{path} isn't root's: chown root {path}, and replace what is in it")
 
 
-def look_at_folder(folder: pathlib.Path, shard: int, findings: Findings) -> bool:
-    """Whether a shard's folder is its user's. It tells where it isn't, and where others may come in."""
+class Fault(NamedTuple):
+    """What is wrong with a shard's files, and whether it couldn't start again by that."""
+    what: str
+    is_fatal: bool = True
+
+
+def faults_of_folder(folder: pathlib.Path, shard: int) -> Iterator[Fault]:
+    """What is wrong with a shard's folder: it isn't its user's, or others may come in."""
     found = mode_of(folder)
     if not found:
-        return True  # (what looks at the files tells it)
+        return  # (what looks at the files tells it)
     owner = name_of(found.st_uid)
     if owner != USER:
-        findings.add(f"{folder} is the user {owner}'s, and the program of shard {shard} can't come into it: chown "
-                     f"{USER}:{USER} {folder}")
+        yield Fault(f"{folder} is the user {owner}'s, and the program of shard {shard} can't come into it: chown "
+                    f"{USER}:{USER} {folder}")
     elif found.st_mode & 0o077:
-        findings.add(f"others than the user {USER} may come into {folder}, or change what is in it: chmod 700 {folder}")
+        yield Fault(f"others than the user {USER} may come into {folder}, or change what is in it: chmod 700 {folder}",
+                    False)
     elif found.st_mode & 0o700 != 0o700:
-        findings.add(f"the user {USER} may not write into {folder}, and shard {shard} can't start again: chmod 700 "
-                     f"{folder}")
-    return owner == USER
+        yield Fault(f"the user {USER} may not write into {folder}, and shard {shard} can't start again: chmod 700 "
+                    f"{folder}")
+
+
+def faults_of_file(path: pathlib.Path, owner: int, shard: int) -> Iterator[Fault]:
+    """What is wrong with a file of a store, which has to be its folder's owner's, and for nobody else."""
+    try:
+        found = os.lstat(path)
+    except FileNotFoundError:
+        return
+    user = name_of(owner)
+    if not stat.S_ISREG(found.st_mode):
+        return
+    if found.st_uid != owner:
+        yield Fault(f"{path} isn't the user's who has its folder, and shard {shard} can't start with it: "
+                    f"{advice(path, found, owner)}")
+    elif found.st_mode & 0o077:
+        yield Fault(f"others than its owner can read {path}: runuser -u {user} -- chmod 600 {path}", False)
+    elif found.st_mode & 0o600 != 0o600:
+        yield Fault(f"its owner may not write {path}, and shard {shard} can't start again: runuser -u {user} -- chmod "
+                    f"600 {path}")
+
+
+def faults_of_store(settings: Settings, shard: int) -> Iterator[Fault]:
+    """What is wrong with a shard's files and their folder, also with those that SQLite has beside a store."""
+    folder, found = settings.folder(shard), [*faults_of_folder(settings.folder(shard), shard)]
+    yield from found
+    if folder.exists() and not any(fault.what.startswith(f"{folder} is the user") for fault in found):
+        for name in (*trial.FILES, *BESIDE):
+            yield from faults_of_file(folder / name, os.stat(folder).st_uid, shard)
 
 
 def look_at_store(settings: Settings, shard: int, findings: Findings) -> None:
     """Whether a shard's files and their folder are its user's, for that user alone."""
+    for fault in faults_of_store(settings, shard):
+        findings.add(fault.what)
+
+
+def lost_files(settings: Settings, shard: int, process: int) -> Iterator[str]:
+    """What is told of the files of a store that a shard's program has open, and that its folder hasn't any more."""
     folder = settings.folder(shard)
-    for name in trial.FILES if look_at_folder(folder, shard, findings) else ():
-        try:
-            found, owner = os.lstat(folder / name), os.stat(folder).st_uid
-        except FileNotFoundError:
-            continue
-        user = name_of(owner)
-        if stat.S_ISREG(found.st_mode) and found.st_uid != owner:
-            findings.add(f"{folder / name} isn't the user's who has its folder, and shard {shard} can't start with it: "
-                         f"{advice(folder / name, found, owner)}")
-        elif found.st_mode & 0o077 and stat.S_ISREG(found.st_mode):
-            findings.add(f"others than its owner can read {folder / name}: runuser -u {user} -- chmod 600 "
-                         f"{folder / name}")
-        elif found.st_mode & 0o600 != 0o600 and stat.S_ISREG(found.st_mode):
-            findings.add(f"its owner may not write {folder / name}, and shard {shard} can't start again: runuser -u "
-                         f"{user} -- chmod 600 {folder / name}")
+    for name in trial.removed_files(folder, process):
+        yield (f"{folder / name} was removed while the program of shard {shard} has it open, and all of it is lost "
+               f"once that ends. Don't restart it: run pdpd-shards backup {shard}, which takes it from the program, and "
+               "put that backup back")
+    for name, place in trial.moved_files(folder, process).items():
+        yield (f"{folder / name} isn't what the program of shard {shard} has open, which was moved to {place}: what is "
+               f"answered goes there. Don't restart it: move what stands in {folder} away, and that back")
+
+
+def refuse_unstartable(settings: Settings, shard: int) -> None:
+    """An error where a shard that is stopped wouldn't start again by its files, or would by others."""
+    if process := supervisor.of(settings).pid(shard):
+        for what in lost_files(settings, shard, process):
+            raise Wrong(f"nothing was stopped: {what}")
+        for fault in faults_of_store(settings, shard):
+            if fault.is_fatal:
+                raise Wrong(f"nothing was stopped: {fault.what}")
 
 
 def look_at_sockets(settings: Settings, findings: Findings) -> None:
@@ -192,6 +238,6 @@ def look_at_services(settings: Settings, findings: Findings) -> None:
 
 def look(settings: Settings, findings: Findings) -> None:
     """All of it, but for the files of shards."""
-    for one in (look_at_settings, look_at_secrets, look_at_sockets, look_beyond, look_at_services, look_at_supervision,
-                look_at_starts):
+    for one in (look_at_settings, look_at_secrets, writable.look, installed.look, look_at_sockets, look_beyond,
+                look_at_services, look_at_supervision, look_at_starts):
         one(settings, findings)

@@ -1,7 +1,6 @@
 """How the shards are: what an operator looks at first, and what a monitor asks."""
 from __future__ import annotations
 
-import hashlib
 import json
 import os
 import pathlib
@@ -10,15 +9,16 @@ import time
 from typing import NamedTuple
 
 from . import applied, front, listener, replicas, room, standing, supervisor, talk, trial
-from .backups import COPIED, backups_of, emptied, is_beyond
+from .backups import COPIED, backups_of, emptied, failure, is_beyond
 from .findings import Findings
+from .owned import sum_of
 from .processes import is_stopped
 from .settings import FILE, LOCKS, MARK, BadToken, Settings, Wrong, at_work, read, words_of
 
 # when a backup is too old, in seconds
 OLD = 2 * 3600 + 600
-# so many digits of a program's SHA-256 are shown
-SHOWN = 12
+# so many digits of a program's SHA-256 are shown, and for how long one is read, in seconds
+SHOWN, LONG = 12, 10.0
 HEADS = "shard", "state", "domains", "file MiB", "log MiB", "entry", "backup", "program"
 
 
@@ -45,7 +45,7 @@ class Shard(NamedTuple):
 class Report(NamedTuple):
     """What is found of all."""
     shards: list[Shard]
-    certificate_days: float | None
+    certificate: front.Certificate | None
     findings: Findings
     at_work: str | None
 
@@ -53,13 +53,18 @@ class Report(NamedTuple):
         """1 where something is wrong, 2 where it can't be told."""
         return 1 if self.findings.wrong else 2 if self.findings.unknown else 0
 
+    def certificate_days(self) -> float | None:
+        """For how many days the certificate is valid."""
+        return (self.certificate.last - time.time()) / 86_400 if self.certificate else None
+
     def text(self) -> str:
         """A table and lines."""
         rows = [list(HEADS), *(shard.cells() for shard in self.shards)] if self.shards else []
         widths = [max(map(len, column)) for column in zip(*rows)]
         lines = ["  ".join(cell.ljust(width) for cell, width in zip(row, widths)).rstrip() for row in rows]
-        if self.certificate_days is not None:
-            lines.append(f"the certificate is valid for {self.certificate_days:.0f} days more")
+        if self.certificate:
+            lines.append(f"the certificate is valid for {self.certificate_days():.0f} days more, for "
+                         f"{', '.join(self.certificate.names)}")
         if self.at_work:
             lines.append(f"at work: {self.at_work}")
         lines += [f"WRONG: {what}" for what in self.findings.wrong]
@@ -68,7 +73,8 @@ class Report(NamedTuple):
     def json(self) -> str:
         """The same for a program."""
         found = {"status": self.exit_status(), "wrong": self.findings.wrong, "unknown": self.findings.unknown,
-                 "at_work": self.at_work, "certificate_days": self.certificate_days,
+                 "at_work": self.at_work, "certificate_days": self.certificate_days(),
+                 "certificate_names": self.certificate.names if self.certificate else [],
                  "shards": [shard._asdict() for shard in self.shards]}
         return json.dumps(found)
 
@@ -107,8 +113,9 @@ def age_of_backup(settings: Settings, shard: int, findings: Findings) -> float |
         elif settings.backup_hook and not any(was_copied(path) for path in folders):
             findings.add(f"no backup of shard {shard} of the last two hours was copied away by {settings.backup_hook}: "
                          f"pdpd-shards backup {shard} tells why")
-        if found := emptied(settings, shard):
-            findings.add(found)
+        for found in (emptied(settings, shard), failure(settings, shard)):
+            if found:
+                findings.add(found)
         return old
     return None
 
@@ -175,11 +182,8 @@ def state_of(settings: Settings, shard: int, lists: dict[int, list[str]],
 
 def digest_of(path: str | os.PathLike[str]) -> str:
     """The SHA-256 of a program's file."""
-    digest = hashlib.sha256()
     with open(path, "rb") as file:
-        while data := file.read(2 ** 20):
-            digest.update(data)
-    return digest.hexdigest()
+        return sum_of(file, str(path), LONG)
 
 
 def program_of(settings: Settings, shard: int, installed: str | None, is_up: bool, findings: Findings) -> str | None:
@@ -190,16 +194,14 @@ def program_of(settings: Settings, shard: int, installed: str | None, is_up: boo
             return None
         try:
             found = digest_of(f"/proc/{process}/exe")
-            removed = trial.removed_files(settings.folder(shard), process)
+            lost = [*standing.lost_files(settings, shard, process)]
         except (FileNotFoundError, ProcessLookupError):
             return None  # (it has ended meanwhile)
         if installed and found != installed and is_up:  # (else it may be what starts it, again and again)
             findings.add(f"shard {shard} runs another program (SHA-256 {found[:SHOWN]}) than {settings.program} "
                          f"({installed[:SHOWN]}): pdpd-shards upgrade")
-        for name in removed:
-            findings.add(f"{settings.folder(shard) / name} was removed while the program of shard {shard} has it open, "
-                         f"and all of it is lost once that ends. Don't restart it: run pdpd-shards backup {shard}, "
-                         "which takes it from the program, and put that backup back")
+        for what in lost:
+            findings.add(what)
         return found if is_up or found == installed else None
     return None
 
@@ -216,7 +218,7 @@ def look_at_disk(settings: Settings, shard: int, findings: Findings) -> int | No
                           f"{room.advice(settings, shard)}")
         return found.free
     with findings.looking(f"the reserve of shard {shard}"):
-        if not room.is_reserved(settings, shard):
+        if not room.is_reserved(settings, shard) and not applied.is_lost(settings, shard):
             findings.add(f"shard {shard} has no reserve of {settings.reserve} MiB for the day on which its disk is "
                          "full: pdpd-shards reserve")
     return found.free
@@ -303,11 +305,11 @@ def report(settings: Settings) -> Report:
     look_at_disks(settings, findings)
     standing.look(settings, findings)
     replicas.look_at_decisions(settings, findings)
-    days = front.look(settings, findings)
+    certificate = front.look(settings, findings)
     with findings.looking("the shards' ports"):
         if found := listener.warning(settings):
             findings.add(found)
-    return Report(shards, days, findings, tool)
+    return Report(shards, certificate, findings, tool)
 
 
 def report_of_file() -> Report:

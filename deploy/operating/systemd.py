@@ -87,15 +87,34 @@ class Systemd:
         """Whether systemd runs a unit after each start of the machine."""
         return subprocess.run(["systemctl", "is-enabled", "--quiet", name], check=False).returncode == 0
 
+    def files(self):
+        """The units that are the administrator's, and what they are given more."""
+        return [self.UNITS, *self.UNITS.glob("pdpd*"), *self.UNITS.glob("*.service.d/*.conf")]
+
     def log_of(self, name):
         """Where the log of a unit is."""
         return f"journalctl -u {name}"
 
+    def last_lines(self, name, count=20):
+        """The last lines that the programs of a unit have written."""
+        words = ["journalctl", "--quiet", "--no-pager", "--output=cat", f"--lines={count}",
+                 f"_SYSTEMD_UNIT={name}.service"]
+        return subprocess.run(words, capture_output=True, text=True, errors="replace", check=False).stdout.splitlines()
+
     def last_line(self, name):
-        """The last line that the programs of a unit have written."""
-        words = ["journalctl", "--quiet", "--no-pager", "--output=cat", "--lines=1", f"_SYSTEMD_UNIT={name}.service"]
-        return last_of(subprocess.run(words, capture_output=True, text=True, errors="replace", check=False)
-                       .stdout.splitlines())
+        """The last one."""
+        return last_of(self.last_lines(name, 1))
+
+    def failed_backup(self, shard):
+        """When the unit of a shard's backups failed, and what its log ends with; never where the last one didn't."""
+        unit = f"pdpd-backup@{shard}"
+        shown = run("systemctl", "show", "--timestamp=unix", "--property=Result,ExecMainExitTimestamp",
+                    f"{unit}.service")
+        found = dict(line.split("=", 1) for line in shown.splitlines())
+        ended = found.get("ExecMainExitTimestamp", "").lstrip("@")
+        if found.get("Result", "success") == "success" or not ended.isdecimal():
+            return 0.0, ""
+        return float(ended), self.last_line(unit)
 
     def removed_logs(self, names):
         """None: the journal has them."""

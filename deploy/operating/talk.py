@@ -327,6 +327,13 @@ def is_there(settings, seconds=10.0):
     return False
 
 
+def why_away(settings):
+    """Why HAProxy doesn't run, as the last alert of its log says; nothing where there is none."""
+    by = supervisor.of(settings)
+    lines = [line for line in by.last_lines("haproxy") if "[ALERT]" in line and "exiting" not in line.lower()]
+    return re.sub(r"^.*?\[ALERT\] +\(\d+\) : ", "", lines[-1])[:300] if lines else ""
+
+
 def info(settings, name):
     """A number that HAProxy tells of itself."""
     for line in admin_reply(settings, "show info").splitlines():

@@ -58,6 +58,32 @@ def removed_files(folder: pathlib.Path, process: int) -> dict[str, str]:
     return found
 
 
+def moved_files(folder: pathlib.Path, process: int) -> dict[str, str]:
+    """Which files of a store a process has open elsewhere than in the folder, to which they were moved meanwhile."""
+    found: dict[str, str] = {}
+    opened: dict[str, os.stat_result] = {}
+    with contextlib.suppress(FileNotFoundError, ProcessLookupError):
+        for name in os.listdir(f"/proc/{process}/fd"):
+            with contextlib.suppress(FileNotFoundError):
+                place = f"/proc/{process}/fd/{name}"
+                opened[os.readlink(place)] = os.stat(place)
+    for file in FILES:
+        its = {target: status for target, status in opened.items() if stat.S_ISREG(status.st_mode) and status.st_nlink
+               and STORE in target and target.endswith("-wal") == file.endswith("-wal")}
+        here = os.stat(folder / file) if (folder / file).exists() else None
+        if its and not any(here and os.path.samestat(here, status) for status in its.values()):
+            found[file] = next(iter(its))
+    return found
+
+
+def refuse_moved(folder: pathlib.Path, process: int) -> None:
+    """An error where the program's files aren't those of the folder: a copy of these lacks what it answers."""
+    with contextlib.suppress(PermissionError):  # (as in `copy_files`)
+        for name, place in moved_files(folder, process).items():
+            raise Wrong(f"{folder / name} isn't what its program has open, which was moved to {place}: pdpd-shards "
+                        "status says what to do")
+
+
 def copy_opened(source: Folder, target: Folder, name: str, opened: str) -> None:
     """Copies a file that was removed from where a process has it open. It has to be a regular one of the user's."""
     file = os.open(opened, os.O_RDONLY | os.O_NONBLOCK | os.O_CLOEXEC)

@@ -42,10 +42,10 @@ from collections.abc import Iterator
 from log.domains import Forgotten
 from log.history import Unknown
 from log.record import Damaged
-from operating import applied, supervisor
+from operating import applied
 from operating.settings import DOMAIN, LOCKS, Settings, Wrong, alone, harmless, number_in_word, read, words_of
 
-from . import beginning, certificates, copying, members, moving, pushing, regrouping, shared_log, skipping
+from . import beginning, certificates, copying, member, members, moving, pushing, regrouping, shared_log, skipping
 from .etcd import Down, Etcd, Open, Refused
 from .following import Follower
 from .groups import NoPlace
@@ -55,7 +55,6 @@ from .running import Running
 from .shared_log import SharedLog, shown_program
 from .telling import LEAST_TAIL
 
-ENVIRONMENT, ETCD_DATA = pathlib.Path("/etc/default/etcd"), pathlib.Path("/var/lib/etcd/pdpd")
 # how long an answer of etcd is waited for, in seconds
 PATIENCE = 10.0
 # how long is waited until all machines have applied what was appended before a log was frozen, in seconds
@@ -98,60 +97,19 @@ def logs_of(settings: Settings) -> list[SharedLog]:
 
 # ---- commands
 
-def etcd_lines(settings: Settings, state: str = "new") -> str:
-    """The environment of Debian's etcd. A member that has nothing yet begins with the others, or beside them if they
-    are there (existing)."""
-    if not settings.machines:
-        raise Wrong("REPLICAS is empty: this machine is alone")
-    machines, folder = settings.machines, settings.etcd_certificates
-    clients, peers = members.url(machines, settings.self), members.url(machines, settings.self, members.PEER)
-    cluster = ",".join(f"{name}={members.url(machines, name, members.PEER)}" for name in machines)
-    values = {
-        "NAME": settings.self, "DATA_DIR": ETCD_DATA, "LISTEN_CLIENT_URLS": clients, "ADVERTISE_CLIENT_URLS": clients,
-        "LISTEN_PEER_URLS": peers, "INITIAL_ADVERTISE_PEER_URLS": peers,
-        "INITIAL_CLUSTER": cluster, "INITIAL_CLUSTER_STATE": state, "INITIAL_CLUSTER_TOKEN": "pdpd",
-        "CERT_FILE": f"{folder}/member.crt", "KEY_FILE": f"{folder}/member.key",
-        "TRUSTED_CA_FILE": f"{folder}/ca.crt", "CLIENT_CERT_AUTH": "true", "PEER_CERT_FILE": f"{folder}/member.crt",
-        "PEER_KEY_FILE": f"{folder}/member.key", "PEER_TRUSTED_CA_FILE": f"{folder}/ca.crt",
-        "PEER_CLIENT_CERT_AUTH": "true", "PRE_VOTE": "true", "AUTO_COMPACTION_RETENTION": "1h",
-        "QUOTA_BACKEND_BYTES": str(2 << 30), "LOGGER": "zap", "LOG_LEVEL": "warn"}
-    return "".join(f'ETCD_{name}="{value}"\n' for name, value in values.items())
-
-
 def etcd(settings: Settings, words: list[str]) -> None:
     if words == ["--anew"]:
-        aside = etcd_anew(settings, "new")
+        aside = member.begin(settings, "new")
         return say(f"etcd begins anew here; what it had is in {aside}: once it has begun on all machines, "
                    "pdpd-replicas push")
     if words == ["--join"]:
-        etcd_anew(settings, "existing")
+        member.begin(settings, "existing")
         return say("etcd begins here beside that of the other machines")
     if words != ["--write"]:
-        print(etcd_lines(settings), end="")
+        print(member.lines(settings), end="")
         return None
-    write_environment(settings, "new")
-    return say(f"{ENVIRONMENT} is written: start etcd anew")
-
-
-def write_environment(settings: Settings, state: str) -> None:
-    text = etcd_lines(settings, state)
-    certificates.close(pathlib.Path(settings.etcd_certificates))
-    ENVIRONMENT.write_text(text)
-    supervisor.of(settings).confine_etcd()
-
-
-def etcd_anew(settings: Settings, state: str) -> pathlib.Path:
-    """Puts what this machine's member has beside, and starts it, if there is a service of it yet; where that is."""
-    by, aside = supervisor.of(settings), ETCD_DATA.with_name(f"{ETCD_DATA.name}.{int(time.time())}")
-    has_etcd = by.has_etcd()
-    write_environment(settings, state)
-    if has_etcd:
-        by.end_etcd()
-    if ETCD_DATA.exists():
-        ETCD_DATA.rename(aside)
-    if has_etcd:
-        by.start_etcd()
-    return aside
+    member.write(settings, "new")
+    return say(f"{member.ENVIRONMENT} is written: start etcd anew")
 
 
 def other_machine(settings: Settings, word: str) -> str:

@@ -19,7 +19,6 @@ from log.history import Change as Archived
 from log.messages import Message, entry_of, route_of
 from log.pdpd import Reply
 from log.record import Damaged, Record
-from log.sealing import sealed
 
 from . import core
 from .batches import Batches
@@ -194,9 +193,9 @@ class Replica(Daemon):
         of_log = {name: value for name, value in entry.head.items() if name not in OF_MESSAGE}
         while True:
             try:
-                more, key = self.keeping.before(head["domain"], entry.number())
+                more, data = self.keeping.as_kept(head["domain"], entry.number(), entry.body)
                 head = {**head, **more, "log": {**of_log, "name": entry.name()}}
-                return self.archive.add_entry(head, sealed(key, entry.body)), entry.body, entry.is_skipped
+                return self.archive.add_entry(head, data), entry.body, entry.is_skipped
             except (NoRoom, OSError, Forgotten) as fault:
                 # no lease is had meanwhile, since this replica isn't level
                 self.say(f"entry {entry.number()} can't be kept: {fault}")

@@ -19,7 +19,7 @@ from dataclasses import dataclass
 
 # of a refusal by these nothing was written; any other error of a write leaves it open (a time-out, a lost leader)
 SURELY_NOT = ("request is too large", "no space", "database space exceeded", "lease not found", "too many operations",
-              "duplicate key", "user name is empty", "permission denied", "requested lease")
+              "duplicate key", "user name is empty", "permission denied", "requested lease", "has been compacted")
 # how long a call and an event are waited for, and how long a member comes last that gave no answer, in seconds
 PATIENCE, SILENCE, SUSPECT = 2.0, 15.0, 5.0
 # how long a member may take nothing while it gives space back
@@ -84,6 +84,7 @@ class Etcd:
         self.members, self.seconds, self.kept = list(members), seconds, threading.local()
         self.suspect: dict[Member, float] = {}
         self.last_answer = float("-inf")
+        self.past: list[tuple[float, int]] = []  # when revisions were there
 
     def order(self) -> list[Member]:
         """The members in the order in which they are asked: last those that gave no answer lately."""
@@ -155,6 +156,12 @@ class Etcd:
         reply = self.call("/v3/kv/range", what)
         return revision or int(reply["header"]["revision"]), pairs_in(reply)
 
+    def kept_at(self, revision: int, key: bytes) -> tuple[int, dict]:
+        """A key as etcd keeps it, with how many times it was put (`version`); an empty one where there is none."""
+        what = {**reading(key)["request_range"], "revision": str(revision)}
+        reply = self.call("/v3/kv/range", what)
+        return revision or int(reply["header"]["revision"]), next(iter(reply.get("kvs", ())), {})
+
     def get(self, key: bytes) -> bytes | None:
         found = self.range(key)
         return found[0][1] if found else None
@@ -187,10 +194,16 @@ class Etcd:
     def revoke(self, lease: int) -> None:
         self.call("/v3/lease/revoke", {"ID": str(lease)}, True)
 
-    def drop_history(self) -> None:
-        """Has etcd forget what keys had before."""
-        revision = self.call("/v3/kv/range", {"key": text_of(b"/")})["header"]["revision"]
-        self.call("/v3/kv/compaction", {"revision": revision}, True)
+    def drop_history(self, seconds: float = 0.0) -> None:
+        """Has etcd forget what keys had before, but for so long: who reads much of what was at one revision, or goes on
+        with events, needs it."""
+        now = time.monotonic()
+        self.past.append((now, int(self.call("/v3/kv/range", {"key": text_of(b"/")})["header"]["revision"])))
+        known = [revision for at, revision in self.past if at <= now - seconds]
+        if known:
+            self.past = self.past[len(known):]
+            with contextlib.suppress(Refused):  # (it has forgotten more)
+                self.call("/v3/kv/compaction", {"revision": str(known[-1])}, True)
 
     # ---- its space
 
@@ -211,12 +224,12 @@ class Etcd:
 
     def events(self, key: bytes, end: bytes) -> Iterator[list[Pair]]:
         """The changes of keys, a value or None for each, until nothing has come for some seconds."""
-        for _, pairs in self.events_since(0, key, end):
-            yield pairs
+        for _, events in self.events_since(0, key, end):
+            yield [pair_of(event) for event in events]
 
-    def events_since(self, revision: int, key: bytes, end: bytes) -> Iterator[tuple[int, list[Pair]]]:
-        """The same of all revisions from that one on (0: from now on), and up to which one. A Refused where etcd has
-        dropped that one."""
+    def events_since(self, revision: int, key: bytes, end: bytes) -> Iterator[tuple[int, list[dict]]]:
+        """The same of all revisions from that one on (0: from now on), as etcd tells it, and up to which one. A Refused
+        where etcd has dropped that one."""
         asked = {"key": text_of(key), "range_end": text_of(end), "start_revision": str(revision)}
         what, known = json.dumps({"create_request": asked}), max(0, revision - 1)
         for member in self.order():
@@ -233,7 +246,7 @@ class Etcd:
                     events = result.get("events", ())
                     # (the reply's own revision may be beyond events that come later)
                     known = max((int(event["kv"]["mod_revision"]) for event in events), default=known)
-                    yield known, [pair_of(event) for event in events]
+                    yield known, list(events)
                 return
 
 
@@ -252,12 +265,26 @@ def is_value(key: bytes, value: bytes) -> dict:
     return {"key": text_of(key), "target": "VALUE", "result": "EQUAL", "value": text_of(value)}
 
 
+def is_put(key: bytes, times: int) -> dict:
+    """That a key was put so many times since it is there."""
+    return {"key": text_of(key), "target": "VERSION", "result": "EQUAL", "version": str(times)}
+
+
 def is_absent(key: bytes) -> dict:
-    return {"key": text_of(key), "target": "VERSION", "result": "EQUAL", "version": "0"}
+    return is_put(key, 0)
+
+
+def is_there(key: bytes) -> dict:
+    return {**is_absent(key), "result": "GREATER"}
 
 
 def putting(key: bytes, value: bytes, lease: int = 0) -> dict:
     return {"request_put": {"key": text_of(key), "value": text_of(value), "lease": str(lease)}}
+
+
+def putting_again(key: bytes) -> dict:
+    """A key is put once more, with what it has."""
+    return {"request_put": {"key": text_of(key), "ignore_value": True}}
 
 
 def reading(key: bytes, end: bytes | None = None, limit: int = 0) -> dict:

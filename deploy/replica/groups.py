@@ -1,9 +1,11 @@
 """Groups of machines, each with logs and an etcd of its own, and the map of all domains in the first group's etcd.
 
-    /pdpd/map/last              "N": how many times the map was changed
+    /pdpd/map/last              "N": each change puts this key once more, and N and how many times it was put make the
+                                change's number
     /pdpd/map/at/DOMAIN         "GROUP.SHARD": where that domain is. A name stays once its domain is removed
 
-A change of the map compares N and puts N + 1: so whoever has seen N has seen all changes up to it.
+A change compares where its own domains are, and nothing else: so many are made at a time. Whoever has seen the change
+of a number has seen all before it.
 """
 from __future__ import annotations
 
@@ -12,7 +14,9 @@ import re
 import time
 from collections.abc import Iterable, Mapping
 
-from .etcd import Down, Etcd, Member, Open, after, context_in, is_absent, is_value, putting, reading
+from .etcd import (
+    Down, Etcd, Member, Open, after, bytes_of, context_in, is_absent, is_put, is_there, is_value, putting,
+    putting_again, reading)
 from .machines import Machines, is_here, machines_in
 
 LAST, AT = b"/pdpd/map/last", b"/pdpd/map/at/"
@@ -24,7 +28,7 @@ PLACE = re.compile(r"([a-z][a-z0-9-]{0,31})\.([0-9]{1,2})")
 MAP, MOVED, NUMBER = "groups.map", "moved.map", "number"
 # how long an answer of etcd is waited for, in seconds
 PATIENCE = 5.0
-# how many domains go into one transaction, and are read at a time
+# how many domains go into one transaction, and are read at a time (etcd takes 128 operations)
 MOST_PUT, MOST_READ = 60, 10_000
 # for how long a change of the map is tried, and how long is waited between two attempts, in seconds
 CLAIMING, PAUSE = 5.0, 0.02
@@ -66,6 +70,11 @@ def parts_of(place: str) -> tuple[str, int]:
     return found[1], int(found[2])
 
 
+def number_of(kept: dict) -> int:
+    """How many times the map was changed, by its key as etcd keeps it."""
+    return int(bytes_of(kept.get("value", "")) or 0) + int(kept.get("version", 0))
+
+
 class Map:
     """The map of all domains."""
 
@@ -74,32 +83,31 @@ class Map:
 
     def last(self) -> int:
         """How many times it was changed, by the quorum."""
-        return int(self.etcd.get(LAST) or 0)
+        return number_of(self.etcd.kept_at(0, LAST)[1])
 
-    def places(self, domains: Iterable[str]) -> tuple[int, dict[str, str]]:
-        """Where these domains are that it has, and by which change."""
+    def places(self, domains: Iterable[str]) -> dict[str, str]:
+        """Where these domains are that it has."""
         names = list(domains)
-        _, (last, *found) = self.etcd.transaction([], [reading(key) for key in (LAST, *map(self.key, names))])
-        return (int(last[0][1] or 0) if last else 0,
-                {name: (pairs[0][1] or b"").decode() for name, pairs in zip(names, found) if pairs})
+        _, found = self.etcd.transaction([], [reading(self.key(name)) for name in names])
+        return {name: (pairs[0][1] or b"").decode() for name, pairs in zip(names, found) if pairs}
 
     @staticmethod
     def key(domain: str) -> bytes:
         return AT + domain.encode()
 
-    def put(self, last: int, places: Mapping[str, str]) -> bool:
-        """Puts these domains there, if nothing was changed behind that change; whether it was so."""
-        holds = is_value(LAST, b"%d" % last) if last else is_absent(LAST)
-        puts = [putting(self.key(name), place.encode()) for name, place in places.items()]
-        return self.etcd.transaction([holds], [*puts, putting(LAST, b"%d" % (last + 1))])[0]
+    def put(self, domains: Iterable[str], before: str | None, place: str) -> bool:
+        """Puts these domains there, if each is where it was before (None: nowhere), and the map has begun; whether it
+        was so."""
+        keys = [self.key(name) for name in domains]
+        holds = [is_absent(key) if before is None else is_value(key, before.encode()) for key in keys]
+        puts = [putting(key, place.encode()) for key in keys]
+        return self.etcd.transaction([is_there(LAST), *holds], [*puts, putting_again(LAST)])[0]
 
     def raise_to(self, number: int) -> None:
         """Counts on from a number, if that is larger: a map that was lost and is made anew comes behind all before."""
-        last = self.last()
-        while last < number:
-            holds = is_value(LAST, b"%d" % last) if last else is_absent(LAST)
-            self.etcd.transaction([holds], [putting(LAST, b"%d" % number)])
-            last = self.last()
+        while number_of(kept := self.etcd.kept_at(0, LAST)[1]) < number:
+            times = int(kept.get("version", 0))
+            self.etcd.transaction([is_put(LAST, times)], [putting(LAST, b"%d" % (number - times - 1))])
 
     def claim(self, domains: Iterable[str], place: str) -> dict[str, str]:
         """Where these domains are, which are put at that place if they are nowhere yet. (What became of an attempt
@@ -107,27 +115,27 @@ class Map:
         names, end = list(domains), time.monotonic() + CLAIMING
         while time.monotonic() < end:
             try:
-                last, found = self.places(names)
-                new = dict.fromkeys((name for name in names if name not in found), place)
-                if not new or self.put(last, new):
-                    return {**found, **new}
+                found = self.places(names)
+                new = [name for name in names if name not in found]
+                if not new or self.put(new, None, place):
+                    return {**found, **dict.fromkeys(new, place)}
+                self.raise_to(1)
             except (Down, Open):
                 pass
             time.sleep(PAUSE)
         raise NoPlace("the map of domains can't be changed: its etcd doesn't answer")
 
     def move(self, domain: str, before: str, place: str) -> int:
-        """Puts a domain elsewhere, unless that was done; by which change. An error where it is at neither place."""
+        """Puts a domain elsewhere, unless that was done; by which change, or a later one. An error where it is at
+        neither place."""
         end = time.monotonic() + CLAIMING
         while time.monotonic() < end:
             try:
-                last, found = self.places([domain])
-                if found.get(domain) == place:
-                    return last
-                if found.get(domain) != before:
-                    raise ValueError(f"{domain} is at {found.get(domain, 'no place')}, and not at {before}")
-                if self.put(last, {domain: place}):
-                    return last + 1
+                at = self.places([domain]).get(domain)
+                if at not in (before, place):
+                    raise ValueError(f"{domain} is at {at or 'no place'}, and not at {before}")
+                if at == place or self.put([domain], before, place):
+                    return self.last()
             except (Down, Open):
                 pass
             time.sleep(PAUSE)
@@ -165,8 +173,8 @@ def all_of(etcd: Etcd) -> tuple[int, int, dict[str, str]]:
     """The whole map as it is at one instant: by which revision of etcd, by which change, and where each domain is."""
     found: dict[str, str] = {}
     revision, pairs = etcd.range_at(0, AT, after(AT), MOST_READ)
-    _, last = etcd.range_at(revision, LAST)
+    _, last = etcd.kept_at(revision, LAST)
     while pairs:
         found.update((key[len(AT):].decode(), (value or b"").decode()) for key, value in pairs)
         _, pairs = etcd.range_at(revision, pairs[-1][0] + b"\0", after(AT), MOST_READ)
-    return revision, int(last[0][1] or 0) if last else 0, found
+    return revision, number_of(last), found

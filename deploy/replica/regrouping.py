@@ -19,8 +19,8 @@ from operating import talk
 from operating.settings import Settings, Wrong
 
 from . import core
-from .etcd import Down, Open, Refused, after, putting
-from .groups import Map, etcd_of_group, parts_of
+from .etcd import Down, Open, Refused, after, pair_of, putting
+from .groups import MOST_PUT, Map, etcd_of_group, parts_of
 from .moving import Frozen, Message, messages_of, operators, state_in
 from .shared_log import SharedLog
 
@@ -45,7 +45,7 @@ class Replies(threading.Thread):
             with contextlib.suppress(Down, Open, Refused):
                 for revision, events in self.log.etcd.events_since(self.revision + 1, self.log.replicas, end):
                     self.revision = max(self.revision, revision)
-                    for _, value in events:
+                    for _, value in map(pair_of, events):
                         told = json.loads(value) if value else {}
                         self.found.update((number, status) for number, status, _ in told.get("replies", ()))
             time.sleep(PAUSE)
@@ -147,7 +147,7 @@ def carry(settings: Settings, logs: list[SharedLog], domain: str, shard: int, pl
     if place == here:
         raise Wrong("name another place")
     target, why = log_at(settings, logs, place), f"{domain} goes from {here} to {place}"
-    at = domains.places([domain])[1].get(domain)
+    at = domains.places([domain]).get(domain)
     if at not in (here, place):
         raise Wrong(f"{domain} is at {at or 'no place'} by the map, and not at {here}")
     is_led = at == place
@@ -173,8 +173,8 @@ def fill(settings: Settings, logs: list[SharedLog]) -> dict[str, int]:
     domains.raise_to(max(log.look().led for log in logs))
     for shard in range(settings.shards):
         names, here = talk.domains_of(settings, shard), f"{settings.group}.{shard}"
-        for first in range(0, len(names), 50):
-            for place in domains.claim(names[first:first + 50], here).values():
+        for first in range(0, len(names), MOST_PUT):
+            for place in domains.claim(names[first:first + MOST_PUT], here).values():
                 if place != here:
                     others[place] = others.get(place, 0) + 1
     return others

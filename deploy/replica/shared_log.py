@@ -28,8 +28,8 @@ from .etcd import Etcd, after, deleting, is_absent, is_value, putting, reading
 # pdpd's longest body, and the longest entry, whose head is as long as that of a message
 LONGEST_BODY, LONGEST_ENTRY = 524_288, 560_000
 VERSION = 1
-# how many entries are read at a time
-MOST_READ = 16
+# how many entries are read at a time, and for how long what etcd had stays to be read, in seconds
+MOST_READ, HISTORY = 16, 60.0
 # what stands in an entry's head of the message itself
 OF_MESSAGE = ("domain", "who", "method", "path", "fields")
 SKIPPED = "skipped"
@@ -205,7 +205,7 @@ class SharedLog:
         """Drops the entries up to that number."""
         self.etcd.transaction([], [putting(self.trimmed, b"%d" % number), deleting(self.log, self.key(number + 1)),
                                    deleting(self.skips, self.skip_key(number + 1))])
-        self.etcd.drop_history()
+        self.etcd.drop_history(HISTORY)
 
     def drop_all(self, tail: int) -> int:
         """Drops the entries that all registered replicas have applied but for the last ones, also where etcd takes

@@ -7,17 +7,20 @@ import json
 import os
 import random
 import shutil
+import zlib
+from unittest import mock
 
-from log import audit, checking, decisions, keeping
+from log import audit, checking, decisions, domains, history, keeping
 from log.archive import Archive, segments_in
 from log.domains import Forgotten, checkpoints_in, folder_of, keys_in
-from log.history import Unknown, by_archive
+from log.history import Unknown, by_archive, changes_in
 from log.past import Past, state_before
-from log.sealing import counted, opened, sealed
+from log.record import Damaged
+from log.sealing import MOST_INFLATED, counted, deflated, inflated, opened, sealed
 from sent import DONE
 from serving import UNAVAILABLE
 
-from .generated import BEGIN, WARD, Clock, Writer, table, write_year
+from .generated import BEGIN, POLICY, WARD, Clock, Writer, table, write_year
 from .shared import PROGRAM, SEED, Logged, expect, log
 from .shared import kept as shown_token
 from .shared import memory as folder
@@ -38,6 +41,26 @@ def sealing():
     for body in (b"", b"x", b"y" * 524_288):
         expect(f"{len(body)} bytes", opened(key, sealed(key, body)), body)
     expect("the same body twice", sealed(key, b"the same body") != sealed(key, b"the same body"), True)
+    deflating()
+
+
+# "hello", in a fixed block of RFC 1951, by RFC 1950: its head, the block, and the Adler-32
+HELLO = "789ccb48cdc9c907 00062c0215"
+
+
+def deflating():
+    """A body is deflated where that is shorter, and given back; what is cut, changed or too long is refused."""
+    data = bytes.fromhex(HELLO)
+    expect("the example of RFC 1950", inflated(data), b"hello")
+    text = table(random.Random(SEED), 3_500)
+    short = deflated(text)
+    expect("a table", (inflated(short) == text, len(short) < len(text) / 10), (True, True))
+    expect("what wouldn't be shorter", [deflated(body) for body in (b"", b"x", bytes(range(256)))], [None] * 3)
+    longest = bytes(MOST_INFLATED)
+    expect("the longest", inflated(zlib.compress(longest)) == longest, True)
+    for what, wrong in (("cut", data[:-1]), ("empty", b""), ("changed", data[:-1] + b"\0"), ("none", b"hello"),
+                        ("too long", zlib.compress(longest + b"x"))):
+        expect(f"{what}", raised(lambda wrong=wrong: inflated(wrong)), ValueError)
 
 
 @contextlib.contextmanager
@@ -224,9 +247,72 @@ def raised(call):
     """The class of the error that a call ends with."""
     try:
         call()
-    except (Forgotten, Unknown) as fault:
+    except (Forgotten, Unknown, Damaged, ValueError) as fault:
         return type(fault)
     return None
 
 
-PARTS = (sealing, checkpoints, moved_away, other_reply, forgetting)
+def earlier():
+    """An archive of a version that deflated nothing is read, gone on with, and takes more room; one whose key is
+    another one's is told to be so."""
+    os.environ["PDPD"] = PROGRAM
+    paths, sizes, chance = (folder / "earlier", folder / "deflated"), [], random.Random(SEED)
+    for path in paths:
+        with often(10), contextlib.ExitStack() as stack:
+            if path == paths[0]:
+                stack.enter_context(mock.patch.object(keeping, "deflated", lambda body: None))
+                stack.enter_context(mock.patch.object(domains.zlib, "compress", lambda text: text))
+            last = write_year(path, 30, 100, seconds=3_000)
+        sizes.append(sum(file.stat().st_size for file in path.rglob("*") if file.is_file()))
+    expect(f"bytes: {sizes}", sizes[0] > 3 * sizes[1], True)
+    moments = [chance.uniform(BEGIN + 1, last) for _ in range(MOMENTS)]
+    wanted = answers(past_in(paths[1]), moments, audit.decide_by_all)
+    for how in (audit.decide, audit.decide_by_all):
+        expect(f"an earlier version's, {how.__name__}", answers(past_in(paths[0]), moments, how), wanted)
+    found = compared(paths[0])
+    expect("check", (found.wrong, found.checkpoints), ([], 3))
+    codings = {change.entry.head.get("coding") for change in changes_in(segments_in([paths[0]]))}
+    writer = Writer(paths[0], Clock(last + 1))
+    writer.change("acme", "PUT", "/domains/acme/pip", table(chance, 100))
+    writer.close()
+    behind = {change.entry.head.get("coding") for change in changes_in(segments_in([paths[0]]))} - codings
+    expect("a later version's change behind it", (codings, behind), ({None}, {"deflate"}))
+    expect("check, behind it", compared(paths[0]).wrong, [])
+    (key,) = folder_of(paths[1], "acme").glob("*.key")
+    key.write_bytes(bytes(32))
+    expect("another key", raised(lambda: state_before(past_in(paths[1]), last)), Damaged)
+
+
+def unread():
+    """Changes in a row leave what they leave one after another, and of a table that is replaced the body isn't read."""
+    path, chance, counts = folder / "unread", random.Random(SEED), []
+    writer = Writer(path, Clock())
+    writer.domain("acme")
+    for _ in range(300):
+        kind = chance.random()
+        if kind < 0.03:
+            writer.remove("acme")
+        elif kind < 0.06:
+            writer.change("acme", "PUT", "/operator/domains/acme", who="operator", status=chance.choice((201, 409)))
+        elif kind < 0.2:
+            writer.change("acme", chance.choice(("PUT", "DELETE")), f"/domains/acme{POLICY}")
+        else:
+            writer.change("acme", "PUT", "/domains/acme/pip", table(chance, 12), status=chance.choice((200, 200, 401)))
+    writer.close()
+    changes = list(changes_in(segments_in([path])))
+    whole = history.State()
+    for count, change in enumerate(changes, 1):
+        whole.take(change)
+        first, found = chance.randrange(count), history.State()
+        found.take_all(changes[:first])
+        found.take_all(changes[first:count])
+        counts.append(found == whole)
+    expect(f"states as by one after another, of {len(counts)}", counts.count(False), 0)
+    read = []
+    with mock.patch.object(history.Change, "body", lambda one: read.append(one) or b'{"Row":[]}'):
+        history.State(is_there=True).take_all(change for change in changes if change.sets_rows())
+    expect("tables that are read", [change.number() for change in read],
+           [[change.number() for change in changes if change.sets_rows()][-1]])
+
+
+PARTS = (sealing, checkpoints, moved_away, other_reply, forgetting, earlier, unread)

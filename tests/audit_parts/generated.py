@@ -1,19 +1,22 @@
 """An archive that no daemon wrote: one domain's table is put again and again, each time otherwise, and its policies are
 activated and withdrawn; other domains change between."""
+import functools
 import json
 import pathlib
 import random
+from unittest import mock
 
 from log import keeping
 from log.archive import Archive
 from log.past import Past
-from log.sealing import sealed
 
 WARD = pathlib.Path(__file__).resolve().parent.parent.parent / "examples" / "ward"
 BEGIN = 1_767_225_600.0  # 2026-01-01T00:00:00Z
 REPLY = b"HTTP/1.1 %d OK\r\nContent-Length: 2\r\n\r\n{}"
 JSON = ["content-type", "application/json"]
 OWNER = "generated-admin-of-"
+# how many tables are generated
+MOST_TABLES = 500
 POLICY = "/pap/policy/urn:example:ward:records/1.0/active"
 
 
@@ -50,9 +53,9 @@ class Writer:
         fields = [JSON] if body else []
         if who == "admin":
             fields.append(["authorization", f"Bearer {OWNER}{domain}"])
-        more, key = self.keeping.before(domain, self.archive.position + 1)
+        more, data = self.keeping.as_kept(domain, self.archive.position + 1, body)
         head = {"domain": domain, "who": who, "method": method, "path": path, "fields": fields, **more}
-        entry = self.archive.add_entry(head, sealed(key, body))
+        entry = self.archive.add_entry(head, data)
         self.clock.now += 0.001
         self.keeping.behind(entry, self.archive.add_reply(status, REPLY % status, is_again=False))
 
@@ -73,18 +76,44 @@ class Writer:
         self.archive.close()
 
 
+@functools.cache
+def rows_of_ward():
+    """The example's rows, each as a text."""
+    return [json.dumps(row) for row in json.loads((WARD / "rows.json").read_text())["Row"]]
+
+
 def table(chance, rows):
     """The example's rows, of which some are missing, and others up to so many."""
-    held = [row for row in json.loads((WARD / "rows.json").read_text())["Row"] if chance.random() < 0.9]
-    held += [{"Category": "AccessSubject", "Entity": f"person-{number}", "AttributeId": "urn:example:role",
-              "DataType": "string", "Value": f"role-{chance.randrange(1_000)}"} for number in range(rows - len(held))]
-    return json.dumps({"Row": held}).encode()
+    held = [row for row in rows_of_ward() if chance.random() < 0.9]
+    roles = chance.choices(range(1_000), k=rows - len(held))
+    held += ['{"Category": "AccessSubject", "Entity": "person-%d", "AttributeId": "urn:example:role", '
+             '"DataType": "string", "Value": "role-%d"}' % pair for pair in enumerate(roles)]
+    return f'{{"Row": [{", ".join(held)}]}}'.encode()
+
+
+class Tables:
+    """Tables of so many rows: new ones, and once there are many one of those again."""
+
+    def __init__(self, chance, rows):
+        self.chance, self.rows, self.made = chance, rows, []
+
+    def next(self):
+        if len(self.made) == MOST_TABLES:
+            return self.chance.choice(self.made)
+        self.made.append(table(self.chance, self.rows))
+        return self.made[-1]
 
 
 def write_year(path, entries, rows, seconds=365 * 86_400, seed=7):
     """So many changes of the domain `acme` in so many seconds, each a whole table but for one in a hundred; and some of
     `other`. Their last moment."""
-    chance, clock = random.Random(seed), Clock()
+    # (each table is deflated once)
+    with mock.patch.object(keeping, "deflated", functools.lru_cache(MOST_TABLES)(keeping.deflated)):
+        return write_changes(path, entries, rows, seconds, random.Random(seed))
+
+
+def write_changes(path, entries, rows, seconds, chance):
+    clock, tables = Clock(), Tables(chance, rows)
     writer = Writer(path, clock)
     writer.domain("acme")
     writer.domain("other")
@@ -92,11 +121,11 @@ def write_year(path, entries, rows, seconds=365 * 86_400, seed=7):
     for number in range(entries):
         clock.now = max(clock.now, BEGIN + 1 + number * seconds / entries)
         if chance.random() < 0.01:
-            writer.change("other", "PUT", "/domains/other/pip", table(chance, rows))
+            writer.change("other", "PUT", "/domains/other/pip", tables.next())
         if chance.random() < 0.01:
             is_active = not is_active
             writer.change("acme", "PUT" if is_active else "DELETE", f"/domains/acme{POLICY}")
         else:
-            writer.change("acme", "PUT", "/domains/acme/pip", table(chance, rows))
+            writer.change("acme", "PUT", "/domains/acme/pip", tables.next())
     writer.close()
     return clock.now

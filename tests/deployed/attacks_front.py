@@ -229,6 +229,8 @@ def tokens(machine, checks):
     checks.expect("other cases and blanks are the same token", status(once(ask.replace(b"Bearer ", b"bEARER   "))), 429)
     gone = operator.message("DELETE", "/acme/tokens", '{"Token":"acme-token-2"}')
     checks.expect("the second is taken away", status(once(gone)), 200)
+    # (on a slow machine what it has sent may be forgotten)
+    wait_until(lambda: from_outside(wrong[0]) == 429, "the outsider isn't turned away")
     checks.expect("and refused", [from_outside(second) for _ in range(2)], [401, 429])
     machine.set(RATE=0, REFUSALS=5)
     checks.expect("the tenant", decision(once(ask)), "Permit")

@@ -466,7 +466,8 @@ def elsewhere(machine, checks):
     checks.expect("the folder", owner_and_mode(f"'{folder}'"), "root root 711 directory")
     taken = "ExecStartPre=/usr/bin/install -d -o root -g root -m 755"
     said = sh("cat /etc/systemd/system/haproxy.service.d/pdpd.conf")
-    checks.expect("what is done before HAProxy starts", said, f'[Service]\n{taken} "/run/haproxy"\n')
+    wanted = f'[Service]\n{taken} "/run/haproxy"\nLogRateLimitIntervalSec=0\n'
+    checks.expect("what is done before HAProxy starts, and with its lines", said, wanted)
     said = sh("cd /etc/systemd/system && cp /lib/systemd/system/haproxy.service . && "
               "systemd-analyze verify ./pdpd-backup@0.service ./haproxy.service 2>&1 || true")
     checks.expect("the units", said, "")

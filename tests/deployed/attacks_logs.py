@@ -2,6 +2,7 @@
 user that keeps them."""
 import collections
 import contextlib
+import hashlib
 import json
 import os
 import pathlib
@@ -17,6 +18,7 @@ from checks import Between
 from . import audit
 from .attacking import Outsider, is_there, outside
 from .attacks_local import THIEF, Local, asked_status, owner_and_mode, to_places
+from .attacks_posing import in_place_of
 from .clients import Load, decision, message, once, policy, status
 from .http2 import ENDS_HEADERS, ENDS_STREAM, HEADERS, RESET, Http2, block, frame
 from .machine import LIBRARY, PLAIN, SETTINGS, as_user, pid, port, sh, shards, wait_until
@@ -294,6 +296,28 @@ def forged(machine, checks):
     checks.expect("lines", (len(lines), [one for one in lines if not line.match(one)]), (count, []))
 
 
+def piped(machine, checks):
+    """`pdpd-log`, which root runs, waits for no pipe that the user of the archives puts in the place of what it
+    reads."""
+    audit.switch_on(machine)
+    wait_until(lambda: audit.make_ward(machine.operator.token) == [201, 200, 200, 201, 200, 200, 200],
+               "no change is taken")
+    home = ARCHIVES / shards("where", "ward").strip()
+    of_domain = home / "domains" / hashlib.sha256(b"ward").hexdigest()[:32]
+    reads = "timeout 120 pdpd-log changes --domain ward 2>&1 || echo ends with $?"
+    before, (key,), (segment,) = sh(reads), of_domain.glob("*.key"), home.glob("*.log")
+    checks.within("lines", before.count("\n"), Between(7))
+    for path, wanted in ((of_domain / "places", None), (key, "ends with 2"), (segment, "ends with 2")):
+        with in_place_of(path, "pdpd-replica", "mkfifo {}"):
+            said = sh(reads)
+        found = said == before if wanted is None else said.strip().endswith(wanted)
+        checks.expect(f"a pipe in place of {path}: {said}", found, True)
+    pipe = audit.DECISIONS / "decisions.20000101T000000.000000Z.log"
+    as_user("pdpd-replica", f"mkfifo {pipe}")
+    said = sh(f"timeout 120 pdpd-log verify {audit.DECISIONS} 2>&1 || echo ends with $?; rm {pipe}")
+    checks.expect(f"a pipe among the lines of decisions: {said}", " 0 other" in said, True)
+
+
 # ---- HAProxy's own ports
 
 # It waits until it may take connections at a port, and keeps it.
@@ -339,4 +363,4 @@ def squatters(machine, checks):
 
 ATTACKS = (pushed, drowned)
 # those that have the log of changes on
-AUDITED = (archives, forged, handed, awaited, squatters)
+AUDITED = (archives, forged, piped, handed, awaited, squatters)

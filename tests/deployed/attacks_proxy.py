@@ -168,6 +168,33 @@ def by_http2(data, body):
         return client.status(stream)
 
 
+# ---- what is sent again
+
+def unrepeated(machine, checks):
+    """A program that takes a message and ends its connection without a reply has had it once, whatever it asks for: one
+    that ends a shard ends one program. The client is told that nobody knows."""
+    operator = machine.operator
+    operator.clear()
+    name = next(f"o{number}" for number in range(99) if slowness.shard_of(f"o{number}") == "0")
+    token, at = f"{name}-token-1", f"/domains/{name}"
+    kinds = {"a decision": operator.makes(name), "a reading": message("GET", f"{at}/pip", token),
+             "a reading with a question": message("GET", f"{at}/pip?x", token),
+             "a change": message("PUT", f"{at}/pip", token, '{"Row":[]}'),
+             "an upload": message("POST", f"{at}/pap/policies", token, "{}"),
+             "a new domain": operator.creates(name), "a removal": operator.message("DELETE", f"/{name}")}
+    sh("sv down pdpd-watchdog")  # (it would have nothing sent there)
+    with InPlace(0) as seen:
+        for what, data in kinds.items():
+            seen.messages.clear()
+            found = status(once(data))
+            checks.expect(f"{what}: the reply, and how often it came", (found, len(seen.messages)), (502, 1))
+        seen.messages.clear()
+        found = status(once(operator.message("GET", "")))
+        checks.expect("the list: the reply, and how often shard 0 was asked", (found, len(seen.messages)), (503, 1))
+    sh("sv up pdpd-watchdog")
+    wait_until(operator.is_answered, "the shard isn't there again")
+
+
 # ---- frames of HTTP/2
 
 # It sends frames of HTTP/2 that want no reply, as fast as they are taken: of one kind, PRIORITY (RFC 9113, section
@@ -245,4 +272,4 @@ def buffers(machine, checks):
     sh("sv up pdpd-watchdog")
 
 
-ATTACKS = (proxy_user, versions, frames, buffers)
+ATTACKS = (proxy_user, versions, unrepeated, frames, buffers)

@@ -276,7 +276,7 @@ def anew(machine, checks):
     backs_up()
     names = dict(line.split() for line in shards("backups").splitlines())
     sh("sv force-stop /etc/service/pdpd-[0-3] > /dev/null || true; rm -r /var/lib/pdpd/[0-3] "
-       "/etc/haproxy/domains.map /etc/haproxy/haproxy.cfg")
+       "/etc/haproxy/domains.map /etc/haproxy/haproxy.cfg /etc/pdpd/applied")
     sh("sv up /etc/service/pdpd-[0-3]")
     shards("config", "--write")
     shards("reload")

@@ -2,6 +2,7 @@
 reply is its asker's own."""
 import itertools
 import json
+import os
 import random
 import re
 import threading
@@ -16,8 +17,9 @@ from .clients import Client, Load, message
 from .http2 import Http2
 from .machine import PAGE, PLAIN, shards, wait_until
 
-# marked decisions in all; those who ask for them, over HTTP/1.1 and over HTTP/2, and those who send what is odd
-DECISIONS, ASKERS, STREAMERS, ODD = 20_000, 6, 2, 4
+# marked decisions in all (by hand CROSSING says how many); those who ask for them, over HTTP/1.1 and over HTTP/2, and
+# those who send what is odd
+DECISIONS, ASKERS, STREAMERS, ODD = int(os.environ.get("CROSSING", 20_000)), 6, 2, 4
 MARK = re.compile(rb'"AttributeId":"urn:mark","DataType":"[^"]*","Value":"([^"]*)"')
 EFFECT = re.compile(rb'"Decision":"(\w+)"')
 # The ways in which HAProxy and pdpd may frame a message otherwise, as the page has them, with messages of each, by the

@@ -159,12 +159,17 @@ def asked_everywhere(three, client, checks):
     checks.expect("lists", listed, [1, 1, 1, 0, 0, 0])
 
 
+def shards_of(three, name):
+    """How many shards a machine has by its settings (a part before may have added one)."""
+    return int(three.run(name, "sed -n 's/^SHARDS=//p' /etc/pdpd/shards.conf"))
+
+
 def new_domains(three, client, checks):
     """A domain comes into the group that is asked, and is known to all soon; one that is in the other is made once."""
     for name, domain in (("e", "of-two"), ("b", "of-one")):
         found = client.sent(name, "PUT", f"/operator/domains/{domain}", client.operator)[0]
         checks.expect(f"made at {name}", found, 201)
-        shard = zlib.crc32(domain.encode()) % SHARDS
+        shard = zlib.crc32(domain.encode()) % shards_of(three, name)
         wait_until(lambda domain=domain: {place(three, one, domain) for one in "af"} != {None}, "it isn't known", 10)
         checks.expect(f"where {domain} is", {place(three, one, domain) for one in ALL}, {f"{GROUP[name]}.{shard}"})
         again = {client.sent(one, "PUT", f"/operator/domains/{domain}", client.operator)[0] for one in ALL}

@@ -134,7 +134,7 @@ def full(machine, checks):
     write("RESERVE", KEPT)
     owner = "uid=$(id -u pdpd),gid=$(id -g pdpd)"
     sh(f"sv -w 60 stop /etc/service/pdpd-{place}; mount -t tmpfs -o size={DISK}m,mode=700,{owner} full {folder}; "
-       f"sv up /etc/service/pdpd-{place}")
+       f"rm /etc/pdpd/applied/{place}.store; sv up /etc/service/pdpd-{place}")
     wait_until(machine.operator.is_answered, "the shard stays away")
     try:
         tells(checks, "nothing is kept", f"shard {place} has no reserve of {KEPT} MiB")

@@ -73,4 +73,4 @@ def added(three, client, checks):
             set_machines(three, name, NAMES)
     are_well(three)
     checks.expect("changes meanwhile", {status for status in changes if status not in chaos.NONE}, {200})
-    three.run("d", "sv force-stop /etc/service/* || true")
+    three.remove("d")

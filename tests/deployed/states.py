@@ -177,7 +177,7 @@ def full_disk(machine, checks, ask):
     # (its own folder is mounted away, and comes back)
     owner = "uid=$(id -u pdpd),gid=$(id -g pdpd)"
     sh(f"sv -w 30 stop /etc/service/pdpd-3; mount -t tmpfs -o size=1m,mode=700,{owner} full {place}; "
-       "sv up /etc/service/pdpd-3")
+       "rm /etc/pdpd/applied/3.store; sv up /etc/service/pdpd-3")
     wait_until(machine.operator.is_answered, "shard 3 stays away")
     try:
         sh(f"dd if=/dev/zero of={place}/filler bs=64k 2>/dev/null || true")

@@ -3,6 +3,7 @@ of real ones, joined by a bridge; and the network from which clients ask them.""
 import os
 import pathlib
 import re
+import signal
 import subprocess
 import sys
 import time
@@ -28,7 +29,7 @@ class Three:
     """The machines. All that runs on them ends with the test, whose namespace of processes they are in."""
 
     def __init__(self, folder, archive):
-        self.folder, self.archive, self.holders = pathlib.Path(folder), archive, {}
+        self.folder, self.archive, self.holders, self.outer = pathlib.Path(folder), archive, {}, {}
         sh("mount --make-rprivate / && mount -t tmpfs -o mode=755 run /run && mkdir -p /run/lock /run/netns")
         # (what a disk costs isn't what is tried here)
         sh(f"mkdir -p {self.folder}/disks && mount -t tmpfs -o size=8g,mode=755 disks {self.folder}/disks")
@@ -53,8 +54,18 @@ class Three:
             if holder.poll() is not None or time.time() > end:
                 raise RuntimeError((self.folder / f"{name}.said").read_text())
             time.sleep(0.05)
+        self.outer[name] = holder
         self.holders[name] = int(pathlib.Path(f"/proc/{holder.pid}/task/{holder.pid}/children").read_text().split()[0])
         self.run(name, f"cp {self.archive} {self.archive}.sha256 {disk}")
+
+    def remove(self, name):
+        """Has a machine be gone, with its network, its disk, and the certificates that were made for it: another one of
+        that name may come."""
+        # (with its first process all that runs on it ends)
+        os.kill(self.holders.pop(name), signal.SIGKILL)
+        self.outer.pop(name).wait(PATIENCE)
+        sh(f"ip link delete to-{name}; ip netns delete {name}; rm -r {self.folder}/disks/{name}")
+        self.run("a", f"rm -r made/{name}")
 
     def words(self, name, command):
         """Those that run a command of the shell on a machine, in its folder."""

@@ -127,7 +127,7 @@ def left_behind():
     """Nothing is settled while pdpd has a message whose sender has gone, whether it takes connections or not."""
     at = folder / "left"
     with under_way.Turns(at) as turns:
-        one = SimpleNamespace(pdpd=turns.address)
+        one = SimpleNamespace(pdpd=turns.address, user=None)
         expect("nothing was sent", Replica.is_settled(one), True)
         with socket.socket(socket.AF_UNIX) as sends:
             sends.connect(str(at))

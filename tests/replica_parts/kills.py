@@ -1,5 +1,7 @@
 """A daemon that is killed while a long entry is under way at its pdpd, beside clients that ask."""
 import json
+import multiprocessing
+import os
 import random
 import threading
 import time
@@ -39,6 +41,41 @@ class Asker(threading.Thread):
                 time.sleep(0.05)
 
 
+class Askers:
+    """So many of them, in a process of their own: who watches doesn't wait for them."""
+
+    def __init__(self, port, count):
+        self.is_over, self.told = multiprocessing.Event(), multiprocessing.Queue()
+        self.process = multiprocessing.Process(target=self.work, args=(port, count), daemon=True)
+        self.process.start()
+
+    def work(self, port, count):
+        made = [Asker(port, self.is_over) for _ in range(count)]
+        for one in made:
+            one.start()
+        self.is_over.wait()
+        for one in made:
+            one.join(60)
+        self.told.put([one.count for one in made])
+
+    def end(self):
+        """How many decisions each got."""
+        self.is_over.set()
+        found = self.told.get(timeout=120)
+        self.process.join()
+        return found
+
+
+def standing(lab):
+    """What is told where machines aren't level: what each tells of itself, and the ends of their logs."""
+    lines = [f"load {os.getloadavg()[0]:.0f}, head {lab.log.look().head.number}"]
+    for one in lab.machines:
+        said = one.said().splitlines()[-5:]
+        lines += [f"{one.name}: {one.figures()}, pdpd {one.pdpd.process.poll()}, daemon {one.daemon.is_running()}",
+                  *said]
+    return "\n".join(lines)
+
+
 def values(machine):
     """The values that a machine's rows have."""
     held = json.loads(machine.read(as_admin("GET", PIP))[0].partition(b"\r\n\r\n")[2])
@@ -48,41 +85,42 @@ def values(machine):
 def killed_amid():
     """The daemon is killed at any place of a long entry, also while pdpd answers others: no entry is made behind the
     next one. (By hand --kills 200 --askers 60.)"""
-    chance, is_over = random.Random(SEED), threading.Event()
+    chance, began = random.Random(SEED), time.monotonic()
     with Lab("killed_amid", ack="local") as lab:
         first, second, _ = lab.machines
         lab.make_domain(first)
         are_level(lab)
-        askers = [Asker(first.pdpd_port, is_over) for _ in range(GIVEN.askers)]
-        for one in askers:
-            one.start()
-        wrong, count = [], 0
+        askers, wrong, count = Askers(first.pdpd_port, GIVEN.askers), [], 0
         for number in range(GIVEN.kills):
-            at = second.figures()["position"]
-            for more in range(2):
-                body = long_rows(2 * number + more)
-                threading.Thread(target=second.change, args=("PUT", PIP, ADMIN, body), daemon=True).start()
-                wait_until(lambda more=more: second.has(at + 1 + more), LONG)
-                if not more:
-                    wait_until(lambda: first.figures().get("pending") or first.has(at + 1), LONG)
-                    time.sleep(chance.uniform(0, 0.08))
-                    first.daemon.kill()
-                    first.daemon.start()
-            expect("it is level again", are_level(lab), True)
+            at, works = lab.log.look().head.number, [threading.Thread(
+                target=lab.made, args=(second, "PUT", PIP, ADMIN, long_rows(2 * number + more)), daemon=True)
+                for more in range(2)]
+            works[0].start()
+            wait_until(lambda: second.has(at + 1), LONG)  # noqa: B023
+            wait_until(lambda: first.figures().get("pending") or first.has(at + 1), LONG)  # noqa: B023
+            time.sleep(chance.uniform(0, 0.08))
+            first.daemon.kill()
+            first.daemon.start()
+            works[1].start()
+            for one in works:
+                one.join(LONG)
+            is_level = are_level(lab)
+            expect(f"it is level again behind kill {number}", is_level or standing(lab), True)
             found = [values(one) for one in lab.machines]
             count += 1
             if found != [{f"{2 * number + 1}"}] * 3:
                 wrong.append((number, found))
-        is_over.set()
+        asked = askers.end()
         expect("rows that aren't those of the last entry", wrong[:3], [])
-        expect("all have asked", min(one.count for one in askers) > 0, True)
+        expect("all have asked", min(asked) > 0, True)
         for one in lab.machines:
             one.daemon.kill()
         held = [archived(one) for one in lab.machines]
         expect("equal archives", [[one[0] for one in entries] for entries in held[1:]],
                [[one[0] for one in held[0]]] * 2)
         again = sum(one[3] for one in held[0])
-        print(f"  {count} kills, {again} entries sent again, {sum(one.count for one in askers)} decisions", flush=True)
+        print(f"  {count} kills in {time.monotonic() - began:.0f} s, {again} entries sent again, {sum(asked)} "
+              f"decisions by {len(asked)} clients", flush=True)
 
 
 PARTS = (killed_amid,)

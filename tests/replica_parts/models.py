@@ -62,7 +62,8 @@ def models():
             if found and word in mistakes:
                 wrong.append(word)
                 print(f"    {word}: {found[1]}", flush=True)
-    wanted = {"NO_COMPARISON", "SYNC_LATER", "FROM_END", "NO_WAIT", "LATE_MESSAGE", "NO_LED", "NO_FENCE", "OPEN_COPY"}
+    wanted = {"NO_COMPARISON", "SYNC_LATER", "FROM_END", "NO_WAIT", "LATE_MESSAGE", "NO_LED", "NO_FENCE", "OPEN_COPY",
+              "OLD_FILE", "NOTED_FIRST"}
     expect("wrong models that weren't found out", wanted - set(wrong), set())
 
 

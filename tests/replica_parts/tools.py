@@ -9,7 +9,7 @@ from audit_parts.shared import TOP, expect, folder, kept
 from log.archive import Archive
 from log.history import State
 from operating.settings import Wrong as WrongSetting
-from replica import beginning, certificates, cli, copying, moving, options, skipping
+from replica import beginning, certificates, cli, copying, member, moving, options, skipping
 from replica import members as etcd_members
 from replica.comparing import Verdict
 from replica.etcd import Member
@@ -165,7 +165,7 @@ def members():
     """The settings of a member of etcd, also by addresses of IPv6."""
     held = SimpleNamespace(machines={"a": ("10.0.0.1", 2379), "b": ("fd00::2", 2379)}, self="b",
                            etcd_certificates="/etc/pdpd/etcd")
-    lines = cli.etcd_lines(held).splitlines()
+    lines = member.lines(held).splitlines()
     for line in ('ETCD_LISTEN_CLIENT_URLS="https://[fd00::2]:2379"', 'ETCD_LISTEN_PEER_URLS="https://[fd00::2]:2380"',
                  'ETCD_INITIAL_CLUSTER="a=https://10.0.0.1:2380,b=https://[fd00::2]:2380"'):
         expect(line, line in lines, True)

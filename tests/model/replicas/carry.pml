@@ -1,19 +1,25 @@
 /* A domain goes from one group of machines to another (ALL_GROUPS): who changes it, and who decides for it.
 
    Two replicas of the group where it was, clocks of equal speed. A replica's HAProxy leads the domain's messages to the
-   old shard until it follows the map, at any moment or never. A message that it has led waits for the daemon, for any
-   time; the daemon looks at the log, and appends if the head is the same then and nothing is frozen. A lease lasts
-   LEASE ticks from the moment at which the daemon began to read the log, as in lease.pml; each step may be put off. The
-   one who carries the domain may stand still between any two steps, and those that are cut are made again.
+   old shard until it is told of the map's change by its follower, at any moment or never; behind that the follower
+   notes the change, by which the daemon knows it. HAProxy may begin anew with an older map, and the follower with an
+   older file: the first one answers nothing until it was told what the follower knows, and the second one tells nothing
+   until it knows what was noted (and more, if etcd answers it). A message that HAProxy has led waits for the daemon,
+   for any time; the daemon looks at the log, and appends if the head is the same then and nothing is frozen. A lease
+   lasts LEASE ticks from the moment at which the daemon began to read the log, as in lease.pml; each step may be put
+   off. The one who carries the domain may stand still between any two steps, and those that are cut are made again.
+   HAProxy and follower of one of the two begin anew: that saves states.
 
    A change is lost if the old shard takes it once the domain was copied. A decision is stale if the old shard gives it
    once the new one has taken a change. Behind the entry that removes the domain the old shard takes none (it answers
    401).
 
-   It matches deploy/replica/regrouping.py, carry, and core.py, Lease and Appending. Wrong models: NO_LED (neither lease
-   nor append asks by which change of the map messages are led), NO_WAIT (nobody waits for those that don't follow),
-   NO_FENCE (changes are taken before the domain is removed), OPEN_COPY (nothing is frozen before the copy). SHOWS_..:
-   what has to be found. */
+   It matches deploy/replica/regrouping.py, carry, following.py, and core.py, Lease and Appending.
+
+   Wrong models: NO_LED (neither lease nor append asks by which change of the map messages are led), NO_WAIT (nobody
+   waits for those that don't follow), NO_FENCE (changes are taken before the domain is removed), OPEN_COPY (nothing is
+   frozen before the copy), OLD_FILE (a follower that has begun tells what its file has), NOTED_FIRST (it notes a change
+   before HAProxy is told). SHOWS_..: what has to be found. */
 
 #define REPLICAS 2
 #define LEASE 2
@@ -25,7 +31,10 @@ byte head;                              /* of the old shard's log */
 byte age;                               /* how many ticks ago `led` was put, at most LEASE */
 bit waited[REPLICAS];                   /* it follows, or has no lease from before */
 
-bit follows[REPLICAS];
+bit knows[REPLICAS];                    /* its follower does, of the change of the map */
+bit follows[REPLICAS];                  /* HAProxy was told, and leads to the new shard */
+bit noted[REPLICAS];                    /* the daemon knows that it was */
+bit away[REPLICAS];                     /* HAProxy answers nothing yet */
 mtype = { none, begun, read };
 mtype reading[REPLICAS] = none;
 byte since[REPLICAS];
@@ -38,7 +47,17 @@ byte looked[REPLICAS];                  /* the head that its daemon has seen, an
 #ifdef NO_LED
 #define MAY(r, seen) true
 #else
-#define MAY(r, seen) (seen <= follows[r])
+#define MAY(r, seen) (seen <= noted[r])
+#endif
+#ifdef OLD_FILE
+#define MAY_TELL(r) true
+#else
+#define MAY_TELL(r) (knows[r] >= noted[r])
+#endif
+#ifdef NOTED_FIRST
+#define MAY_NOTE(r) knows[r]
+#else
+#define MAY_NOTE(r) (knows[r] && follows[r])
 #endif
 
 inline end_reading(r) { reading[r] = none; since[r] = 0; found[r] = 0 }
@@ -46,7 +65,12 @@ inline end_reading(r) { reading[r] = none; since[r] = 0; found[r] = 0 }
 proctype Replica(byte r) {
 end:
     do
-    :: d_step { moved && !follows[r] -> follows[r] = 1 }
+    :: d_step { moved && !knows[r] -> knows[r] = 1 }
+    :: d_step { (away[r] || follows[r] != knows[r]) && MAY_TELL(r) -> follows[r] = knows[r]; away[r] = 0 }
+    :: d_step { MAY_NOTE(r) && !noted[r] -> noted[r] = 1 }
+    /* HAProxy begins anew, and the follower */
+    :: d_step { r == 0 && !away[r] -> away[r] = 1; follows[r] = 0 }
+    :: d_step { r == 0 && knows[r] -> knows[r] = 0 }
     :: d_step { reading[r] == none && lease[r] < LEASE -> reading[r] = begun }
     :: d_step { reading[r] == begun -> reading[r] = read; found[r] = led }
     :: d_step { reading[r] == read && MAY(r, found[r]) ->
@@ -55,7 +79,7 @@ end:
     :: d_step { reading[r] != none -> end_reading(r) }
     :: d_step { lease[r] > 0 -> lease[r] = 0; end_reading(r) }
     /* a change, which waits */
-    :: d_step { !queued[r] && !follows[r] && head < MOST -> queued[r] = 1 }
+    :: d_step { !queued[r] && !follows[r] && !away[r] && head < MOST -> queued[r] = 1 }
     :: d_step { queued[r] && looked[r] == 0 && !frozen && MAY(r, led) -> looked[r] = head + 1 }
     :: d_step { looked[r] > 0 ->
         if
@@ -68,7 +92,7 @@ end:
 }
 
 inline learn(r) {
-    d_step { led && !waited[r] && (follows[r] || lease[r] == 0 && reading[r] != read) -> waited[r] = 1 }
+    d_step { led && !waited[r] && (noted[r] || lease[r] == 0 && reading[r] != read) -> waited[r] = 1 }
 }
 
 #ifdef NO_WAIT
@@ -114,7 +138,7 @@ end:
     od
 }
 
-#define DECIDES(r) (lease[r] > 0 && !follows[r])
+#define DECIDES(r) (lease[r] > 0 && !follows[r] && !away[r])
 
 proctype Asker() {
 end:

@@ -1,0 +1,94 @@
+"""What an operator breaks and doesn't see of what logs changes: archives of another user, away, or of a clock that was
+ahead; a removed socket. `pdpd-shards status` tells each with what heals it."""
+import pathlib
+import sys
+
+from . import audit
+from .machine import LIBRARY, backs_up, sh, shards, wait_until
+from .overlooked import APPLIED
+from .states import asked, is_well, tells
+from .surroundings import SERVICES
+
+
+def overlooked_logged(machine, checks):
+    """The same of what logs changes."""
+    for line in audit.switch_on(machine):
+        checks.say(line)
+    operator = machine.operator.token
+    wait_until(lambda: audit.make_ward(operator)[0] == 201, "no domain is made")
+    shards("remap")
+    backs_up()
+    wait_until(lambda: asked("status")[0] == 0, lambda: asked("status")[1])
+    for one in (others_archive, socket_gone, lost_archive, clock_ahead):
+        one(machine, checks, int(shards("where", "ward")))
+        wait_until(lambda: asked("status")[0] == 0, lambda: asked("status")[1])
+        wait_until(lambda: changed() == 200, f"no change is taken behind {one.__name__}")
+
+
+def changed():
+    """The status of a change."""
+    return audit.sent("PUT", "/domains/ward/pip", audit.TOKENS["admin"], '{"Row":[]}')[0]
+
+
+def others_archive(machine, checks, place):
+    """An archive is root's, as one that was copied here: the daemon's own reason is told."""
+    folder, service = audit.ARCHIVES / str(place), SERVICES / f"pdpd-replica-{place}"
+    sh(f"chown -R root:root {folder}; sv restart {service}")
+    wanted = f"ends with: pdpd-replica: {folder}/lock: Permission denied"
+    wait_until(lambda: wanted in asked("status")[1], lambda: asked("status")[1])
+    tells(checks, "an archive of root's", wanted)
+    sh(f"chown -R pdpd-replica {folder}")
+
+
+def socket_gone(machine, checks, place):
+    """The daemon's socket was removed: what is told makes it anew."""
+    path = pathlib.Path(f"/run/pdpd-replica/{place}/socket")
+    path.unlink()
+    tells(checks, "without its socket", f"the socket {path} of pdpd-replica isn't there: restart pdpd-replica-{place}")
+    sh(f"sv restart {SERVICES}/pdpd-replica-{place}")
+
+
+def lost_archive(machine, checks, place):
+    """An archive isn't there, as where its disk isn't mounted: no empty one is begun, in which no past would be."""
+    folder, aside = audit.ARCHIVES / str(place), machine.folder / "archive-aside"
+    service = SERVICES / f"pdpd-replica-{place}"
+    shards("restart", place)  # (the note is made once there is a change)
+    sh(f"sv -w 30 stop {service}; mv {folder} {aside}; sv up {service}")
+    wanted = f"the archive in {folder} was there, and isn't: mount its disk"
+    wait_until(lambda: wanted in asked("status")[1], lambda: asked("status")[1])
+    checks.expect("a change, meanwhile", changed(), 503)
+    checks.expect("what was begun", [*folder.glob("*.log")], [])
+    sh(f"sv -w 30 stop {service}; rm -r {folder}; mv {aside} {folder}; sv up {service}")
+
+
+# writes a change of the domain `ward` into an archive, an hour and a half from now, as a clock that is ahead has it
+AHEAD = """
+import pathlib, sys, time
+sys.path.insert(0, sys.argv[1])
+from log.archive import Archive
+from log.keeping import Keeping
+archive = Archive(pathlib.Path(sys.argv[2]), lambda: time.time() + 5400)
+kept = Keeping(archive, print)
+more, data = kept.as_kept("ward", archive.position + 1, b"{}")
+head = {"domain": "ward", "who": "admin", "method": "PUT", "path": "/domains/ward/pap/root", "fields": []}
+reply = b"HTTP/1.1 401 Unauthorized\\r\\n\\r\\n"
+kept.behind(archive.add_entry({**head, **more}, data), archive.add_reply(401, reply, False))
+"""
+
+
+def clock_ahead(machine, checks, place):
+    """The clock was ahead when a change was logged: those that come behind it are of that moment, until it comes. What
+    is told begins another archive."""
+    folder, aside = audit.ARCHIVES / str(place), machine.folder / "archive-ahead"
+    service = SERVICES / f"pdpd-replica-{place}"
+    sh(f"sv -w 30 stop {service}; cp -a {folder} {aside}")
+    sh(f"setpriv --reuid=pdpd-replica --regid=pdpd-replica --clear-groups {sys.executable} -Bc '{AHEAD}' {LIBRARY} "
+       f"{folder}; sv up {service}")
+    wanted = f"the archive of shard {place} is 1.5 hours beyond this clock, which was ahead, or is behind"
+    wait_until(lambda: wanted in asked("status")[1], lambda: asked("status")[1])
+    heals = f"stop pdpd-replica-{place}, move what is in {folder} elsewhere, remove {APPLIED}/{place}.archive"
+    tells(checks, "a clock that was ahead", heals)
+    sh(f"sv -w 30 stop {service}; rm -r {folder}/* {APPLIED}/{place}.archive; sv up {service}")
+    wait_until(lambda: changed() == 200, "no change is taken by another archive")
+    is_well(checks, "another archive")
+    sh(f"sv -w 30 stop {service}; rm -r {folder}; mv {aside} {folder}; sv up {service}")
