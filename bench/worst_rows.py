@@ -3,13 +3,14 @@ import itertools
 import random
 from functools import partial
 
-from functions import V1, V3
+from functions import V1, V2, V3
 from unit_documents import (
     apply, designator, literal, match, policy, policy_set, rule, target, to_policy, to_set, written)
-from worst_ends import MOST_DOCUMENT, ask, to_ones
+from worst_ends import MOST_DOCUMENT, ask, in_a_field, to_ones
 
-# how much more time twice the size may take
-LINEAR = 2.7
+EQUAL, STARTS = V1 + "string-equal", V3 + "string-starts-with"
+# how much more time twice the size may take, and where it is kept in tables
+LINEAR, IN_TABLES = 2.7, 3.3
 
 
 # ---- functions
@@ -42,6 +43,16 @@ def choices(called, *first):
 
 def contains(size):
     return ["apply", V3 + "string-contains", "string:" + "a" * size + "b", "string:" + "a" * (4 * size)]
+
+
+def union(size):
+    """The union of 20 bags, each of the same values."""
+    return ["apply", V1 + "integer-union", *["bag:integer", *(f"+{number}" for number in range(size))] * 20]
+
+
+def joined(size):
+    """So many texts of 2,000 bytes, one after another."""
+    return ["apply", V2 + "string-concatenate", *["string:" + "x" * 2_000] * size]
 
 
 def variables(size):
@@ -136,6 +147,12 @@ def matches(function, count, values):
     return decide([draft], "policy|p|||", request_of([f"value {i}" for i in range(values)]))
 
 
+def matches_named(size):
+    """A set that names so often a policy of 100 matches that are all false, on a bag of 40 times as many texts."""
+    draft = policy("p", Target=target(match(EQUAL, "string", "value none", "urn:a"), alternatives=100))
+    return decide([to_ones(size), draft], "set|s|||", request_of([f"value {i}" for i in range(40 * size)]))
+
+
 def bag_named(count, values):
     """A condition that names a bag of so many integers so often, and looks in it for one that it hasn't."""
     each = apply(V1 + "integer-is-in", literal("integer", 2), designator("urn:a", "integer"))
@@ -157,14 +174,45 @@ def head(size):
     return ["stream", *pieces]
 
 
+ACME = ["domain:acme", "ask:acme-token-1", "document:" + written(policy("p")), "root:policy|p|||"]
+
+
 def asks_at_once(count):
     """So many asks in one piece."""
     text = ask({"Request": {}}).removeprefix("piece:")
-    return ["server_in_memory", "domain:acme", "ask:acme-token-1", "document:" + written(policy("p")),
-            "root:policy|p|||", "piece:" + text * count]
+    return ["server_in_memory", *ACME, "piece:" + text * count]
 
 
-EQUAL, STARTS = V1 + "string-equal", V3 + "string-starts-with"
+# ---- what is kept in tables
+
+def in_tables(*pieces):
+    return ["server_in_tables", *ACME, "admin:acme-admin-1", *("piece:" + piece for piece in pieces)]
+
+
+def sent(request, token, body=""):
+    """A message, as a field of a row has it."""
+    length = f"Content-Length: {len(body)}\\r\\n" if body else ""
+    return f"{request} HTTP/1.1\\r\\nAuthorization: Bearer {token}\\r\\n{length}\\r\\n{in_a_field(body)}"
+
+
+def by_admin(request, body=""):
+    method, path = request.split(" ")
+    return sent(f"{method} /domains/acme/{path}", "acme-admin-1", body)
+
+
+def rows_put(size):
+    """So many rows of a source, put and shown."""
+    rows = [{"AttributeId": "a", "Category": "urn:c", "DataType": "string", "Entity": "", "Value": str(number)}
+            for number in range(size)]
+    return in_tables(by_admin("PUT pip", written({"Row": rows})), by_admin("GET pip"))
+
+
+def domains_made(size):
+    """So many domains, listed ten times."""
+    made = "".join(sent(f"PUT /operator/domains/d{number}", "operator-token-1") for number in range(size))
+    return in_tables(made, sent("GET /operator/domains", "operator-token-1") * 10)
+
+
 # what it is, its row of a size, a size, and how much more time twice that may take
 LINES = [
     ("any-of-any of equal integers, two bags of n",
@@ -183,6 +231,8 @@ LINES = [
     ("any-of-any of and over n bags of two", choices("and"), 80_000, LINEAR),
     ("any-of-any of n-of by n numbers over n bags of two", choices("n-of", "bag:integer"), 80_000, LINEAR),
     ("string-contains, n in 4n", contains, 500_000, LINEAR),
+    ("the union of 20 bags of n integers", union, 8_000, LINEAR),
+    ("n texts of 2,000 bytes, joined", joined, 1_000, LINEAR),
     ("an expression that names n variables", variables, 8_000, LINEAR),
     ("a tree of 1,000 sets with n references each that lead nowhere", lost_references, 600, LINEAR),
     ("a root of n references over 250 versions", versions, 250, LINEAR),
@@ -195,8 +245,11 @@ LINES = [
     ("a head of n bytes, a byte a piece", head, 4_000, LINEAR),
     ("256 matches by equality on a bag of n texts", partial(matches, EQUAL, 256), 40_000, LINEAR),
     ("n matches by equality on a bag of 80,000 texts", partial(matches, EQUAL, values=80_000), 128, LINEAR),
+    ("100 n matches by equality on a bag of 40 n texts", matches_named, 120, LINEAR),
     ("n namings of a bag of 130,000 integers", partial(bag_named, values=130_000), 64, LINEAR),
     ("130 namings of a bag of n integers", partial(bag_named, 130), 65_000, LINEAR),
     ("n decision requests in one piece", asks_at_once, 2_000, LINEAR),
     ("200 matches by string-starts-with on a bag of n texts", partial(matches, STARTS, 200), 5_000, LINEAR),
+    ("n rows of a source, put and shown, in tables", rows_put, 2_048, IN_TABLES),
+    ("n domains, made and listed, in tables", domains_made, 1_000, IN_TABLES),
 ]

@@ -2,8 +2,8 @@
 """Runs all tests: every stored row, the stored transcript, a comparison of 2,000 random rows with the model, the real
 program from outside, 2,000 random schedules of connections beside the model, both programs with each allocation refused
 in turn, the policy author's desk, the CI gate with kits of different abilities, whether each wrong body still applies,
-and whether what is generated in the pages is right. The last line is 'N passed, M failed'; each answer and each check
-counts as one.
+and whether what is generated in the pages is right. No run over rows may leave memory. The last line is 'N passed, M
+failed'; each answer and each check counts as one.
 
 usage: tests/all.py             over the programs that are proved and built of these very sources; where one
                                 isn't, it is compiled of them without proof
@@ -27,6 +27,8 @@ sys.path.insert(0, str(TESTS))
 sys.dont_write_bytecode = True
 
 import programs  # noqa: E402
+from growths import compiled  # noqa: E402
+from held import COUNTING  # noqa: E402
 
 # Rows of one run of the program, and of one comparison with the model; the comparisons together have 2,000.
 ROWS_A_RUN, ROWS_COMPARED, COMPARISONS = 250, 250, 8
@@ -40,10 +42,11 @@ printing = threading.Lock()
 
 
 class Program:
-    """A program that tests run, once it is there."""
+    """A program that tests run, once it is there, and the library that counts the memory that it holds."""
 
-    def __init__(self, name, only_proved):
-        self.name, self.only_proved, self.is_proved, self.path = name, only_proved, False, Future()
+    def __init__(self, name, only_proved, counting):
+        self.name, self.only_proved, self.counting = name, only_proved, counting
+        self.is_proved, self.path = False, Future()
 
     def find(self):
         """Finds it, or compiles it."""
@@ -74,13 +77,23 @@ def outcome_of(command, count=count_of_last_line, **how):
     return passed, max(failed, 1) if result.returncode or not passed + failed else failed, text
 
 
+def fault_of_end(result):
+    """What is wrong with the end of a run whose memory was counted, if something is."""
+    if result.returncode == -signal.SIGXCPU:
+        return f"took over {PROCESSOR_SECONDS} s of the processor's time"
+    if result.returncode:
+        return f"ended with status {result.returncode}: {result.stderr.decode(errors='replace')[-500:]}"
+    left = int(result.stderr.split()[-3])
+    return f"has left {left} bytes of memory" if left else ""
+
+
 def output_of(program, words, data):
     """What a program writes to those bytes, and what is wrong with its end, if something is."""
     words = ["sh", "-c", f'ulimit -S -t {PROCESSOR_SECONDS}; exec "$@"', "sh", program.path.result(), *words]
-    result = subprocess.run(words, input=data, capture_output=True, timeout=SECONDS, check=False)
-    why = (f"took over {PROCESSOR_SECONDS} s of the processor's time" if result.returncode == -signal.SIGXCPU
-           else f"ended with status {result.returncode}: {result.stderr.decode(errors='replace')[-500:]}")
-    return result.stdout, f"{program.name} {why}" if result.returncode else ""
+    how = {"env": {**os.environ, "LD_PRELOAD": program.counting}, "timeout": SECONDS, "check": False}
+    result = subprocess.run(words, input=data, capture_output=True, **how)
+    fault = fault_of_end(result)
+    return result.stdout, fault and f"{program.name} {fault}"
 
 
 def beginning(lines, at):
@@ -237,8 +250,10 @@ def main():
         print(__doc__, file=sys.stderr)
         return 2
     steps = Steps()
-    programs_tested = [Program(name, "--proved" in sys.argv) for name in ("pdpd", "xa_trials", "xa_schedules")]
-    with ThreadPoolExecutor(max(2, len(os.sched_getaffinity(0)))) as pool:
+    with tempfile.TemporaryDirectory() as folder, ThreadPoolExecutor(max(2, len(os.sched_getaffinity(0)))) as pool:
+        counting = compiled(COUNTING, f"{folder}/counting.so")
+        programs_tested = [Program(name, "--proved" in sys.argv, counting)
+                           for name in ("pdpd", "xa_trials", "xa_schedules")]
         lanes = [pool.submit(lambda lane=lane: [steps.take(*step) for step in lane])
                  for lane in all_steps(*programs_tested)]
     for lane in lanes:

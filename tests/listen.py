@@ -23,12 +23,12 @@ from serving import OPERATOR  # noqa: E402
 
 PARTS = (
     crowds.together, crowds.crowded, crowds.driven_out, crowds.busy, crowds.resets, crowds.descriptors,
-    waiting.silent, waiting.slow, waiting.slow_body, waiting.told, waiting.refusals,
+    waiting.silent, waiting.slow, waiting.slow_body, waiting.unwoken, waiting.told, waiting.refusals,
     readers.never_reads, readers.slow_readers, readers.bounded,
     parting.behind_faults, parting.over_a_slow_network, parting.stays_bounded,
     ends.by_input, ends.at_the_door, ends.half_a_message, ends.by_terminal, ends.by_signal, ends.input_unwatched,
     addresses.internet, addresses.unix, addresses.occupied, addresses.unusable,
-    clients.old_curl, clients.pooled, clients.proxied,
+    clients.old_curl, clients.pooled, clients.pooled_by_java, clients.proxied,
     kills.under_writers)
 
 

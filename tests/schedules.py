@@ -8,13 +8,15 @@ usage: tests/schedules.py PROGRAM [COUNT [SEED]]    so many drawn schedules, 10,
 """
 import pathlib
 import random
-import subprocess
 import sys
+import tempfile
 
 TESTS = pathlib.Path(__file__).resolve().parent
 sys.dont_write_bytecode = True
 sys.path[:0] = [str(TESTS / "model"), str(TESTS)]
 from counting import CountingServer  # noqa: E402
+from growths import compiled  # noqa: E402
+from held import COUNTING, counted  # noqa: E402
 from reactors import schedule  # noqa: E402
 from sent import OPERATOR, growing_policy, making, message  # noqa: E402
 
@@ -221,11 +223,10 @@ def modelled(rows):
     return [schedule(row, CountingServer(OPERATOR.encode())) for row in rows]
 
 
-def answered(program, rows):
-    """What the program answers."""
-    lines = "".join(f"{row}\n" for row in rows)
-    ran = subprocess.run([program], input=lines, capture_output=True, text=True, check=True)
-    return ran.stdout.split("\n")[:-1]
+def answered(program, library, rows):
+    """What the program answers, and how many bytes of memory it leaves."""
+    held, written = counted([program], library, "".join(f"{row}\n" for row in rows).encode())
+    return written.decode().split("\n")[:-1], held.left
 
 
 def write():
@@ -236,12 +237,15 @@ def write():
     return f"{len(rows)} schedules written"
 
 
-def compare(program, count, seed):
-    """The first schedules that are answered otherwise; the number of those that are."""
+def compare(program, library, count, seed):
+    """The first schedules that are answered otherwise; the number of those that are, and of runs that leave memory."""
     rows, differ = [*worked(), *("\t".join(row) for row in held_rows()), *drawn(count, seed)], 0
     for at in range(0, len(rows), AT_ONCE):
         part = rows[at:at + AT_ONCE]
-        for row, found, wanted in zip(part, answered(program, part), modelled(part), strict=True):
+        answers, left = answered(program, library, part)
+        differ += left > 0
+        print(f"LEFT: {left} bytes of memory behind schedules from {at} on\n" if left else "", end="")
+        for row, found, wanted in zip(part, answers, modelled(part), strict=True):
             differ += found != wanted
             if found != wanted and differ < 4:
                 print(f"DIFFERS\n  row    {row[:1500]}\n  found  {found[:1500]}\n  wanted {wanted[:1500]}")
@@ -255,7 +259,8 @@ def main():
         return 0
     program, *more = sys.argv[1:]
     count, seed = [*map(int, more), *(COUNT, 1)[len(more):]]
-    return compare(program, count, seed)
+    with tempfile.TemporaryDirectory() as folder:
+        return compare(program, compiled(COUNTING, f"{folder}/counting.so"), count, seed)
 
 
 if __name__ == "__main__":

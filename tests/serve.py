@@ -26,7 +26,7 @@ from serving import COMMAND, OPERATOR  # noqa: E402
 PARTS = (
     walks.walk, walks.fewer_rows,
     streams.single_bytes, streams.cuts, streams.garbage, streams.silent, streams.mixed, streams.pipelined,
-    streams.unread, streams.many_at_once, streams.large, streams.closing,
+    streams.unread, streams.many_at_once, streams.large, streams.closing, streams.parted,
     disks.kills, disks.full_disk, disks.shut,
     command_line.usages, command_line.addresses, command_line.settings, command_line.unknown_settings,
     command_line.token_files, command_line.shared_token, command_line.order_of_faults,
@@ -35,7 +35,7 @@ PARTS = (
     memory.connections_leave_nothing, memory.stack, memory.address_space, disks.file_size, sockets.idle,
     limits.long_replies, limits.limits, limits.limits_told, limits.work_unless_set, limits.reading_and_views,
     sizes.long_parts, sizes.many_domains, sizes.long_text, sizes.many_assignments, sizes.full_domain,
-    costs.single, costs.kept, sockets.last)
+    costs.single, costs.kept, costs.at_once, sockets.last)
 
 # What holds of `pdpd serve` alone, and why; tests/listen.py has what holds of `pdpd listen` in its place.
 ONE_BY_ONE = {

@@ -211,6 +211,13 @@ def mistakes():
             fault, said = raised(Domain, at, name, token)
             expect(f"{at}, {name!r}: {said}", fault, "Unsendable")
             expect("the token isn't in what is said", token in said, False)
+        operator = Operator(server.url, ADMIN)
+        for name, role, token, phrase in (
+                ("acme", "reader", ADMIN, "admin or ask"), ("acme", "ask", "short", "8 to 64"),
+                ("acme", "ask", "x y z w v u", "8 to 64"), ("Acme", "ask", ADMIN, "no name of a domain")):
+            fault, said = raised(operator.give_token, name, role, token)
+            expect(f"{role} {token} of {name}: {said}", (fault, phrase in said), ("Unsendable", True))
+        expect("nor is one taken", raised(operator.take_token, "acme", "short")[0], "Unsendable")
         expect("a text for a list", raised(Domain, server.url, "acme", ADMIN, understood="urn:a")[0], "Unsendable")
         expect("plain HTTP by choice", raised(Domain, "http://pdp.example", "acme", ADMIN, allow_http=True)[0], "")
         expect("the token isn't shown", ADMIN in repr(domain) + repr(vars(domain).keys()), False)

@@ -1,13 +1,19 @@
 """Connections that say nothing, or too slowly."""
+import pathlib
 import selectors
 import time
 
 from checks import Between
+from serve_parts.costs import sleeps
 from serve_parts.limits import refusals_in
-from serve_parts.shared import ASK, LIST, PERMIT
-from serving import UNAVAILABLE
+from serve_parts.shared import ASK, LIST, PERMIT, in_acme
+from serving import DONE, UNAVAILABLE
 
+from .readers import ROWS, SHOWS, deaf
 from .shared import PLACES, clients_of, expect, listening, timed, within
+
+# How often is looked within a second whether the program sleeps.
+LOOKS = 20
 
 
 def silent():
@@ -70,6 +76,32 @@ def slow_body():
                 found, seconds = timed(client.all)
                 expect(f"{what}: all that comes then", found, b"")
                 within(f"{what}: the seconds until it ended", seconds, Between(0.8, 4))
+
+
+def looks_at(served, count):
+    """What the program does at so many looks, by letters (proc(5)): S if it sleeps until something comes."""
+    states = ""
+    for _ in range(count):
+        time.sleep(1 / LOOKS)
+        states += pathlib.Path(f"/proc/{served.process.pid}/stat").read_text().rpartition(") ")[2][0]
+    return states
+
+
+def unwoken():
+    """Where nothing can go on the program sleeps: all places are taken by halves of messages, for which no limit is
+    set, and by a peer that takes no reply; and one more waits at the door."""
+    with listening("unwoken", PDPD_MESSAGE="0") as served:
+        expect("rows", served.once(in_acme("PUT pip", ROWS)), [DONE])
+        with deaf(served) as client, clients_of(served, PLACES - 1) as halves, served.client() as late:
+            client.send(SHOWS * 12)
+            for each in [*halves, late]:
+                each.send(ASK[:-1])
+            for _ in range(10 * LOOKS):
+                if looks_at(served, 3) == "SSS":
+                    break
+            began, states = sleeps(served), looks_at(served, LOOKS)
+            within("how often it went to sleep in a second", sleeps(served) - began, range(4))
+            within("how often it was found asleep", states.count("S"), range(LOOKS - 4, LOOKS + 1))
 
 
 def told():

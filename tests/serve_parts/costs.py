@@ -1,9 +1,12 @@
-"""What bytes cost of the processor's time if they come one by one, and a decision that is kept among many."""
+"""What bytes cost of the processor's time if they come one by one, and a decision that is kept among many; and how
+long a reply behind another takes."""
 import pathlib
+import socket
+import time
 
 from checks import Between
 
-from .shared import PERMIT, expect, in_acme, make_domain, serving, within
+from .shared import ASK, PERMIT, expect, in_acme, make_domain, serving, within
 
 # Bytes that come one by one, how often, and how much longer those behind many others may take than the first.
 SINGLE, REPEATED, ROUNDS, MOST_TIMES = 50, 5, 3, 3
@@ -80,3 +83,24 @@ def kept():
     few, many = map(seconds_of_kept, (FEW_KEPT, MOST_KEPT))
     within(f"how much longer an ask takes where {MOST_KEPT} decisions are kept than where {FEW_KEPT} are", many / few,
            Between(0, MOST_TIMES))
+
+
+# How often two messages are sent together, and the most seconds until both replies are there, at best: of a peer that
+# tells late of what it has got, Linux waits for a twenty-fifth of a second.
+PAIRS, MOST_SECONDS = 12, 0.02
+
+
+def at_once():
+    """A reply doesn't wait until its peer has told that it got the one before (Nagle's algorithm; RFC 9293, section
+    3.7.4)."""
+    with serving("undelayed.db") as served:
+        make_domain(served)
+        found = []
+        with served.client() as client:
+            for _ in range(PAIRS):
+                client.socket.setsockopt(socket.IPPROTO_TCP, socket.TCP_QUICKACK, 0)
+                began = time.monotonic()
+                client.send(ASK * 2)
+                expect("two replies", [client.reply(), client.reply()], [PERMIT] * 2)
+                found.append(time.monotonic() - began)
+    within("the seconds until two replies were there, at best", min(found), Between(0, MOST_SECONDS))

@@ -3,6 +3,7 @@ import collections
 import threading
 import time
 
+from checks import Between
 from sent import rows_body
 from serving import (
     ABSENT, BAD_HEAD, CREATED, DONE, EXISTS, HEAD_TOO_LARGE, OPERATOR, UNAUTHORIZED, fault, free_port, making, message,
@@ -223,3 +224,33 @@ def closing():
                 client.send(ask_with("Connection: close"))
                 expect("on the same port again at once", (served.listens, client.all()), (True, PERMIT))
             served.ended()
+
+
+def parted():
+    """The last reply arrives at one that sends 8 MB behind a fault before it reads; and one that sends on without an
+    end is left after two seconds."""
+    large = b"POST /domains/acme/pdp HTTP/1.1\r\nContent-Length: 100000000\r\n\r\n"
+    wanted = fault("413 Payload Too Large", "BodyTooLarge")
+    with serving("parted.db") as served:
+        for _ in range(10):
+            with served.client() as client:
+                client.send(large)
+                sent = sends_on(client, [b"x" * 65_536] * 122)
+                expect(f"the reply behind {sent} pieces", client.all(), wanted)
+        with served.client() as client:
+            began = time.monotonic()
+            client.send(large)
+            sends_on(client, (b"x" * 100 for _ in range(1_000) if not time.sleep(0.01)))
+            within("the seconds until one that sends on was left", time.monotonic() - began, Between(1.5, 6))
+        expect("the next", served.once(LIST), [listing([])])
+
+
+def sends_on(client, pieces):
+    """Sends pieces as long as they can be sent, and tells how many were."""
+    count = 0
+    try:
+        for count, piece in enumerate(pieces):
+            client.send(piece)
+    except OSError:
+        pass
+    return count
