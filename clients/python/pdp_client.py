@@ -416,6 +416,12 @@ def is_token(text: str) -> bool:
     return re.fullmatch("[!-~]{8,64}", text) is not None
 
 
+def _proper(token: str) -> str:
+    if not is_token(token):
+        raise Unsendable("a token has 8 to 64 visible ASCII characters: is there a line end, or a space?")
+    return token
+
+
 class _Server:
     """A server, and the token that is shown to it."""
 
@@ -428,9 +434,7 @@ class _Server:
         self._at = address_of(url)
         if is_readable_underway(url) and not allow_http:
             raise Unsendable("http:// shows the token to whoever is between: use https://, or allow_http=True")
-        if not is_token(token):
-            raise Unsendable("a token has 8 to 64 visible ASCII characters: is there a line end, or a space?")
-        self._token, self._seconds, self._keep = token, seconds, keep
+        self._token, self._seconds, self._keep = _proper(token), seconds, keep
         self._tls = ssl.create_default_context(cafile=ca_file) if self._at.scheme == "https" else None
         # connections that wait, each with the process that made it and until when it may wait
         self._kept: Deque[Tuple[socket.socket, int, float]] = collections.deque()
@@ -591,11 +595,13 @@ class Operator(_Server):
 
     def give_token(self, domain: str, role: str, token: str) -> None:
         """Gives a domain a token of the role "admin" or "ask"."""
-        self._ask("POST", f"/operator/domains/{_named(domain)}/tokens", _json({"Role": role, "Token": token}))
+        if role not in ("admin", "ask"):
+            raise Unsendable(f"{role!r} is no role: admin or ask")
+        self._ask("POST", f"/operator/domains/{_named(domain)}/tokens", _json({"Role": role, "Token": _proper(token)}))
 
     def take_token(self, domain: str, token: str) -> None:
         """Takes a token from a domain."""
-        self._ask("DELETE", f"/operator/domains/{_named(domain)}/tokens", _json({"Token": token}))
+        self._ask("DELETE", f"/operator/domains/{_named(domain)}/tokens", _json({"Token": _proper(token)}))
 
 
 @dataclass(frozen=True)

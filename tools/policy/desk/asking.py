@@ -3,7 +3,7 @@ from __future__ import annotations
 
 from dataclasses import dataclass
 
-from . import names
+from . import left_out, names
 from .check import Disagreement, json_of, marked
 from .faults import Remarks
 from .members import kind_of, name_node
@@ -132,7 +132,7 @@ class Asking:
             return ""
         held = self.of_text(node, "DataType")
         if held is not None and held not in identifiers.DATA_TYPES:
-            sentence, nearest = names.unknown_type(held)
+            sentence, nearest = left_out.unknown_type(held)
             self.fault(node.at("DataType"), sentence, listed(values.TYPES), held, nearest)
         return identifiers.DATA_TYPES.get(held)
 

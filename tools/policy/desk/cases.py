@@ -18,16 +18,18 @@ A file of cases is a JSON object:
 """
 from __future__ import annotations
 
+import argparse
 import json
 import pathlib
 import xml.etree.ElementTree as xml
 from dataclasses import dataclass, field
 
-from . import ask, coverage, explain, files, names, setting, text, together
+from . import ask, coverage, explain, explained, files, names, setting, text, together
 from .check import Rows, json_of, rows_in
 from .faults import Remarks
 from .positions import Node, Source
 from .program import Program
+from .verdicts import print_remarks
 
 OF_FILE = ["Policy", "Root", "Rows", "Case"]
 OF_CASE = ["Name", "Request", "At", "Decision", "Status", "Obligations", "Advice", "Results"]
@@ -52,6 +54,7 @@ class Outcome:
     case: Case
     failures: list[str]
     because: str = ""
+    explained: list[dict] | None = None
 
 
 @dataclass
@@ -226,7 +229,7 @@ def shown(duties: list[dict]) -> str:
     return ", ".join(held) or "none"
 
 
-def outcome(case: Case, answer: ask.Answer, explained: list[dict] | None) -> Outcome:
+def outcome(case: Case, answer: ask.Answer, told: list[dict] | None) -> Outcome:
     """Whether the answer is the expected one."""
     if answer.is_refused:
         return Outcome(case, [f"the request is refused: {answer.body[1:]}"])
@@ -239,9 +242,9 @@ def outcome(case: Case, answer: ask.Answer, explained: list[dict] | None) -> Out
     for number, (expected, given) in enumerate(zip(case.expected, results)):
         differ = differences(expected, given)
         failures += [f"result {number + 1}: {one}" if len(results) > 1 else one for one in differ]
-        if differ and explained and not because:
-            because = explained[number].get("tree", explained[number]).get("because", "")
-    return Outcome(case, failures, because)
+        if differ and told and not because:
+            because = told[number].get("tree", told[number]).get("because", "")
+    return Outcome(case, failures, because, told)
 
 
 def run_suite(suite: Suite, program: Program | None, reached: coverage.Coverage) -> bool:
@@ -249,18 +252,18 @@ def run_suite(suite: Suite, program: Program | None, reached: coverage.Coverage)
     answers = ask.answered(suite.setting, [(case.held, case.moment) for case in suite.cases], program)
     agree = True
     for case, answer in zip(suite.cases, answers):
-        explained = explain.explained(suite.setting, case.held, case.moment)
-        suite.outcomes.append(outcome(case, answer, explained))
-        reached.add(explained or [])
-        if not answer.agrees or not ask.is_explained(answer.results(), explained):
+        told = explain.explained(suite.setting, case.held, case.moment)
+        suite.outcomes.append(outcome(case, answer, told))
+        reached.add(told or [])
+        if not answer.agrees or not ask.is_explained(answer.results(), told):
             agree = False
             text.loud(f"MODEL AND PROGRAM DISAGREE on {suite.path}, {case.name}. The model: "
                       f"{answer.by_model[:400]} The program: {(answer.by_program or '')[:400]}")
     return agree
 
 
-def print_outcome(one: Outcome) -> None:
-    """A case, and why it failed where it did."""
+def print_outcome(one: Outcome, is_explained: bool = False) -> None:
+    """A case, and why it failed where it did: in a line, or by the whole tree."""
     place = f"{one.case.node.source.path}:{one.case.node.place.line}"
     if not one.failures:
         print(text.wrapped(f"{text.painted('ok', 'green')}      {one.case.name}", "", "        "))
@@ -268,7 +271,9 @@ def print_outcome(one: Outcome) -> None:
     print(text.wrapped(f"{text.painted('FAILED', 'bold', 'red')}  {one.case.name} ({place})", "", "        "))
     for failure in one.failures:
         print(text.wrapped(failure, "        "))
-    if one.because:
+    if is_explained and one.explained:
+        print(f"\n{explained.shown(one.explained)}\n")
+    elif one.because:
         print(text.wrapped(f"because: {one.because}", "        ", "            "))
 
 
@@ -289,32 +294,34 @@ def junit(suites: list[Suite]) -> bytes:
     return xml.tostring(whole, encoding="utf-8", xml_declaration=True) + b"\n"
 
 
-def print_suite(suite: Suite) -> None:
+def print_suite(suite: Suite, is_explained: bool) -> None:
     """The outcomes of a file of cases."""
     print(text.painted(suite.path, "bold"))
     for one in suite.outcomes:
-        print_outcome(one)
+        print_outcome(one, is_explained)
 
 
-def run(readers: list[CaseReader], program: Program | None, junit_path: str | None, wants_coverage: bool) -> int:
-    """Runs files of cases; the exit status."""
+def run(readers: list[CaseReader], program: Program | None, options: argparse.Namespace) -> int:
+    """Runs files of cases, as the options say; the exit status."""
     suites, has_faults, agree, reached = [], False, True, coverage.Coverage()
     for reader in readers:
         suite = reader.suite()
         if suite is None:
             has_faults = True
-            print("\n\n".join(text.remark_shown(remark) for remark in reader.remarks.faults()) + "\n")
+            print_remarks(reader.remarks.faults())
             continue
         suites.append(suite)
         reached.expect(suite.setting)
         agree = run_suite(suite, program, reached) and agree
-        print_suite(suite)
-    if junit_path is not None:
-        pathlib.Path(junit_path).write_bytes(junit(suites))
-    if wants_coverage:
+        print_suite(suite, options.is_explained)
+    if options.junit is not None:
+        pathlib.Path(options.junit).write_bytes(junit(suites))
+    if options.coverage:
         print("\n" + reached.shown())
     outcomes = [one for suite in suites for one in suite.outcomes]
     failed = sum(bool(one.failures) for one in outcomes)
-    print(f"\n{text.counted(len(outcomes), 'case')}: {len(outcomes) - failed} ok, {failed} failed, by "
-          + ("the model alone" if program is None else "model and program"))
+    print("\n" + text.wrapped(
+        f"{text.counted(len(outcomes), 'case')}: {len(outcomes) - failed} ok, {failed} failed, by "
+        + ("the model alone" if program is None else "model and program")
+        + ("; --explain shows how each failed one came about" if failed and not options.is_explained else "")))
     return 3 if not agree else 1 if failed or has_faults else 0

@@ -131,9 +131,9 @@ def decided(options: argparse.Namespace) -> int:
         return DISAGREE
     remarks = remarks_on_root(held).found + asked.remarks.found
     if options.is_explained:
-        print_explained(options, answer, shown, moment, remarks)
+        print_explained(options, held, answer, shown, moment, remarks)
     else:
-        print_asked(options, answer, moment, remarks)
+        print_asked(options, held, answer, moment, remarks)
     return FAULTS if any(remark.level == "fault" for remark in remarks) else FINE
 
 
@@ -145,7 +145,14 @@ def explanation_agrees(answer: ask.Answer, shown: list[dict] | None) -> bool:
     return True
 
 
-def print_asked(options: argparse.Namespace, answer: ask.Answer, moment: int, remarks: list[Remark]) -> None:
+def behind(held: setting.Setting, answer: ask.Answer, moment: int) -> str:
+    """When and by whom was decided, and that no rows are given, where none are."""
+    by = "the model alone" if answer.by_program is None else "model and program"
+    return f"\nat {setting.moment_shown(moment)}, by {by}" + ("; without rows (--rows)" if held.rows is None else "")
+
+
+def print_asked(options: argparse.Namespace, held: setting.Setting, answer: ask.Answer, moment: int,
+                remarks: list[Remark]) -> None:
     """The response, laid out and as the server writes it, or alone."""
     if options.raw:
         print(answer.body)
@@ -155,20 +162,19 @@ def print_asked(options: argparse.Namespace, answer: ask.Answer, moment: int, re
         print(answer.refusal)
         return
     print(laid_out.shown(answer.results()))
-    print(f"\nat {setting.moment_shown(moment)}, by "
-          + ("the model alone" if answer.by_program is None else "model and program")
-          + "; the server writes:")
+    print(f"{behind(held, answer, moment)}\nthe server writes:")
     print(answer.body)
 
 
-def print_explained(options: argparse.Namespace, answer: ask.Answer, shown: list[dict] | None, moment: int,
-                    remarks: list[Remark]) -> None:
+def print_explained(options: argparse.Namespace, held: setting.Setting, answer: ask.Answer,
+                    shown: list[dict] | None, moment: int, remarks: list[Remark]) -> None:
     """The explanation, as text or as JSON."""
     if options.json:
-        held = {"at": setting.moment_shown(moment), "by": "model" if answer.by_program is None else "model and program",
-                "remarks": [remark.as_json() for remark in remarks],
-                "response": None if answer.is_refused else json.loads(answer.body), "results": shown}
-        print(json.dumps(held, indent=2, ensure_ascii=False))
+        whole = {"at": setting.moment_shown(moment),
+                 "by": "model" if answer.by_program is None else "model and program",
+                 "remarks": [remark.as_json() for remark in remarks],
+                 "response": None if answer.is_refused else json.loads(answer.body), "results": shown}
+        print(json.dumps(whole, indent=2, ensure_ascii=False))
         return
     print_remarks(remarks)
     if answer.is_refused:
@@ -179,8 +185,7 @@ def print_explained(options: argparse.Namespace, answer: ask.Answer, shown: list
               "asks for a combined decision, or for more than 64")
     else:
         print(explained.shown(shown))
-        print(f"\nat {setting.moment_shown(moment)}, by "
-              + ("the model alone" if answer.by_program is None else "model and program"))
+        print(behind(held, answer, moment))
 
 
 # The command's words.
@@ -219,6 +224,8 @@ def add_test(parser: argparse.ArgumentParser) -> None:
     parser.add_argument("--junit", metavar="OUT", help="writes the results as JUnit XML too")
     parser.add_argument("--coverage", action="store_true",
                         help="lists rules, targets and conditions that no case reached both ways")
+    parser.add_argument("--explain", action="store_true", dest="is_explained",
+                        help="shows how each failed case came about, as the word `explain` does")
 
 
 def add_diff(parser: argparse.ArgumentParser) -> None:
@@ -301,7 +308,7 @@ def cases_run(options: argparse.Namespace) -> int:
     found = [readers_at(path) for path in options.files]
     if None in found:
         return FAULTS
-    return cases.run(sum(found, []), chosen_program(options), options.junit, options.coverage)
+    return cases.run(sum(found, []), chosen_program(options), options)
 
 
 def diff_run(options: argparse.Namespace) -> int:

@@ -44,9 +44,11 @@ class Coverage:
         if held.target is not None and held.target.parts:
             self.reach(place_of(held.node), "target", label)
         for rule in held.rules():
-            place = place_of(rule.node)
-            self.reach(place, "rule", f"{rule.id}")
-            if rule.target is not None and rule.target.parts:
+            place, has_target = place_of(rule.node), rule.target is not None and bool(rule.target.parts)
+            # (one without target and condition always applies: there is no other way)
+            always = not has_target and rule.condition is None
+            self.reach(place, "rule", f"{rule.id}", False if always else None)
+            if has_target:
                 self.reach(place, "target", f"rule {rule.id}")
             if rule.condition is not None:
                 self.reach(place, "condition", f"rule {rule.id}")
@@ -65,7 +67,7 @@ class Coverage:
 
     def add_part(self, part: dict) -> None:
         """Takes in what a part of an explained tree reached."""
-        if part["element"] == "reference":
+        if part["element"] == "reference" or "unreached" in part:
             return
         place, is_rule = (part["file"], part["line"], part["pointer"]), part["element"] == "rule"
         label = f"{part['element']} {part['id']}"

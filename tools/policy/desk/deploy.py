@@ -103,7 +103,8 @@ def is_tested(domain: Domain, found: Program | None) -> tuple[bool, bool]:
                 cases.print_outcome(one)
         outcomes += suite.outcomes
     failed = sum(bool(one.failures) for one in outcomes)
-    print(f"{text.counted(len(outcomes), 'case')}: {len(outcomes) - failed} ok, {failed} failed.")
+    print(text.wrapped(f"{text.counted(len(outcomes), 'case')}: {len(outcomes) - failed} ok, {failed} failed."
+                       + (" `policy test --explain` shows how each failed one came about." if failed else "")))
     return is_fine and not failed, agree
 
 

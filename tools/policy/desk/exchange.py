@@ -18,7 +18,7 @@ from .importing import imported
 from .model import documents, rows, versions
 from .program import Program
 from .setting import Usage
-from .verdicts import FAULTS, FINE, chosen_program
+from .verdicts import FAULTS, FINE, chosen_program, print_remarks
 
 # the members in which others stand, in the order of the notation
 SAID_IN = ("Policy", "PolicySet", "VariableDefinition", "Rule", "Condition", "Children",
@@ -30,9 +30,8 @@ def said(remarks: list[Remark], is_json: bool) -> None:
     """Remarks on standard error, so that standard output holds nothing but what was made."""
     if is_json:
         print(json.dumps([remark.as_json() for remark in remarks], indent=2), file=sys.stderr)
-        return
-    for remark in sorted(remarks, key=lambda remark: (remark.source.path, remark.start)):
-        print(text.remark_shown(remark) + "\n", file=sys.stderr)
+    else:
+        print_remarks(remarks, sys.stderr)
 
 
 @dataclass

@@ -141,6 +141,10 @@ class Explainer:
                 and not any(child is one for one in evaluated)):
                 shown["not_gathered"] = ("its obligations and advice are not gathered: "
                                          "the one that settled it stands before it")
+        if algorithm == "first-applicable":
+            decides = next((place for place, child in enumerate(children) if child.decision != "NotApplicable"), None)
+            for shown in [] if decides is None else found["children"][decides + 1:]:
+                shown["unreached"] = f"isn't reached: {label(found['children'][decides])} stands before it"
         settling = settling_children(algorithm, children)
         found["combined"] = decision
         found["settled_by"] = [label(found["children"][place]) for place in settling]

@@ -101,6 +101,8 @@ def head(part: dict, depth: int) -> str:
 def part_shown(part: dict, depth: int = 0) -> list[str]:
     """A rule, a policy, a set or a reference, with all inside it."""
     lines = [head(part, depth)]
+    if "unreached" in part:
+        lines.append(line(depth + 1, part["unreached"]))
     if "because" in part:
         lines.append(line(depth + 1, f"because: {part['because']}"))
     if "status_from" in part:

@@ -5,7 +5,7 @@ unknown kind is no fault.
 """
 from __future__ import annotations
 
-from . import names
+from . import left_out, names
 from .elements import Document, Duty, Expression, Match, Rule, Target
 from .faults import Remarks
 from .model import expressions, functions
@@ -159,7 +159,7 @@ class Kinds:
 
     def unknown_function(self, held: Expression, known=None) -> None:
         """Remarks a function that isn't there, with the nearest that is."""
-        sentence, nearest = names.unknown_function(held.name, known)
+        sentence, nearest = left_out.unknown_function(held.name, known)
         self.ill_typed("UnknownFunction", held.node.at("FunctionId") or held.node, sentence,
                        expected="the name of a function", found=held.name, nearest=nearest)
 
@@ -174,8 +174,7 @@ class Kinds:
             sentence = (f'Argument {place + 1} of "{names.short(held.name)}" is {names.kind_shown(wanted)}, '
                         f'and this is {names.kind_shown(found)}')
             self.ill_typed("WrongType", held.arguments[place + first].node, sentence + (f"; {way}." if way else "."),
-                           expected=names.kind_shown(wanted),
-                           found=names.kind_shown(found) + (f"; {way}" if way else ""), nearest=better)
+                           expected=names.kind_shown(wanted), found=names.kind_shown(found), nearest=better)
 
     # Higher-order functions.
 
@@ -247,7 +246,7 @@ class Kinds:
         node, known = held.node.at("MatchId") or held.node, signature(held.function)
         kinds = [held.literal and held.literal.data_type, held.designator and held.designator.data_type]
         if known is None and held.function not in functions.HIGHER_ORDER:
-            sentence, nearest = names.unknown_function(held.function)
+            sentence, nearest = left_out.unknown_function(held.function)
             self.ill_typed("UnknownFunction", node, sentence, expected="the name of a function", found=held.function,
                            nearest=nearest)
         elif None not in kinds and (known is None or known[1] != "boolean" or not functions.fits(known[0], kinds)):
@@ -283,8 +282,7 @@ class Kinds:
                    if kind == "bag boolean" else "ask something of it, as an -equal or -is-in does")
             self.ill_typed("WrongType", held.condition.node,
                            f"A condition is a boolean, and this is {names.kind_shown(kind)}; {way}.",
-                           expected="a boolean",
-                           found=f"{names.kind_shown(kind)}; {way}")
+                           expected="a boolean", found=names.kind_shown(kind))
         self.duties(held.duties)
 
     def define(self, held: Document) -> None:

@@ -5,9 +5,10 @@ Names that mean the same as a newer one are RENAMED: the newer one is written in
 from __future__ import annotations
 
 import re
+from collections.abc import Iterable
 
 from . import names
-from .model import identifiers
+from .model import identifiers, values
 from .text import listed
 
 V1, V2, V3 = (f"urn:oasis:names:tc:xacml:{version}:function:" for version in ("1.0", "2.0", "3.0"))
@@ -158,6 +159,30 @@ def data_type(uri: str) -> str:
     if name not in TYPES or uri in identifiers.DATA_TYPES:
         return ""
     return f'This server has no data type "{name}". {TYPES[name]}'
+
+
+def unknown_function(uri: str, known: Iterable[str] | None = None) -> tuple[str, str]:
+    """A sentence on a function's name that is none, and the nearest name."""
+    known, name = list(known or names.function_names()), names.short(uri)
+    same = [other for other in known if names.short(other) == name]
+    if same:
+        return f'"{name}" is there, but under another beginning: write {same[0]}.', same[0]
+    said = function(V1 + name)
+    if said:
+        return said, ""
+    found = names.nearest_by_end(uri, known)
+    return (f'There is no function "{name}". Did you mean "{names.short(found)}"?',
+            found) if found else (f'There is no function "{uri}".', "")
+
+
+def unknown_type(uri: str) -> tuple[str, str]:
+    """A sentence on a data type that is none, and the nearest name."""
+    said = data_type(uri)
+    if said:
+        return said, ""
+    found = names.nearest(names.short(uri), values.TYPES)
+    asked = f' Did you mean "{found}"?' if found else ""
+    return f'There is no data type "{uri}".{asked}', found
 
 
 KNOWN_FUNCTIONS = frozenset(names.function_names())

@@ -198,6 +198,26 @@ class Lints:
         for one in self.documents:
             for designator in all_designators(one.document):
                 self.type(one.remarks, designator, by_rows, before)
+        self.row_types(by_rows)
+
+    def row_types(self, by_rows: dict[tuple, set[str]]) -> None:
+        """Warns, once for each attribute, of a row that has it as another type than policies ask for, as other rows
+        do."""
+        asked: dict[tuple, set[str]] = {}
+        for held in [held for one in self.documents for held in all_designators(one.document)]:
+            asked.setdefault((held.category, held.attribute_id), set()).add(held.data_type)
+        wanted = {place: sorted(kinds & by_rows.get(place, set())) for place, kinds in asked.items()}
+        said = {place for place, kinds in wanted.items() if not kinds}
+        for row in self.rows.rows if self.rows else []:
+            place, found = (row.category, row.attribute_id), row.literal.data_type
+            if place not in wanted or place in said or found is None or found in asked[place]:
+                continue
+            said.add(place)
+            self.rows.remarks.warning(
+                "other-type", row.node.at("DataType") or row.node,
+                f"This row has {names.attribute_shown(row.attribute_id)} as {names.kind_shown(found)}, and others as "
+                f"{names.kind_shown(wanted[place][0])}, as which policies ask for it: here it isn't found.",
+                expected=wanted[place][0], found=found, nearest=wanted[place][0])
 
     def type(self, remarks: Remarks, held: Designator, by_rows: dict, before: dict) -> None:
         """Warns of a designator of another type."""

@@ -14,24 +14,12 @@ MOST_ALIKE = 0.9
 # with how many names one is compared, and how long it may be: a file of very many names is read in time all the same
 MOST_KNOWN, MOST_LETTERS = 400, 200
 STANDARD = "urn:oasis:names:tc:xacml:1.0:"
-# functions that the standard has and this server hasn't
-LEFT_OUT = {
-    "regexp-match": "regular expressions are left out", "equal-ignore-case": "letter case is never ignored",
-    "normalize-to-lower-case": "letter case is never ignored", "double": "floating numbers are left out",
-    "x500Name": "names of directories are left out",
-    "rfc822Name": "mail addresses are left out", "ipAddress": "network addresses are left out",
-    "dnsName": "network addresses are left out",
-    "xpath": "XPath is left out", "any-of-all": "any-of-all is left out",
-    "anyURI-substring": "anyURI-substring is left out",
-    "access-permitted": "access-permitted is left out",
-}
 # what a file of an author's is by its members, and which word takes it
 FILES = {
     "Case": "These are cases: `policy test FILE`.", "Server": "This makes its folder a domain: name the folder.",
     "Row": "These are rows: `--rows FILE`.", "Request": "This is a request: `--request FILE`.",
     "Policy": "This is a document: `policy check FILE`.", "PolicySet": "This is a document: `policy check FILE`.",
 }
-LEFT_OUT_TYPES = ("double", "x500Name", "rfc822Name", "ipAddress", "dnsName", "xpathExpression")
 
 
 def other_file(members: Iterable[str]) -> str:
@@ -90,34 +78,6 @@ def nearest_by_end(name: str, known: Iterable[str]) -> str:
     best = nearest(end, sorted({short(other) for other in known}))
     alike = [other for other in known if short(other) == best]
     return max(alike, key=lambda other: likeness(name, other)) if best and alike else ""
-
-
-def function_left_out(name: str) -> str:
-    """Why the server hasn't the function, where the standard has it."""
-    return next((why for part, why in LEFT_OUT.items() if part in short(name)), "")
-
-
-def unknown_function(name: str, known: Iterable[str] | None = None) -> tuple[str, str]:
-    """A sentence on a function's name that is none, and the nearest name."""
-    known = list(known or function_names())
-    same = [other for other in known if short(other) == short(name)]
-    if same:
-        return f'"{short(name)}" is there, but under another beginning: write {same[0]}.', same[0]
-    left_out = function_left_out(name)
-    if left_out:
-        return f'This server has no function "{short(name)}": {left_out}.', ""
-    found = nearest_by_end(name, known)
-    return (f'There is no function "{short(name)}". Did you mean "{short(found)}"?',
-            found) if found else (f'There is no function "{name}".', "")
-
-
-def unknown_type(name: str) -> tuple[str, str]:
-    """A sentence on a data type that is none, and the nearest name."""
-    if short(name) in LEFT_OUT_TYPES:
-        return f'This server has no data type "{short(name)}".', ""
-    found = nearest(short(name), values.TYPES)
-    ask = f' Did you mean "{found}"?' if found else ""
-    return f'There is no data type "{name}".{ask}', found
 
 
 def unknown_algorithm(name: str, known: dict[str, str], of_others: dict[str, str], what: str) -> tuple[str, str]:

@@ -6,7 +6,7 @@ from __future__ import annotations
 
 from collections.abc import Callable
 
-from . import names
+from . import left_out, names
 from .elements import Literal
 from .members import Members, kind_of
 from .model import documents, identifiers, values, versions
@@ -85,7 +85,7 @@ class Scalars(Members):
         held = self.text(node)
         if held is None or held in identifiers.DATA_TYPES:
             return identifiers.DATA_TYPES.get(held)
-        sentence, nearest = names.unknown_type(held)
+        sentence, nearest = left_out.unknown_type(held)
         self.remarks.fault("BadValue", node, sentence, expected=listed(values.TYPES), found=held, nearest=nearest)
         return None
 

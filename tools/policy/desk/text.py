@@ -129,14 +129,14 @@ def of_server(code: str) -> str:
 
 
 def remark_shown(remark: Remark) -> str:
-    """A remark: where, what it is, and what helps."""
+    """A remark: where, what it is, and what helps. A note is that sentence alone."""
     place = f"{remark.source.path}:{remark.place.line}:{remark.place.column}"
     head = painted(remark.level, "bold", LEVELS[remark.level]) + " " + painted(remark.code, "bold")
     lines = [f"{painted(place, 'bold')}: {head}", wrapped(remark.sentence, "    ")]
     for label, text in (("at", remark.pointer or "(the whole document)"), ("text", remark.text),
                         ("expected", remark.expected),
                         ("found", remark.found),
-                        ("nearest", remark.nearest)):
+                        ("nearest", remark.nearest)) if remark.level != "note" else ():
         if text and label == "at":
             first, *others = broken(text, WIDTH - 14)
             lines.append(("\n" + " " * 14).join([f"    {label:9} {first}", *others]))

@@ -74,7 +74,9 @@ class Together:
 
     def check_target(self, remarks: Remarks, reference: Reference) -> None:
         """Remarks a reference for which there is no document."""
-        if reference.reference is not None and self.place(reference) is None:
+        # (where a document couldn't be read, it may be the one that is meant)
+        is_sure = len(self.known) == len(self.documents)
+        if reference.reference is not None and self.place(reference) is None and is_sure:
             sentence, nearest = no_document(reference.reference, [one.document for one in self.known])
             remarks.fault("leads-nowhere", reference.node, f"This reference leads nowhere, so {EFFECT}. {sentence}",
                           found=reference.id, nearest=nearest)

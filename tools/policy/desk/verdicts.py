@@ -5,6 +5,7 @@ from __future__ import annotations
 import argparse
 import contextlib
 import sys
+from typing import TextIO
 
 from . import program, setting, text
 from .check import Checked, Rows
@@ -61,16 +62,16 @@ def check_pairs(documents: list[Checked], rows: Rows | None,
             for (name, by_model, _, _), field, by_program in zip(asked, fields, answers)]
 
 
-def print_remarks(found: list[Remark]) -> None:
-    """Remarks, in the order of their places: the first ones of each file."""
+def print_remarks(found: list[Remark], to: TextIO | None = None) -> None:
+    """Remarks, in the order of their places: the first ones of each file; on standard output, or `to`."""
     by_path: dict[str, list[Remark]] = {}
     for remark in sorted(found, key=lambda remark: (remark.source.path, remark.start)):
         by_path.setdefault(remark.source.path, []).append(remark)
     for path, remarks in by_path.items():
         for remark in remarks[:MOST_PRINTED]:
-            print(text.remark_shown(remark) + "\n")
+            print(text.remark_shown(remark) + "\n", file=to)
         if len(remarks) > MOST_PRINTED:
-            print(f"{path}: {len(remarks) - MOST_PRINTED} more; --json writes all\n")
+            print(f"{path}: {len(remarks) - MOST_PRINTED} more; --json writes all\n", file=to)
 
 
 def print_summary(documents: list[Checked], rows: Rows | None, every: list[Remark],

@@ -138,6 +138,9 @@ class Commands(DeskTest):
                                  '"urn:oasis:names:tc:xacml:1.0:subject:subject-id", "Value": "alice"'))
         status, written, _ = run("ask", *ASK, "--rows", "@rows.json", files={**FILES, "r.json": asked})
         self.assertEqual((status, written.split("\n")[0]), (0, "Permit"))
+        self.assertNotIn("without rows", written)
+        for word in ("ask", "explain"):
+            self.assertIn("by the model alone; without rows (--rows)", run(word, *ASK, files=FILES)[1])
 
     def test_requests_with_faults(self) -> None:
         for held, code, words in ((edited(REQUEST, ('"AttributeId": "urn:test:role"', '"AtributeId": "urn:test:role"')),
@@ -320,8 +323,9 @@ class Terminal(unittest.TestCase):
 class Cases(DeskTest):
     """`test` and `diff`."""
 
-    def run_cases(self, cases: dict, *more: str) -> tuple[int, str, str]:
-        return run("test", "@cases.json", *more, files={**FILES, "cases.json": json.dumps(cases, indent=1)})
+    def run_cases(self, cases: dict, *more: str, **files: str) -> tuple[int, str, str]:
+        held = {**FILES, **{f"{name}.json": text for name, text in files.items()}}
+        return run("test", "@cases.json", *more, files={**held, "cases.json": json.dumps(cases, indent=1)})
 
     def changed(self, **more: object) -> dict:
         return {**CASES, "Case": [CASES["Case"][0], {**CASES["Case"][1], **more}]}
@@ -380,6 +384,38 @@ class Cases(DeskTest):
                     (json.loads(edited(REQUEST, ("alice", "thief"))), "Deny"),
                     (json.loads(edited(REQUEST, ('"staff"', '"guest"'))), "NotApplicable"))]
         self.assertIn("5 of 5 rules", self.run_cases({**CASES, "Case": CASES["Case"] + more}, "--coverage")[1])
+
+    def test_coverage_of_a_rule_that_always_applies(self) -> None:
+        """There is no case in which it doesn't."""
+        rules = [{"RuleId": "else", "Effect": "Deny"}]
+        held = json.dumps({"Policy": {**json.loads(POLICY)["Policy"], "Rule": rules, "VariableDefinition": []}})
+        for cases, words in (([], "rule else: no case where it applies 0 of 1 rules"),
+                             ([{"Request": {"Request": {}}, "Decision": "Deny"}], "1 of 1 rules")):
+            written = self.run_cases({**CASES, "Case": cases}, "--coverage", p=held)[1]
+            self.assertIn(words, " ".join(written.split()))
+            self.assertNotIn("doesn't apply", written)
+
+    def test_what_stands_behind_the_first_that_applies(self) -> None:
+        """Under first-applicable it isn't reached, by an explanation and by cases."""
+        held = edited(POLICY, ("3.0:rule-combining-algorithm:deny-overrides",
+                               "1.0:rule-combining-algorithm:first-applicable"))
+        by_day, at_night = (run("explain", *ASK[:-1], f"2026-11-23T{hour}:00:00Z", files={**FILES, "p.json": held})[1]
+                            for hour in (10, 20))
+        unreached = "NotApplicable: rule thieves (p.json:21)\n    isn't reached: rule staff stands before it\n"
+        self.assertIn(unreached, by_day)
+        self.assertNotIn("isn't reached", at_night)
+        told = self.run_cases({**CASES, "Case": CASES["Case"][:1]}, "--coverage", p=held)[1]
+        self.assertIn("rule thieves: no case where it applies or where it doesn't apply", " ".join(told.split()))
+
+    def test_how_a_failed_case_came_about(self) -> None:
+        """`--explain` shows the tree of each that failed, and of no other."""
+        told, shown = (self.run_cases(self.changed(Decision="Deny"), *words)[1] for words in ([], ["--explain"]))
+        self.assertIn("--explain shows how each failed one came about", " ".join(told.split()))
+        self.assertNotIn("condition (line 20)", told)
+        explained = ask(REQUEST, "2026-11-23T20:00:00Z", word="explain")[1].partition("\nat 2026")[0].rstrip()
+        self.assertIn(f"\n{explained}\n", shown)
+        self.assertEqual(shown.count("policy urn:test:shop 1.0 ("), 1)
+        self.assertNotIn("--explain", shown)
 
     def test_diff(self) -> None:
         files = {**FILES, "cases.json": json.dumps(CASES), "q.json": edited(POLICY, ("17:00:00Z", "21:00:00Z"))}

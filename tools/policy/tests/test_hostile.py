@@ -81,9 +81,13 @@ class Names(DeskTest):
 
     def test_remarks_are_few(self) -> None:
         """So many are printed, and the others are counted."""
-        _, written, _ = run("check", "@p.json", files={"p.json": members(500)[2]})
-        self.assertIn("p.json: 304 more; --json writes all", written)
-        self.assertLess(len(written), 100_000)
+        cases = json.dumps({"Policy": ["p.json"], "Root": "p", "Case": [1] * 500})
+        for word, name, held, more in (("check", "p.json", members(500)[2], 304),
+                                       ("import", "p.xml", elements(500)[2], 301), ("test", "c.json", cases, 300)):
+            with self.subTest(word):
+                _, written, told = run(word, f"@{name}", files={"p.json": POLICY, name: held})
+                self.assertIn(f"{name}: {more} more; --json writes all", written + told)
+                self.assertLess(len(written + told), 100_000)
         self.assertEqual(len(json.loads(run("check", "--json", "@p.json", files={"p.json": members(500)[2]})[1])), 504)
 
     def test_text_that_comes_in_pieces(self) -> None:

@@ -161,6 +161,19 @@ class Lints(DeskTest):
                        rule("s", "Permit", Target=target([[match("integer-equal", "integer", 1)]]))])
         self.remark(checked(held).remarks, "other-type", held.rindex('"integer"'), "as a string", level="warning")
 
+    def test_rows_of_other_types(self) -> None:
+        """The first row of an attribute that is of another type than the policies ask for, where others are of that
+        type: where none is, the policy is warned of."""
+        row = '"AttributeId": "urn:test:role", "DataType": "%s", "Value": %s}'
+        of_text, of_number = row % ("string", '"staff"'), row % ("integer", "5")
+        begins = '{"Category": "AccessSubject", "Entity": "bob", '
+        rows = edited(ROWS, (of_text, f"{of_text}, {begins}{of_number}, {begins}{of_number}"))
+        found = check.checked_rows("rows.json", rows.encode())
+        lints.Lints([checked(POLICY)], found, set()).run()
+        self.remark(found.remarks, "other-type", rows.index('"integer"'), "This row has urn:test:role as an integer, "
+                    "and others as a string, as which policies ask for it", level="warning")
+        self.assertEqual([one.code for one in found.remarks.found].count("other-type"), 1)
+
     def test_a_one_and_only_of_several_values_or_none(self) -> None:
         """By the rows at hand, issuers looked at; through a variable too."""
         def held(*found: tuple[str, str, str | None]) -> str:
@@ -289,6 +302,9 @@ class Together(DeskTest):
         status, written, _ = run("check", "@s.json", "@p.json", files={"s.json": held, "p.json": policy([])})
         self.assertEqual(status, 1)
         self.assertIn("urn:p is there in version 1, which doesn't fit the reference.", " ".join(written.split()))
+        # one that can't be read may be the one that is meant
+        for unread in ("{", '{"Policy": {}}'):
+            self.assertNotIn("leads-nowhere", [code for code, _ in self.remarks_of([held, unread])])
 
     def test_circles(self) -> None:
         held = [policy_set("urn:a", [to_set("urn:b")]), policy_set("urn:b", [to_set("urn:c")]),

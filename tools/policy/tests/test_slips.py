@@ -4,7 +4,7 @@ from __future__ import annotations
 
 import unittest
 
-from .desk_tests import FUNCTION, POLICY, REQUEST, ROWS, DeskTest, check, checked, edited, lints, run
+from .desk_tests import FUNCTION, POLICY, REQUEST, ROWS, DeskTest, check, checked, edited, lints, run, text
 
 # what is slipped, where it stands then, the code, and words of the sentence
 SLIPS = {
@@ -40,7 +40,9 @@ SLIPS = {
                        "BadValue", ["true or false without quotes"]),
     "a rule in no array": (('"Rule": [\n', '"Rules": [\n'), '"Rules"', "UnknownMember", ['Did you mean "Rule"?']),
     "regular expressions": ((FUNCTION + "string-equal", FUNCTION + "string-regexp-match"), f'"{FUNCTION}string-regexp',
-                            "IllTyped(UnknownFunction)", ["regular expressions are left out"]),
+                            "IllTyped(UnknownFunction)", ["Regular expressions are left out", "string-starts-with"]),
+    "a fraction": (('"DataType": "string", "Value": "staff"', '"DataType": "double", "Value": "1.5"'), '"double"',
+                   "BadValue", ['no data type "double"', "Count in a smaller unit, as cents"]),
     "an unknown variable": (('{"VariableId": "open"}}}', '{"VariableId": "opne"}}}'), '{"VariableId": "opne"}',
                             "IllTyped(UnknownVariable)", ['Did you mean "open"?']),
     "no Apply around": (('"Condition": {"Apply": {\n', '"Condition": {\n'),
@@ -79,10 +81,8 @@ class Slips(DeskTest):
         remark = self.remark(checked(held).remarks, "IllTyped(WrongType)",
                              held.index('{"Category": "AccessSubject", "AttributeId": "urn:test:name"'),
                              "write string-is-in, with the value first, or any-of")
-        self.assertEqual((remark.expected, remark.found),
-                         ("a string", "a bag of string; an attribute may have several values, or none: write "
-                                      "string-is-in, with the value first, or any-of; only if it has exactly one each "
-                                      "time, wrap it in string-one-and-only"))
+        self.assertIn("only if it has exactly one each time, wrap it in string-one-and-only", remark.sentence)
+        self.assertEqual((remark.expected, remark.found), ("a string", "a bag of string"))
         behind = '",\n       "Expression"'
         held = edited(held, (FUNCTION + "string-equal" + behind, FUNCTION + "string-greater-than" + behind))
         self.remark(checked(held).remarks, "IllTyped(WrongType)",
@@ -137,9 +137,10 @@ class Slips(DeskTest):
     def test_rows_of_a_shorthand(self) -> None:
         found = check.checked_rows("rows.json", ROWS.encode())
         lints.Lints([], found, set()).run()
-        self.remark(found.remarks, "shorthand", ROWS.index('"AccessSubject"'),
-                    "is a shorthand for urn:oasis:names:tc:xacml:1.0:subject-category:access-subject", "subject-id",
-                    level="note")
+        note = self.remark(found.remarks, "shorthand", ROWS.index('"AccessSubject"'),
+                           "is a shorthand for urn:oasis:names:tc:xacml:1.0:subject-category:access-subject",
+                           "subject-id", level="note")
+        self.assertEqual(text.remark_shown(note).partition("\n")[2], text.wrapped(note.sentence, "    "))
 
     def test_rows_of_a_misspelt_category(self) -> None:
         held = edited(ROWS, ("AccessSubject", "AccesSubject"))
