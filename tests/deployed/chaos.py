@@ -73,7 +73,8 @@ class Client:
 
     def decision(self, name, seconds=10):
         """The decision of a machine; the status where it gives none."""
-        status, _, body = self.sent(name, "POST", "/domains/ward/pdp", ASKS, (WARD / "request-alice.json").read_text(),
+        # (who is on the night's shift may read at any hour)
+        status, _, body = self.sent(name, "POST", "/domains/ward/pdp", ASKS, (WARD / "request-bob.json").read_text(),
                                     seconds)
         return re.search(r'"Decision":"(\w+)"', body)[1] if status == 200 else status
 

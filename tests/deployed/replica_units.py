@@ -79,7 +79,7 @@ def shards_of(machine):
 
 def asked():
     """The status and the body of a decision."""
-    request = (audit.WARD / "request-alice.json").read_text()
+    request = (audit.WARD / "request-bob.json").read_text()  # (who may read at any hour)
     return audit.sent("POST", "/domains/ward/pdp", audit.TOKENS["ask"], request)
 
 
