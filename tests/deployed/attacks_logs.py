@@ -50,14 +50,22 @@ EARLIER = {
 }
 
 
+def how_kept():
+    """How those folders are kept; nothing of one for which that is written at this moment."""
+    found = dict.fromkeys(EARLIER, "")
+    for name in EARLIER:
+        with contextlib.suppress(FileNotFoundError):
+            found[name] = (LOGS / name / "config").read_text()
+    return found
+
+
 def renews(checks):
     """Folders of logs that an earlier version has made are kept as this one has them."""
-    wanted = {name: (LOGS / name / "config").read_text() for name in EARLIER}
+    wanted = how_kept()
     for name, lines in EARLIER.items():
         (LOGS / name / "config").write_text("\n".join((*lines, "")))
     sh("sv restart /etc/service/haproxy/log")
-    found = lambda: {name: (LOGS / name / "config").read_text() for name in EARLIER}
-    wait_until(lambda: found() == wanted, lambda: f"they are kept so: {found()}", 30)
+    wait_until(lambda: how_kept() == wanted, lambda: f"they are kept so: {how_kept()}", 30)
     checks.expect("both are other than before", [wanted[name].splitlines() == [*EARLIER[name]] for name in EARLIER],
                   [False, False])
 
@@ -305,7 +313,7 @@ def piped(machine, checks):
     home = ARCHIVES / shards("where", "ward").strip()
     of_domain = home / "domains" / hashlib.sha256(b"ward").hexdigest()[:32]
     reads = "timeout 120 pdpd-log changes --domain ward 2>&1 || echo ends with $?"
-    before, (key,), (segment,) = sh(reads), of_domain.glob("*.key"), home.glob("*.log")
+    before, key, segment = sh(reads), max(of_domain.glob("*.key")), max(home.glob("*.log"))
     checks.within("lines", before.count("\n"), Between(7))
     for path, wanted in ((of_domain / "places", None), (key, "ends with 2"), (segment, "ends with 2")):
         with in_place_of(path, "pdpd-replica", "mkfifo {}"):
