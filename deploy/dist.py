@@ -23,8 +23,9 @@ import pack as policy_desk  # noqa: E402
 import programs  # noqa: E402
 from wheel import wheel, wheel_name  # noqa: E402
 
-PAGES = ("README.md", "SECURITY.md", *sorted(str(path.relative_to(TOP)) for path in (TOP / "docs").rglob("*")
-                              if path.suffix in (".md", ".svg", ".yaml")),
+PAGES = ("README.md", "CHANGELOG.md", "SECURITY.md",
+         *sorted(str(path.relative_to(TOP)) for path in (TOP / "docs").rglob("*")
+                 if path.suffix in (".md", ".svg", ".yaml")),
          *(f"examples/ward/{name}.json" for name in ("policy", "rows", "request-alice")),
          *sorted(str(path.relative_to(TOP)) for path in (TOP / "clients").rglob("*")
                  if path.is_file() and "__pycache__" not in path.parts and ".mypy_cache" not in path.parts))

@@ -80,15 +80,24 @@ local function is_there(shard)
     return number ~= 2
 end
 
-local function is_any_away()
-    for shard = 0, shards - 1 do
-        if not is_there(shard) then return true end
-    end
-    return false
+-- since when each shard's is away, and whether for so long that another machine is asked in its place (GONE)
+local since, is_gone = {}, {}
+
+local function look_for_socket(shard)
+    local is_away = not is_there(shard)
+    since[shard] = is_away and (since[shard] or seconds()) or nil
+    local now = is_away and seconds() > since[shard] + 1
+    if now and not is_gone[shard] then core.set_map(file_of_map, "GONE" .. shard, "1") end
+    if is_gone[shard] and not now then core.del_map(file_of_map, "GONE" .. shard) end
+    is_gone[shard] = now
+    return is_away
 end
 
 local function look_for_sockets()
-    local is_away = sockets ~= nil and is_any_away()
+    local is_away = false
+    for shard = 0, sockets and shards - 1 or -1 do
+        is_away = look_for_socket(shard) or is_away
+    end
     if is_away == was_away then return end
     was_away = is_away
     if is_away then

@@ -18,11 +18,11 @@ sys.dont_write_bytecode = True
 sys.path.insert(0, str(pathlib.Path(__file__).resolve().parent.parent / "deploy"))
 from checks import is_program  # noqa: E402
 from audit_parts import (  # noqa: E402
-    archives, checkpoints, daemon, kills, looking, order, proxied, receiving, tools, under_way)
+    archives, checkpoints, daemon, kills, looking, order, proxied, receiving, tools, twice, under_way)
 from audit_parts.shared import PROGRAM, checks, folder, memory  # noqa: E402
 
-PARTS = tuple(part for module in (archives, checkpoints, order, under_way, looking, daemon, tools, receiving, proxied,
-                                  kills)
+PARTS = tuple(part for module in (archives, checkpoints, order, under_way, twice, looking, daemon, tools, receiving,
+                                  proxied, kills)
               for part in module.PARTS)
 
 

@@ -47,7 +47,7 @@ PARTS = (
     replies.examples, replies.desk, replies.odd, replies.paths, replies.listing,
     slowness.slow, slowness.slow_readers, slowness.rates,
     failures.restarts, failures.kills, failures.queued, failures.stuck, failures.watched, failures.unkilled,
-    dear.in_order, dear.behind_several, failures.unstarted, failures.holding, failures.unbalanced,
+    dear.in_order, dear.behind_several, failures.held, failures.unstarted, failures.holding, failures.unbalanced,
     backups.backups, backups.checkpoints, backups.emptied, backups.anew,
     changes.moves, changes.crossed, changes.killed, changes.live, changes.keeping, changes.older, enforcement.clients,
     *states.STATES, *mistakes.MISTAKES, *surroundings.SURROUNDINGS, *misplaced.MISPLACED,

@@ -89,6 +89,13 @@ def where_it_is(settings: Settings, shard: int) -> Settings:
     return found
 
 
+def where_it_starts(settings: Settings, shard: int) -> Settings:
+    """The same of a start, which writes anew what was applied: these settings alone where that can't be read."""
+    with contextlib.suppress(Wrong):
+        return where_it_is(settings, shard)
+    return settings
+
+
 def differing(before: Settings, settings: Settings, names: tuple[str, ...]) -> list[str]:
     """Those of these settings that are otherwise."""
     return [name for name in names if getattr(before, name.lower()) != getattr(settings, name.lower())]
@@ -103,6 +110,14 @@ def changed_of_logs(settings: Settings) -> list[str]:
     """The names of the settings that what logs was started with otherwise; none where nothing is logged."""
     before = of(settings, PROXY)
     return differing(before, settings, OF_LOGS) if before.audit or before.decisions else []
+
+
+def logs_go_otherwise(settings: Settings) -> bool:
+    """Whether what logs was started otherwise, or as nobody knows, since what was applied can't be read."""
+    try:
+        return bool(changed_of_logs(settings))
+    except Wrong:
+        return True
 
 
 def kept_places(settings: Settings) -> Iterator[tuple[str, int | str, str]]:

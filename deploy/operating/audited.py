@@ -1,5 +1,5 @@
 """The rules of HAProxy with AUDIT=1: changes go to pdpd-replica, and a token's digest stands for it; and the decision
-log, with DECISIONS. What goes to another group of machines is logged there."""
+log, with DECISIONS. What goes to another machine is logged there."""
 from .grouped import but
 
 # A change waits at the daemon for its turn and then for its reply, ten seconds each, and is asked about before. On

@@ -91,7 +91,7 @@ def services(settings, words):
                         "again, or give pdpd-shards config --write, restart, and then reload")
     applied.apply_where_none(settings, range(settings.shards))
     # (what logs goes by it, and with runit HAProxy)
-    has_other_logs = applied.changed_of_logs(settings)
+    has_other_logs = applied.logs_go_otherwise(settings)
     applied.apply(settings, applied.PROXY)
     by.set_up(range(settings.shards))
     if has_other_logs:
@@ -120,7 +120,7 @@ def reload(settings, words):
     # a process that begins while another tool holds messages back would know nothing of it
     by, before = supervisor.of(settings), front.names_shown(settings)
     with alone():
-        has_other_logs = applied.changed_of_logs(settings)
+        has_other_logs = applied.logs_go_otherwise(settings)
         talk.reload(settings, by)
         if has_other_logs:
             by.restart_logs(range(settings.shards))

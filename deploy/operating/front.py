@@ -18,7 +18,7 @@ from typing import NamedTuple
 
 from . import talk
 from .findings import Findings
-from .proxy import configuration
+from .proxy import OWN_HEAD, configuration
 from .settings import FILE, LIBRARY, Wrong, text_of, words_of
 from .services import was_removed
 
@@ -36,6 +36,8 @@ MOST = 5
 CERTIFICATE = re.compile(r"-----BEGIN CERTIFICATE-----.*?-----END CERTIFICATE-----", re.DOTALL)
 # the question of a domain that isn't there, without a token, and what any shard answers
 PATH, ANSWER = "/domains/status/pdp", 401
+# how HAProxy calls a server that it was told to leave
+LEFT = "MAINT", "DRAIN"
 # how OpenSSL calls a certificate whose time is over, or hasn't come (X509_V_ERR)
 EXPIRED, NOT_YET = 10, 9
 
@@ -108,15 +110,35 @@ def look_at_limits(settings, findings: Findings) -> None:
     if found != (settings.clients, 0, 0, 0, 0):
         findings.add(f"HAProxy takes {found[0]} connections of clients, and CLIENTS is {settings.clients}, or fewer a "
                      "second than come: it was told so by hand, and pdpd-shards reload has it go by its file")
-    others = [row["pxname"] for row in rows_of(settings, "-1 4 -1")
-              if re.fullmatch(r"shard\d+", row["pxname"]) and row["svname"] == "pdpd"
-              and row["slim"] not in ("", str(settings.maxconn))]
-    if others:
-        findings.add(f"HAProxy sends {first_of(others)} another number of messages at a time than MAXCONN, which is "
-                     f"{settings.maxconn}: it was told so by hand, and pdpd-shards reload has it go by its file")
     if was_removed(f"/proc/{talk.info(settings, 'Pid')}/exe"):
         findings.add("HAProxy's program was replaced since it began, as by an upgrade of its package: pdpd-shards "
                      "reload has the new one run")
+
+
+def servers_in(text: str) -> dict[tuple[str, str], str]:
+    """The servers of a configuration but for the operator's own, by their part and name: how many messages each gets at
+    a time, and nothing where that has no limit."""
+    found, part = {}, ""
+    for line in text.partition(OWN_HEAD)[0].splitlines():
+        words = line.split()
+        if words and not line[0].isspace():
+            part = words[1] if words[0] == "backend" else ""
+        elif words[:1] == ["server"] and part:
+            found[part, words[1]] = words[words.index("maxconn") + 1] if "maxconn" in words else ""
+    return found
+
+
+def look_at_servers(settings, findings: Findings) -> None:
+    """Whether HAProxy was told by hand to leave what it asks, or to ask it less at a time. (It sets the limits of
+    shards anew all the time; and whether it asks them is looked at with each.)"""
+    wanted = servers_in(text_of(settings.map.with_name("haproxy.cfg")))
+    for row in rows_of(settings, "-1 4 -1"):
+        name = row["pxname"], row["svname"]
+        if name not in wanted or name[1] == "pdpd":
+            continue
+        if row["slim"] != wanted[name] or row["weight"] == "0" or row["status"].startswith(LEFT):
+            findings.add(f"HAProxy asks {'/'.join(name)} less than its file says: it was told so by hand, and "
+                         "pdpd-shards reload has it go by its file")
 
 
 def look_at_log(settings, findings: Findings) -> None:
@@ -293,6 +315,7 @@ def look(settings, findings: Findings) -> Certificate | None:
         look_at_log(settings, findings)
     with findings.looking("HAProxy's limits"), contextlib.suppress(talk.NoProxy):  # (all else tells that)
         look_at_limits(settings, findings)
+        look_at_servers(settings, findings)
     with findings.looking("HAProxy's end"):
         look_whether_it_starts_again(settings, findings)
     try:

@@ -1,5 +1,5 @@
 """The rules of HAProxy with ALL_GROUPS: which group of machines has a domain, by a map that pdpd-map keeps, and how a
-message comes to a machine of another group.
+message comes to a machine of another group, or to another one of the same (passing.py).
 
 It goes there once, over TLS with certificates of both, as its client has sent it; the machine that gets it has its own
 copy of the map, and answers 503 for a domain that is in another group by that.
@@ -11,14 +11,21 @@ import pwd
 
 from replica.groups import MAP, MOVED, parts_of
 
+from . import passing
 from .settings import Wrong, text_of, write_whole
 
 # the field by which the other machine knows whose message it is
 SOURCE = "x-pdpd-source"
 # certificate and key of a machine, in one file
 PEM = "haproxy.pem"
-# what isn't done for a message to another group
+# what isn't done for a message to another machine
 BUT = " !is_elsewhere"
+ELSEWHERE = "    acl is_elsewhere var(txn.elsewhere) -m found\n"
+
+
+def has_others(settings):
+    """Whether messages may go to other machines."""
+    return bool(settings.groups or passing.others(settings))
 
 
 def file(settings):
@@ -34,12 +41,13 @@ def moved(settings):
 def make_files(settings):
     """Makes what HAProxy reads beside its file: certificate and key of this machine, as etcd's member has them, and the
     folder of the map, which pdpd-map's user has, in that of the archives, which is root's."""
-    if not settings.groups:
+    if not has_others(settings):
         return
-    certificates = pathlib.Path(settings.etcd_certificates)
-    text = "".join(text_of(certificates / name) for name in ("member.crt", "member.key"))
-    write_whole(certificates / PEM, text, 0o600)
-    if not settings.places.exists():
+    parts = [pathlib.Path(settings.etcd_certificates) / name for name in ("member.crt", "member.key")]
+    if missing := [path for path in parts if not path.is_file()]:
+        raise Wrong(f"{missing[0]} isn't there: pdpd-replicas certificates makes it")
+    write_whole(parts[0].with_name(PEM), "".join(map(text_of, parts)), 0o600)
+    if settings.groups and not settings.places.exists():
         try:
             user = pwd.getpwnam("pdpd-replica")
         except KeyError:
@@ -78,22 +86,22 @@ def global_lines(settings):
 
 
 def but(settings):
-    """The end of a condition that a message to another group doesn't meet."""
-    return BUT if settings.groups else ""
+    """The end of a condition that a message to another machine doesn't meet."""
+    return BUT if has_others(settings) else ""
 
 
 def place_rules(settings, refusal):
-    """Where a domain is, as a message comes in. What has come from another group goes to no third one."""
+    """Where a domain is, as a message comes in. What has come from another machine goes to no third one."""
     if not settings.groups:
-        return ""
+        return ELSEWHERE if has_others(settings) else ""
     return f"""\
     http-request set-var(txn.place) var(txn.domain),map({moved(settings)})
     acl has_place var(txn.place) -m found
     http-request set-var(txn.place) var(txn.domain),map({file(settings)}) if !has_place
     acl is_here var(txn.place),field(1,.) -m str {settings.group}
     http-request set-var(txn.elsewhere) int(1) if has_place !is_here
-    acl is_elsewhere var(txn.elsewhere) -m found
-    http-request {refusal} if is_elsewhere {{ fe_name groups }}
+{ELSEWHERE}\
+    http-request {refusal} if is_elsewhere {{ fe_name machines }}
 """
 
 
@@ -112,7 +120,7 @@ def shard_rules(settings, refusal):
     http-request set-var(txn.place) var(txn.domain),map({moved(settings)}) if !is_elsewhere
     http-request {refusal} if has_place !is_here !is_elsewhere
     http-request {refusal} if has_domain !has_place !has_fresh_map
-    http-request set-var(txn.shard) var(txn.place),field(2,.) if has_place is_here
+    http-request set-var(txn.shard) var(txn.place),field(2,.) if has_place is_here !is_elsewhere
 """
 
 
@@ -129,22 +137,24 @@ def reply_rules(settings, refusal):
 
 
 def use_rules(settings):
-    """Where a message to another group goes."""
+    """Where a message to another machine goes."""
     if not settings.groups:
-        return ""
-    return """\
+        return passing.use_rule(settings)
+    return f"""\
     http-request set-var(txn.group) var(txn.place),field(1,.) if is_elsewhere
+{passing.use_rule(settings)}\
     use_backend group_%[var(txn.group)] if is_elsewhere
 """
 
 
 def again_rules(settings, refusal):
-    """A message that was led to a shard goes to no other group."""
-    return f"{place_rules(settings, refusal)}    http-request {refusal} if is_elsewhere\n" if settings.groups else ""
+    """A message that was led to a shard goes to no other machine."""
+    refused = f"    http-request {refusal} if is_elsewhere\n" if settings.groups else ""
+    return place_rules(settings, refusal) + refused
 
 
 def first_rules(settings):
-    """Where machines of other groups come in, which say whose message it is."""
+    """Where other machines come in, which say whose message it is."""
     return f"""\
     bind {own_host(settings)}:{settings.group_port} ssl crt {settings.etcd_certificates}/{PEM} ca-file \
 {settings.etcd_certificates}/ca.crt verify required alpn http/1.1
@@ -169,15 +179,23 @@ def own_host(settings):
 
 
 def servers(settings, machines):
-    """The machines of a group, as HAProxy has them."""
+    """Machines, as HAProxy has them."""
     return "".join(f"    server {name} {shown(host)}:{settings.group_port}\n" for name, (host, _) in machines.items())
 
 
 def backends(settings, accepts):
-    """The machines of the other groups; those that decide nothing now are asked for nothing."""
+    """The machines of the other groups, and the others of this one."""
+    found = {f"group_{name}": machines for name, machines in settings.groups.items() if name != settings.group}
+    found |= {passing.OTHERS: passing.others(settings)} if passing.others(settings) else {}
+    return "".join(backend(settings, name, machines, accepts) for name, machines in found.items())
+
+
+def backend(settings, name, machines, accepts):
+    """Machines to which messages are led; those that decide nothing now are asked for nothing. (With `retry-on
+    empty-response` HAProxy 2.6 ended clients' connections without a reply.)"""
     by = f"{settings.etcd_certificates}/{PEM} ca-file {settings.etcd_certificates}/ca.crt verify required"
-    return "".join(f"""
-backend group_{name}
+    return f"""
+backend {name}
     # (as long as the other machine may take)
     timeout connect 2s
     timeout server 60s
@@ -191,4 +209,4 @@ backend group_{name}
     http-check send meth GET uri /health ver HTTP/1.1 hdr host pdpd
     default-server ssl crt {by} check inter 2s fall 2 rise 1 pool-purge-delay 2s
 {servers(settings, machines)}\
-""" for name, machines in settings.groups.items() if name != settings.group)
+"""

@@ -16,6 +16,9 @@ from .settings import DOMAIN, FILE, NUMBERS, Wrong, errors_of, put_off_signals, 
 # How long is waited for shards after an error, in seconds: as long as HAProxy tries one that is down. A
 # question that is under way then may take five, and messages wait for a tool for ten.
 SOON = 3.0
+# For how long since messages are held back is waited for what logs changes, in seconds: a busy machine may take some to
+# start it, and a message is held for ten.
+HELD = 8.0
 
 class NotBegun(Wrong):
     """Why a move isn't made: nothing was changed."""
@@ -46,14 +49,15 @@ def stop_shards(settings, shards):
         yield
 
 
-def wait_until_up(settings, shards, seconds=30.0):
-    """Waits until the shards answer, for so long at the most, where the settings say that they are now."""
+def wait_until_up(settings, shards, began, seconds=30.0):
+    """Waits until the shards answer, for so long at the most, where the settings say that they are now; and for what
+    logs their changes, whose messages are held back since `began`."""
     end = time.time() + seconds
     for shard in shards:
         talk.lead(settings, shard)
     for shard in shards:
         talk.wait_until_up(settings, shard, end - time.time())
-    replicas.wait_until_there(settings, shards)
+    replicas.wait_until_there(settings, shards, max(replicas.PENDING, began + HELD - time.monotonic()))
     applied.note_kept(settings, shards)
 
 
@@ -68,17 +72,18 @@ def restart_shards(settings, *shards, are_replaced=False):
     settings.operator()
     standing.refuse_unrunnable(settings)
     for shard in shards if not are_replaced else ():
-        standing.refuse_unstartable(applied.where_it_is(settings, shard), shard)
+        standing.refuse_unstartable(applied.where_it_starts(settings, shard), shard)
     if talk.asks_elsewhere(settings):
         raise NotBegun(f"{FILE} has the shards at other places than HAProxy asks them: give pdpd-shards restart before")
+    began = time.monotonic()
     try:
         with stop_shards(settings, shards):
             yield
     except Exception:
         with contextlib.suppress(Wrong, OSError):
-            wait_until_up(settings, shards, SOON)
+            wait_until_up(settings, shards, began, SOON)
         raise
-    wait_until_up(settings, shards)
+    wait_until_up(settings, shards, began)
 
 
 @contextlib.contextmanager
@@ -96,12 +101,12 @@ def restart_elsewhere(settings):
     written.write_configuration(settings)
     shards = range(settings.shards)
     for shard in shards:
-        standing.refuse_unstartable(applied.where_it_is(settings, shard), shard)
+        standing.refuse_unstartable(applied.where_it_starts(settings, shard), shard)
     with holding.hold_messages(settings, *shards):
         with stop_shards(settings, shards):
             pass
         talk.reload(settings, supervisor.of(settings))
-    wait_until_up(settings, shards)
+    wait_until_up(settings, shards, time.monotonic())
 
 
 def carry_domain(settings, domain, one, other):

@@ -7,7 +7,7 @@ ends here. So does what one client could take away from all others: connections,
 import hashlib
 import pathlib
 
-from . import again, audited, grouped, logged, monitored, replicated
+from . import again, audited, grouped, logged, monitored, passing, replicated
 from . import settings as setting
 
 JSON = "content-type application/json string"
@@ -23,7 +23,7 @@ LISTS = 4
 # what stands in the configuration where its own digest comes
 DIGEST = "@digest@"
 # the file with sections of the operator's own
-OWN = "pdpd-own.cfg"
+OWN, OWN_HEAD = "pdpd-own.cfg", "\n# ---- of "
 # connections of the tools, of the watchdog and of lists, beside those of clients
 SPARE = 200
 # whose a message is: an address, of IPv6 the network that one machine may have
@@ -38,8 +38,8 @@ def answers(status, code, fields="", how="return"):
 def global_part(settings):
     user = settings.haproxy_user
     rights = f"    user {user}\n    group {user}\n" if user else ""
-    # (each message to another group has a connection there)
-    most = settings.clients * (2 if settings.groups else 1) + SPARE + again.most(settings)
+    # (each message to another machine has a connection there)
+    most = settings.clients * (2 if grouped.has_others(settings) else 1) + SPARE + again.most(settings)
     buffers = most + 2 * (settings.under_way + again.most(settings))
     return f"""\
 global
@@ -241,8 +241,9 @@ def there(settings, condition):
 
 def placed(settings, file):
     """The shard of a domain: by the map, else by its name."""
+    where = f" if{grouped.but(settings)}" if grouped.has_others(settings) else ""
     by_map = grouped.shard_rules(settings, answers(503, "Unavailable")) or f"""\
-    http-request set-var(txn.shard) var(txn.domain),map({file})
+    http-request set-var(txn.shard) var(txn.domain),map({file}){where}
     acl has_domain var(txn.domain) -m found
 """
     by_name = f"var(txn.domain),crc32,mod({settings.shards}) if has_domain !has_shard{grouped.but(settings)}"
@@ -258,7 +259,7 @@ def route_rules(settings):
     file = settings.map
     return f"""\
     # a tool holds some messages back while it restarts a shard or moves a domain
-    http-request lua.pdpd_wait if {{ str(HELD),map({file}) -m found }}
+    http-request lua.pdpd_wait if {{ str(HELD),map({file}) -m found }}{grouped.but(settings)}
     http-request {answers(503, "Unavailable")} if {{ var(txn.held) -m found }}
 {placed(settings, file)}\
     # while the number of shards grows no domain is made
@@ -282,23 +283,24 @@ def route_rules(settings):
 
 def frontends(settings):
     """Where clients come in, up to the shards' queues."""
-    away = f"{{ str(AWAY),map({settings.map}) -m found }}"
+    away = f"{{ str(AWAY),map({settings.map}) -m found }}{grouped.but(settings)}"
     routes, refusal = route_rules(settings), answers(503, "Unavailable")
     rules = message_rules(settings) + there(settings, away) + routes
     again_rules = DOMAIN_RULES + grouped.again_rules(settings, refusal)
     second = again.frontend(settings, rights(settings), refusal, again_rules, routes)
     log = audited.decision_log(settings, logged.LINE)
     first = f"\nfrontend pdp\n{binds(settings)}{log}{source_rules(settings)}{rules}"
-    if not settings.groups:
+    if not grouped.has_others(settings):
         return first + second
-    return f"{first}\nfrontend groups\n{log}{grouped.first_rules(settings)}{rules}{second}"
+    return f"{first}\nfrontend machines\n{log}{grouped.first_rules(settings)}{rules}{second}"
 
 
 def message_rules(settings):
     """What is done with a message before it is led anywhere."""
     return (logged.kind_rules() + DOMAIN_RULES + grouped.place_rules(settings, answers(503, "Unavailable"))
-            + token_rules(settings) + head_rules() + body_rules() + audited.token_rules(settings)
-            + audited.decision_rules(settings) + logged.level_rules(settings) + logged.LED)
+            + passing.rules(settings) + token_rules(settings) + head_rules() + body_rules()
+            + audited.token_rules(settings) + audited.decision_rules(settings) + logged.level_rules(settings)
+            + logged.LED)
 
 
 def rights(settings):
@@ -373,7 +375,7 @@ backend shard{shard}
 def own_part(settings):
     """What the operator adds: sections of a file beside HAProxy's, which no tool writes."""
     path = pathlib.Path(settings.haproxy_etc) / OWN
-    return f"\n# ---- of {path}\n\n{setting.text_of(path)}" if path.exists() else ""
+    return f"{OWN_HEAD}{path}\n\n{setting.text_of(path)}" if path.exists() else ""
 
 
 def mode(settings):

@@ -80,7 +80,7 @@ def decided(folder: pathlib.Path) -> Iterable[tuple[str, float]]:
     return [(name, float(held[name])) for name in (*KINDS, "at")]
 
 
-def wait_until_there(settings: Settings, shards: Iterable[int], seconds: float = PENDING) -> None:
+def wait_until_there(settings: Settings, shards: Iterable[int], seconds: float) -> None:
     """Waits until the daemons of these shards answer, for so long at the most: a change for one that isn't there is
     answered with 503 at once."""
     end = time.monotonic() + seconds
@@ -101,7 +101,7 @@ def why_silent(settings: Settings, shard: int) -> str:
     if by.supervised(unit) and not path.exists():
         return f"the socket {path} of pdpd-replica isn't there: restart {unit}"
     line = by.last_line(unit)
-    return f"pdpd-replica doesn't answer: the log of {unit} ends with: {line or 'nothing'}"
+    return f"pdpd-replica doesn't answer: the log of {unit} {f'ends with: {line}' if line else 'says why'}"
 
 
 def why_away(settings: Settings, shard: int) -> str:

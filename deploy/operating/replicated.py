@@ -2,6 +2,7 @@
 clock for each message."""
 import pathlib
 
+from . import grouped
 from .settings import Wrong
 
 FILE = "leases.map"
@@ -50,8 +51,8 @@ def rules(settings, refusal):
     if not settings.machines:
         return ""
     lists = "".join(f"    http-request {refusal} if METH_GET {{ path /operator/domains }} "
-                    f"!{{ str(LEASE{shard}),map_str_int({file(settings)}),sub(txn.now) -m int gt 0 }}\n"
-                    for shard in range(settings.shards))
+                    f"!{{ str(LEASE{shard}),map_str_int({file(settings)}),sub(txn.now) -m int gt 0 }}"
+                    f"{grouped.but(settings)}\n" for shard in range(settings.shards))
     return f"""\
     # until when this machine may answer; its clock says whether that is over
     http-request set-var(txn.now) date(0,ms)

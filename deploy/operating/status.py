@@ -68,7 +68,8 @@ class Report(NamedTuple):
         if self.at_work:
             lines.append(f"at work: {self.at_work}")
         lines += [f"WRONG: {what}" for what in self.findings.wrong]
-        return "\n".join([*lines, *(f"CAN'T TELL: {what}" for what in self.findings.unknown)])
+        lines += [f"CAN'T TELL: {what}" for what in self.findings.unknown]
+        return "\n".join([*lines, *([] if self.exit_status() else ["nothing is wrong"])])
 
     def json(self) -> str:
         """The same for a program."""
@@ -146,7 +147,9 @@ def led_elsewhere(settings: Settings, shard: int, known: dict[str, str], lists: 
         heals = f"; it hasn't that: pdpd-shards remap leads them to shard {shard}" if is_alone else \
             ": look which is right"
         findings.add(f"shard {shard} has {front.first_of(found)}, whose messages go to shard {where}{heals}")
-    lost = sorted(name for name, where in known.items() if where == str(shard) and name not in names)
+    # (of a domain that the map of all groups leads that one counts)
+    lost = sorted(name for name, where in known.items() if where == str(shard) and name not in names
+                  and talk.place(settings, known, name) == shard)
     if lost:
         findings.add(f"the map leads {front.first_of(lost)} to shard {shard}, where no such domain is. What was "
                      "removed is taken out of the map by pdpd-shards remap; or an older backup was put back")

@@ -114,7 +114,8 @@ class Systemd:
         ended = found.get("ExecMainExitTimestamp", "").lstrip("@")
         if found.get("Result", "success") == "success" or not ended.isdecimal():
             return 0.0, ""
-        return float(ended), self.last_line(unit)
+        lines = [line for line in self.last_lines(unit) if line.startswith(("pdpd-shards: ", "WRONG: "))]
+        return float(ended), last_of(lines).removeprefix("pdpd-shards: ")
 
     def removed_logs(self, names):
         """None: the journal has them."""

@@ -77,9 +77,12 @@ def moved_files(folder: pathlib.Path, process: int) -> dict[str, str]:
 
 
 def refuse_moved(folder: pathlib.Path, process: int) -> None:
-    """An error where the program's files aren't those of the folder: a copy of these lacks what it answers."""
+    """An error where the program's files aren't those of the folder: a copy of these lacks what it answers. (What is no
+    file there, whoever copies it tells.)"""
     with contextlib.suppress(PermissionError):  # (as in `copy_files`)
         for name, place in moved_files(folder, process).items():
+            if (folder / name).is_symlink() or (folder / name).exists() and not (folder / name).is_file():
+                continue
             raise Wrong(f"{folder / name} isn't what its program has open, which was moved to {place}: pdpd-shards "
                         "status says what to do")
 

@@ -230,18 +230,20 @@ class Etcd:
     def events_since(self, revision: int, key: bytes, end: bytes) -> Iterator[tuple[int, list[dict]]]:
         """The same of all revisions from that one on (0: from now on), as etcd tells it, and up to which one. A Refused
         where etcd has dropped that one."""
-        asked = {"key": text_of(key), "range_end": text_of(end), "start_revision": str(revision)}
-        what, known = json.dumps({"create_request": asked}), max(0, revision - 1)
+        known = max(0, revision - 1)
         for member in self.order():
-            connection = member.connection(SILENCE)
+            # (a member that is silent is left for the next one, which tells what hasn't come yet)
+            start = known + 1 if revision or known else 0
+            asked = {"key": text_of(key), "range_end": text_of(end), "start_revision": str(start)}
+            what, connection = json.dumps({"create_request": asked}), member.connection(SILENCE)
             with contextlib.suppress(OSError, http.client.HTTPException, ValueError), contextlib.closing(connection):
                 connection.request("POST", "/v3/watch", what, {"Content-Type": "application/json"})
                 reply = connection.getresponse()
                 while line := reply.readline(LONGEST):
                     result = json.loads(line).get("result")
                     if result is None or result.get("canceled"):
-                        if "compact_revision" in (result or {}):
-                            raise Refused(f"revision {revision} is gone")
+                        if revision and "compact_revision" in (result or {}):
+                            raise Refused(f"revision {start} is gone")
                         return
                     events = result.get("events", ())
                     # (the reply's own revision may be beyond events that come later)

@@ -48,7 +48,7 @@ def looked():
         expect("in its row", dict(zip(status.HEADS, row))["entry"], "7")
         stopped(logged)
         logged.kill_daemon()
-        away = "no change of shard 0 is taken: pdpd-replica doesn't answer: the log of pdpd-replica-0 says why"
+        away = "no change of shard 0 is taken: pdpd-replica doesn't answer: the log of pdpd-replica-0 ends with: nothing"
         expect("it is down", logged.found(), (None, [away]))
         logged.room = 1 << 62
         logged.start_daemon()

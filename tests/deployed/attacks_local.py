@@ -210,7 +210,17 @@ def impostors(machine, checks):
     machine.operator.clear()
     asks = many(machine, 8)
     places = [int(shards("where", f"d{number}")) for number in range(8)]
-    to_places(7100)
+    try:
+        to_places(7100)
+        takes_port(machine, checks, asks, places)
+        kept_from(checks, asks, places)
+        changes_ports(machine, checks, asks)
+    finally:
+        to_places("")
+
+
+def takes_port(machine, checks, asks, places):
+    """A user takes the port of a shard that restarts."""
     backs_up()
     said = shards("status", status=1)
     checks.expect(f"ports of everybody: {said}", "WRONG: every user of this machine can take" in said, True)
@@ -231,9 +241,6 @@ def impostors(machine, checks):
     wait_until(lambda: not thief_is_at(port(1)), "the port isn't free again")
     shards("restart", 1)
     checks.expect("behind it", [decision(once(ask)) for ask, _ in asks], [effect for _, effect in asks])
-    kept_from(checks, asks, places)
-    changes_ports(machine, checks, asks)
-    to_places("")
 
 
 def kept_from(checks, asks, places):
@@ -304,6 +311,7 @@ def changes_ports(machine, checks, asks):
     checks.expect("the ports", [bool(listens(LOW + shard)) for shard in range(4)], [True] * 4)
     shards("reload")
     shards("remap")
+    backs_up()  # (the service of backups may have met the thief)
     checks.expect("status behind it", shards("status").count(" up "), 4)
 
 

@@ -182,7 +182,7 @@ def archives(machine, checks):
     wait_until(lambda: (ARCHIVES / "3").is_dir(), "there is no archive")
     secret, link = pathlib.Path("/var/only-root"), ARCHIVES / "3"
     sh(f"umask 077; rm -rf {secret}; mkdir {secret}; echo secret > {secret}/file")
-    tries = f"mv {link} {ARCHIVES}/moved", f"ln -s {secret} {ARCHIVES}/4", f"touch {ARCHIVES}/more"
+    tries = f"mv {link} {ARCHIVES}/moved", f"ln -s {secret} {ARCHIVES}/64", f"touch {ARCHIVES}/more"
     said = as_user("pdpd-replica", "; ".join(f"{command} 2>&1 || true" for command in tries))
     checks.expect(f"what it puts there: {said}", said.count("Permission denied"), 3)
     sh(f"chown pdpd-replica {ARCHIVES}; sv down /etc/service/pdpd-replica-3; sleep 1")

@@ -47,7 +47,7 @@ class Waits:
 def guesses(ask, number, found):
     """Asks with a wrong token from one of an address's connections."""
     wrong = ask.replace(b"acme-token-1", b"guess-%07d" % number)
-    with contextlib.suppress(OSError), Outsider(0) as client:
+    with contextlib.suppress(OSError), Outsider(5) as client:
         found[status(client.ask(wrong))] += 1
 
 

@@ -10,6 +10,7 @@ import os
 import pathlib
 import random
 import re
+import ssl
 import subprocess
 import threading
 import time
@@ -40,12 +41,15 @@ ROW = '{"Row":[{"Category":"AccessSubject","Entity":"e%d","AttributeId":"urn:a",
 class Client:
     """Who sends messages to the machines."""
 
-    def __init__(self, operator):
-        self.operator = operator
+    def __init__(self, operator, certificates=None):
+        """`certificates`: a folder with those of a machine."""
+        self.operator, self.certificates = operator, certificates
 
-    def sent(self, name, method, path, token, body=None, seconds=60):
-        """The status, the entry that the reply names, and the body; 0 where there is no reply."""
-        connection = http.client.HTTPConnection(address(name), 80, timeout=seconds)
+    def sent(self, name, method, path, token, body=None, seconds=60, is_machine=False):
+        """The status, the entry that the reply names, and the body; 0 where there is no reply. What a machine sends
+        goes to no third one."""
+        connection = self.as_machine(name, seconds) if is_machine else http.client.HTTPConnection(
+            address(name), 80, timeout=seconds)
         fields = {"Authorization": f"Bearer {token}"}
         if body is not None:
             fields["Content-Type"] = "application/json"
@@ -57,6 +61,12 @@ class Client:
             return 0, 0, ""
         finally:
             connection.close()
+
+    def as_machine(self, name, seconds):
+        """A connection by which machines come in at another one."""
+        context = ssl.create_default_context(cafile=self.certificates / "ca.crt")
+        context.load_cert_chain(self.certificates / "client.crt", self.certificates / "client.key")
+        return http.client.HTTPSConnection(address(name), 444, timeout=seconds, context=context)
 
     def has_made(self, name, domain):
         """Whether a machine makes a domain, or has made it."""
@@ -71,12 +81,16 @@ class Client:
                  ("PUT", "/domains/ward/pip", ADMIN, (WARD / "rows.json").read_text())]
         return [self.sent(name, *step)[0] for step in steps]
 
-    def decision(self, name, seconds=10):
-        """The decision of a machine; the status where it gives none."""
+    def decision(self, name, seconds=10, is_own=False):
+        """The decision of a machine, or of one that it asks; the status where it gives none."""
         # (who is on the night's shift may read at any hour)
         status, _, body = self.sent(name, "POST", "/domains/ward/pdp", ASKS, (WARD / "request-bob.json").read_text(),
-                                    seconds)
+                                    seconds, is_own)
         return re.search(r'"Decision":"(\w+)"', body)[1] if status == 200 else status
+
+    def own_decision(self, name):
+        """The same of the machine itself."""
+        return self.decision(name, is_own=True)
 
     def shard(self, three):
         return int(three.run("a", "pdpd-shards where ward"))

@@ -244,6 +244,25 @@ def looks_twice(checks):
     checks.expect("the looks that were left", found, {1: ["stuck"], 2: [], 3: []})
 
 
+# It makes the pipe as pdpd-run does, and becomes what holds it, over a program that ends once the pipe does.
+HOLDS = """mkfifo {0}/end; exec 3<> {0}/end 4< {0}/end; rm {0}/end
+exec {1}/pdpd-hold {0}/socket sh -c 'echo begun; read line; exit 0'"""
+
+
+def held(machine, checks):
+    """What holds the pipe of a program's input ends as the program does, however soon that ends once it is told: a unit
+    that is stopped hasn't failed."""
+    place, found = machine.folder / "held", []
+    place.mkdir()
+    for number in range(100):
+        with subprocess.Popen(["sh", "-c", HOLDS.format(place, LIBRARY)], stdout=subprocess.PIPE) as holds:
+            holds.stdout.readline()
+            time.sleep(number % 10 / 1000)
+            holds.terminate()
+            found.append(holds.wait())
+    checks.expect("what it ends with", set(found), {0})
+
+
 def unstarted(machine, checks):
     """A shard that isn't started again behind a move: that is told, beside why the move wasn't made.
 

@@ -141,12 +141,10 @@ def replica_stuck(machine, checks):
 
 
 def no_room(machine, checks):
-    text = SETTINGS.read_text()
-    SETTINGS.write_text(re.sub(r"(?m)^ROOM=.*$", f"ROOM={2 ** 60}", text))
-    sh("sv restart /etc/service/pdpd-replica-0")
+    held = re.search(r"(?m)^ROOM=(.*)$", SETTINGS.read_text())[1].strip(chr(34))
+    machine.set(ROOM=2 ** 60)
     yield "NoRoom"
-    SETTINGS.write_text(text)
-    sh("sv restart /etc/service/pdpd-replica-0")
+    machine.set(ROOM=held)
 
 
 def other_decision(machine, checks):

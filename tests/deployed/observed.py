@@ -100,7 +100,15 @@ def flooded(machine, checks):
 
 def undecided(machine, checks):
     """Without LOG_DECISIONS changes and what failed are logged, and nothing else."""
-    machine.set(LOG_DECISIONS=0)
+    try:
+        machine.set(LOG_DECISIONS=0)
+        logged_without(machine, checks)
+    finally:
+        machine.set(LOG_DECISIONS="")
+
+
+def logged_without(machine, checks):
+    """What is logged of decisions, one of a shard that is away, and of changes."""
     ask = machine.operator.makes("silent")
     for _ in range(3):
         once(ask)
@@ -115,7 +123,6 @@ def undecided(machine, checks):
     found = [kinds(folder, "silent") for folder in ("changes", "haproxy", "decisions")]
     checks.expect("what is logged", ({kind for kind, _, _ in found[0]}, *found[1:]),
                   ({"change"}, [("fault", "POST", "503")], []))
-    machine.set(LOG_DECISIONS="")
 
 
 # ---- a full disk

@@ -289,15 +289,27 @@ def by_another_user(machine, checks):
                       (1, f"pdpd-shards: only root can do that: run pdpd-shards {given} as root\n"))
 
 
+def limit(shard):
+    """How many messages HAProxy lets to a shard at a time."""
+    head, row, *_ = admin(f"show stat shard{shard} 4 -1").splitlines()
+    return dict(zip(head.lstrip("# ").split(","), row.split(",")))["slim"]
+
+
 def slower_proxy(machine, checks):
-    """HAProxy was told by hand to send a shard fewer messages at a time, or to take fewer a second."""
-    for command, wanted in (("set maxconn server shard1/pdpd 1", "HAProxy sends shard1 another number of messages"),
-                            ("set rate-limit sessions global 1", "or fewer a second than come"),
-                            ("set rate-limit ssl-sessions global 1", "or fewer a second than come")):
+    """HAProxy was told by hand to take fewer messages a second, to ask less at a time, or to leave what it asks. What
+    it was told of a shard alone is gone at once, since it sets that anew all the time."""
+    for command, wanted in (("set rate-limit sessions global 1", "or fewer a second than come"),
+                            ("set rate-limit ssl-sessions global 1", "or fewer a second than come"),
+                            ("set maxconn server lists/self 1", "HAProxy asks lists/self less than its file says"),
+                            ("set server lists/self state maint", "HAProxy asks lists/self less"),
+                            ("set weight shard1/again 0", "HAProxy asks shard1/again less")):
         admin(command)
         tells(checks, command, wanted)
         shards("reload")
         is_well(checks, command)
+    held = limit(1)
+    admin("set maxconn server shard1/pdpd 1")
+    wait_until(lambda: limit(1) == held, lambda: f"a shard gets {limit(1)} messages at a time", 2)
 
 
 def other_machines_backup(machine, checks):

@@ -4,7 +4,7 @@ import pathlib
 import sys
 
 from . import audit
-from .machine import LIBRARY, backs_up, sh, shards, wait_until
+from .machine import LIBRARY, admin, backs_up, sh, shards, wait_until
 from .overlooked import APPLIED
 from .states import asked, is_well, tells
 from .surroundings import SERVICES
@@ -19,7 +19,7 @@ def overlooked_logged(machine, checks):
     shards("remap")
     backs_up()
     wait_until(lambda: asked("status")[0] == 0, lambda: asked("status")[1])
-    for one in (others_archive, socket_gone, lost_archive, clock_ahead):
+    for one in (others_archive, socket_gone, left_daemon, lost_archive, clock_ahead):
         one(machine, checks, int(shards("where", "ward")))
         wait_until(lambda: asked("status")[0] == 0, lambda: asked("status")[1])
         wait_until(lambda: changed() == 200, f"no change is taken behind {one.__name__}")
@@ -46,6 +46,14 @@ def socket_gone(machine, checks, place):
     path.unlink()
     tells(checks, "without its socket", f"the socket {path} of pdpd-replica isn't there: restart pdpd-replica-{place}")
     sh(f"sv restart {SERVICES}/pdpd-replica-{place}")
+
+
+def left_daemon(machine, checks, place):
+    """HAProxy was told by hand to send no change to the daemon, which runs: all changes are answered with 503."""
+    for command in (f"set server changes{place}/replica state maint", f"set maxconn server changes{place}/replica 1"):
+        admin(command)
+        tells(checks, command, f"HAProxy asks changes{place}/replica less than its file says")
+        shards("reload")
 
 
 def lost_archive(machine, checks, place):

@@ -28,7 +28,8 @@ def lost_machine(three, client, checks):
         checks.say(three.run("a", take.replace(" d", " c")).strip())
         set_machines(three, "c", NAMES)
         begin_beside(three, "c", checks)
-        wait_until(lambda: client.decision("c") == "Permit", lambda: three.run("c", "pdpd-replicas status", None), 60)
+        wait_until(lambda: client.own_decision("c") == "Permit",
+                   lambda: three.run("c", "pdpd-replicas status", None), 60)
     are_well(three)
     checks.expect("changes meanwhile", {status for status in changes if status not in chaos.NONE}, {200})
     others = [name for name in NAMES if name != "c"]
@@ -36,7 +37,7 @@ def lost_machine(three, client, checks):
     wait_until(lambda: client.has_made("a", "with-c"), "its etcd is of no majority", 60)
     three.run("b", "sv up /etc/service/pdpd-etcd")
     are_well(three)
-    checks.expect("decisions", [client.decision(name) for name in others], ["Permit"] * 2)
+    checks.expect("decisions", [client.own_decision(name) for name in others], ["Permit"] * 2)
 
 
 def set_machines(three, name, names):
@@ -63,12 +64,13 @@ def added(three, client, checks):
     with chaos.changing(client, "a") as changes:
         three.run("a", take)
         begin_beside(three, "d", checks)
-        wait_until(lambda: client.decision("d") == "Permit", lambda: three.run("d", "pdpd-replicas status", None), 60)
+        wait_until(lambda: client.own_decision("d") == "Permit",
+                   lambda: three.run("d", "pdpd-replicas status", None), 60)
         are_well(three)
         found = client.sent("d", "PUT", "/domains/ward/pip", chaos.ADMIN, (chaos.WARD / "rows.json").read_text())[0]
         checks.expect("a change there", found, 200)
         checks.say(three.run("a", drop).strip())
-        checks.expect("it decides nothing any more", client.decision("d"), 503)
+        checks.expect("it decides nothing any more", client.own_decision("d"), 503)
         for name in NAMES:
             set_machines(three, name, NAMES)
     are_well(three)

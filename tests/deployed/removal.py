@@ -26,13 +26,16 @@ def ours(folder):
 
 
 def running():
-    """The programs of a deployment that run on the machine."""
+    """The programs of a deployment that run on the machine. (What another part has killed, and nobody has waited for,
+    has ended.)"""
     found = set()
-    for path in pathlib.Path("/proc").glob("[0-9]*/comm"):
+    for path in pathlib.Path("/proc").glob("[0-9]*/stat"):
         try:
-            found.add(path.read_text().strip())
+            name, state = re.fullmatch(r"\d+ \((.*)\) (\S) .*", path.read_text(), re.DOTALL).groups()
         except OSError:
             continue  # (it has ended)
+        if state not in "ZX":
+            found.add(name)
     return found & PROGRAMS
 
 

@@ -36,10 +36,10 @@ def set_up(alone, checks):
 def replicas(alone, checks):
     """The whole."""
     three = set_up(alone, checks)
-    client = chaos.Client(OPERATOR)
+    client = chaos.Client(OPERATOR, three.folder / "disks" / "a" / "made" / "a")
     checks.expect("a domain", client.make_ward("a"), [201, 200, 200, 201, 200, 200, 200])
     for name in NAMES:
-        checks.expect(f"a decision of {name}", client.decision(name), "Permit")
+        checks.expect(f"a decision of {name}", client.own_decision(name), "Permit")
     if "FIGURES" in os.environ:
         figures.figures(three, client, checks)
     is_right, failed = False, checks.failed
@@ -56,8 +56,9 @@ def parts():
     """What an operator does while all is well; a chaos; and what he does when more is lost, and when machines come and
     go. By hand some alone."""
     all_parts = (looked_at, upgraded, recovered.other_program, lost_disk, recovered.rows_differ, recovered.skipped,
-                 recovered.rotated, recovered.mistake_undone, resharded.moved, chaos.run, rejoined.lost_machine,
-                 rejoined.added, recovered.etcd_lost, recovered.one_to_three, resharded.grown, grouped.two_groups)
+                 recovered.rotated, recovered.mistake_undone, recovered.etcd_full, resharded.moved, chaos.run,
+                 rejoined.lost_machine, rejoined.added, recovered.etcd_lost, recovered.one_to_three, resharded.grown,
+                 grouped.two_groups)
     return [part for part in all_parts if not ONLY or part.__name__ in ONLY]
 
 
@@ -81,17 +82,36 @@ def looked_at(three, client, checks):
     three.run("b", "pdpd-replicas freeze by hand")
     status = client.sent("c", "PUT", "/operator/domains/other", client.operator)[0]
     checks.expect("a change of a frozen log", status, 503)
-    checks.expect("a decision of a frozen log", client.decision("c"), "Permit")
+    checks.expect("a decision of a frozen log", client.own_decision("c"), "Permit")
     told = "WRONG: shard 0: the log is frozen: by hand"
     checks.expect("it is told", told in three.run("c", "pdpd-replicas status", 1), True)
     three.run("c", "pdpd-replicas thaw")
     wait_until(lambda: client.has_made("c", "other"), "no change is taken", 60)
     three.run("a", f"sv stop /etc/service/pdpd-replica-{client.shard(three)}")
     wait_until(lambda: "a isn't there" in three.run("b", "pdpd-replicas status", None), "it isn't told", 60)
-    checks.expect("a machine without its daemon decides nothing", client.decision("a"), 503)
-    checks.expect("others do", [client.decision(name) for name in "bc"], ["Permit"] * 2)
+    checks.expect("a machine without its daemon decides nothing", client.own_decision("a"), 503)
+    checks.expect("others do", [client.own_decision(name) for name in "bc"], ["Permit"] * 2)
+    passed_on(client, checks)
     three.run("a", f"sv start /etc/service/pdpd-replica-{client.shard(three)}")
-    wait_until(lambda: client.decision("a") == "Permit", "it doesn't decide again", 60)
+    wait_until(lambda: client.own_decision("a") == "Permit", "it doesn't decide again", 60)
+    # (what is away for a second is; and then all but HAProxy)
+    for services in (f"pdpd-{client.shard(three)}", "pdpd-*"):
+        three.run("a", f"sv stop /etc/service/{services}; sleep 2")
+        passed_on(client, checks)
+        three.run("a", f"sv start /etc/service/{services}")
+        wait_until(lambda: client.own_decision("a") == "Permit", "it doesn't decide again", 60)
+
+
+def passed_on(client, checks):
+    """A machine that may not decide asks another one, for what changes nothing alone."""
+    checks.expect("decisions of others", {client.decision("a") for _ in range(20)}, {"Permit"})
+    at = "/domains/ward/pap/policies"
+    listed = [client.sent(name, "GET", at, chaos.ADMIN)[::2] for name in "ab"]
+    checks.expect("what it lists", (listed[0], listed[0][0]), (listed[1], 200))
+    checks.expect("all domains", client.sent("a", "GET", "/operator/domains", client.operator)[0], 200)
+    checks.expect("who isn't entitled", client.sent("a", "GET", at, "nobody-at-all")[0], 401)
+    status = client.sent("a", "PUT", "/domains/ward/pip", chaos.ADMIN, (chaos.WARD / "rows.json").read_text())[0]
+    checks.expect("a change", status in chaos.NONE, True)
 
 
 def upgraded(three, client, checks):
@@ -99,12 +119,16 @@ def upgraded(three, client, checks):
     other = ("cp /usr/local/lib/pdpd/pdpd /root/other && printf x >> /root/other && "
              "mv /root/other /usr/local/lib/pdpd/pdpd && pdpd-shards upgrade")
     three.run("a", "pdpd-replicas freeze upgrade")
-    for name in NAMES:
-        if name == "c":
-            checks.expect("too soon", "all machines have to run" in three.run("a", "pdpd-replicas thaw", 1), True)
-        three.run(name, other)
-        for one in NAMES:
-            wait_until(lambda one=one: client.decision(one) == "Permit", f"{one} doesn't decide behind {name}", 60)
+    with resharded.asking(client) as found:
+        for name in NAMES:
+            if name == "c":
+                checks.expect("too soon", "all machines have to run" in three.run("a", "pdpd-replicas thaw", 1), True)
+            three.run(name, other)
+            for one in NAMES:
+                wait_until(lambda one=one: client.own_decision(one) == "Permit", f"{one} doesn't decide behind {name}",
+                           60)
+    checks.expect("decisions meanwhile", sorted(found) in (["503", "Permit"], ["Permit"]), True)
+    checks.say(f"decisions meanwhile: {dict(found)}")
     status = client.sent("b", "PUT", "/operator/domains/more", client.operator)[0]
     checks.expect("a change before the thaw", status, 503)
     wait_until(lambda: "are taken" in three.run("a", "pdpd-replicas thaw", None), "it isn't thawed", 60)
@@ -121,7 +145,7 @@ def lost_disk(three, client, checks):
     with chaos.changing(client, "a") as changes:
         three.run("b", f"pdpd-replicas copy {shard} > {copy}")
         said = three.run("c", f"pdpd-replicas join {shard} < {copy}")
-        wait_until(lambda: client.decision("c") == "Permit", "it doesn't decide again", 60)
+        wait_until(lambda: client.own_decision("c") == "Permit", "it doesn't decide again", 60)
     checks.say(f"{said.strip()} ({len(changes)} changes meanwhile)")
     checks.expect("changes meanwhile", {status for status in changes if status not in (503, 504)}, {200})
     checks.expect("a second time", "isn't empty" in three.run("c", f"pdpd-replicas join {shard} < {copy}", 1), True)
@@ -134,4 +158,4 @@ def lost_disk(three, client, checks):
     three.run("c", f"rm -rf /var/lib/pdpd/{shard} /var/lib/pdpd-replica/{shard}; "
               f"mv /var/lib/pdpd/old /var/lib/pdpd/{shard}; mv /var/lib/pdpd-replica/old /var/lib/pdpd-replica/{shard}; "
               f"sv start /etc/service/pdpd-{shard} /etc/service/pdpd-replica-{shard}")
-    wait_until(lambda: client.decision("c") == "Permit", "it doesn't decide again", 60)
+    wait_until(lambda: client.own_decision("c") == "Permit", "it doesn't decide again", 60)

@@ -209,6 +209,22 @@ def backups(machine, checks, operator):
         machine.sh(f"pdpd-shards put-back {shard} {names[str(shard)]} {wanted}")
     checks.expect("each domain answers again", {name: decision(once(ask)) for name, ask in asks.items()},
                   dict.fromkeys(asks, "Permit"))
+    failing(machine, checks, operator)
+
+
+def failing(machine, checks, operator):
+    """A unit's backup fails: that is told at once, until there is a later backup."""
+    machine.sh("systemctl stop pdpd@3")
+    machine.run("systemctl start pdpd-backup@3")
+    said = machine.run("pdpd-shards status").stdout
+    told = re.search(r"WRONG: the last backup of shard 3, at \d\d:\d\d UTC, failed: shard 3 doesn't run", said)
+    checks.expect(f"a backup that fails: {said}", told is not None, True)
+    machine.sh("systemctl start pdpd@3")
+    wait_until(operator.is_answered, machine.tail)
+    machine.sh("pdpd-shards backup 3")
+    said = machine.run("pdpd-shards status").stdout
+    checks.expect(f"behind a later one: {said}", "the last backup of shard 3" in said, False)
+    machine.sh("systemctl reset-failed pdpd-backup@3")
 
 
 def moves(machine, checks, operator):

@@ -14,6 +14,7 @@ from .clients import Deciders, Makers, Operator, making, many, message, once
 from .clients import status as status_of
 from .machine import LIBRARY, PAGE, PLAIN, SETTINGS, TOP, as_user, backs_up, pid, sh, shards, wait_until
 
+MACHINES = "a=10.0.0.1 b=10.0.0.2 c=10.0.0.3"
 SWITCHES = ("FIRST_PORT=288", "CONNECTIONS=1000000;IDLE=4;KEEP=0;RETRY=0;MAXCONN=1;FIRST_PORT=288", "THREADS=4",
             "MAXCONN=4", "RATE=100", "PLAIN_BIND=127.0.0.1:8081",
             "TLS_BIND=;PLAIN_BIND=127.0.0.1:8081", "TLS_BIND=[::]:443 v4v6", "HAPROXY_USER=", "LOG=/dev/log local0",
@@ -21,7 +22,7 @@ SWITCHES = ("FIRST_PORT=288", "CONNECTIONS=1000000;IDLE=4;KEEP=0;RETRY=0;MAXCONN
             "CLIENTS=10;UNDER_WAY=10;OF_SOURCE=0;REFUSALS=0", "AUDIT=1",
             *(f"DECISIONS=1;DECISION_REQUESTS={words}" for words in ("whole", "digest", "none")),
             "DECISIONS=1;LOG_DECISIONS=0", "AUDIT=1;METRICS=127.0.0.1:405", "METRICS=127.0.0.1:405",
-            "AUDIT=1;SELF=a;REPLICAS=a=10.0.0.1 b=10.0.0.2 c=10.0.0.3")
+            *(f"AUDIT=1;SELF=a;REPLICAS={MACHINES};ACK={word}" for word in ("all", "local")))
 CURL = "curl --silent --show-error --cacert /etc/haproxy/pdpd.crt"
 DOMAINS = "https://localhost/operator/domains"
 C_LIBRARY = {"linux-vdso.so.1", "libc.so.6", "ld-linux-x86-64.so.2"}
@@ -89,9 +90,12 @@ def made_with(folder, text):
 
 def configurations(machine, checks):
     """HAProxy takes the configuration for 1, 2 and 4 shards and each switch; wrong settings are told."""
+    machines = f"AUDIT=1\nSELF=a\nREPLICAS='{MACHINES}'"
+    made = machine.folder / "certificates"
+    sh(f"pdpd-replicas certificates {made} {MACHINES}")
     for count, switch in [(1, ""), (2, ""), *((4, switch) for switch in ("", *SWITCHES))]:
         lines = "\n".join(re.sub("=(.*)", r'="\1"', word) for word in switch.split(";"))
-        found, said = made_with(machine.folder, f"SHARDS={count}\n{lines}")
+        found, said = made_with(machine.folder, f"SHARDS={count}\nETCD_CERTIFICATES={made}/a\n{lines}")
         checks.expect(f"{count} shards, {switch}: {said}", found, 0)
         if not switch:
             said = sh(f"haproxy -c -f {machine.folder}/settings/haproxy.cfg 2>&1")
@@ -102,6 +106,8 @@ def configurations(machine, checks):
     checks.expect("no word", "pdpd-shards: several pdpd" in shards(status=2), True)
     found, said = made_with(machine.folder, "CERTIFICATE=/no/such.pem")
     checks.expect(f"a certificate that isn't there: {said}", (found, "'/no/such.pem'" in said), (1, True))
+    found, said = made_with(machine.folder, f"{machines}\nETCD_CERTIFICATES=/no/such")
+    checks.expect(f"no certificates: {said}", (found, "pdpd-replicas certificates makes it" in said), (1, True))
     leases = machine.folder / "settings" / "leases.map"
     leases.unlink()
     found, _ = made_with(machine.folder, "AUDIT=1\nSELF=a\nREPLICAS=a=10.0.0.1\nCERTIFICATE=/no/such.pem")
@@ -320,10 +326,11 @@ def status(machine, checks):
     said = shards("status")
     count = len(re.findall(r"(?m)^\d+ +up ", said))
     checks.expect("each shard is up", count, int(re.search(r"(?m)^SHARDS=(\d+)", SETTINGS.read_text())[1]))
+    checks.expect("its last line", said.splitlines()[-1], "nothing is wrong")
     sh("sv down /etc/service/pdpd-1")
     said = shards("status", status=1)
-    found = re.search(r"(?m)^1 +down ", said) is not None, "WRONG: shard 1 takes no connections" in said
-    checks.expect("one is away", found, (True, True))
+    found = re.search(r"(?m)^1 +down ", said), "WRONG: shard 1 takes no connections" in said, "nothing is wrong" in said
+    checks.expect("one is away", (found[0] is not None, *found[1:]), (True, True, False))
     checks.expect("it has no backup", "shard 1 doesn't run" in shards("backup", 1, status=1), True)
     token = pathlib.Path("/etc/pdpd/token")
     held = token.read_text()

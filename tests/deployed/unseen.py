@@ -74,7 +74,8 @@ def told_once(machine, checks):
 def still_supervisors(machine, checks):
     """What looks after services stands still: nothing that ends is started again."""
     for name in ("runsv", "runsvdir"):
-        process = int(sh(f"pgrep -o -x {name}"))
+        # (the oldest runsvdir may be one that another part has killed, and that nobody waits for)
+        process = int(sh(f"pgrep -n -x {name}"))
         if name == "runsv":
             process = int(pathlib.Path(f"/proc/{holder(1)}/stat").read_text().rpartition(")")[2].split()[1])
         os.kill(process, signal.SIGSTOP)

@@ -5,14 +5,17 @@ import resource
 import socket
 import threading
 import time
+from unittest import mock
 
 from audit_parts.shared import expect, status_of, wait_until, within
 from log.archive import segments_in
+from replica import etcd as etcds
 from replica.etcd import Open, Refused
 from replica.leases import FOR_EVER
 from serving import OPERATOR
 
 from .etcds import LONG, are_level, leases_end, rows
+from .groups import one_member
 from .lab import LEASE, Lab, digest
 
 DOMAIN = ("PUT", "/operator/domains/other", OPERATOR)
@@ -155,4 +158,29 @@ def another_program():
         expect("with the right one again", are_level(lab), True)
 
 
-PARTS = (goes_on, no_room, no_byte_left, etcd_is_full, damaged, another_program)
+def heard_once():
+    """Who hears of changes goes on at another member where one is silent: nothing is heard twice, and nothing missed,
+    though it was put in between."""
+    with one_member("heard") as (_, etcd, _), mock.patch.object(etcds, "SILENCE", 3.0):
+        class Second(etcds.Member):
+            """One that is asked once something was put."""
+
+            def connection(self, seconds):
+                etcd.put(b"/key", b"2")
+                return super().connection(seconds)
+        (first,) = etcd.members
+        both = etcds.Etcd([first, Second(first.host, first.port)], 5.0)
+        for is_known in (True, False):
+            etcd.put(b"/key", b"0")
+            revision, heard, revisions = etcd.range_at(0, b"/key")[0], [], []
+            for known, events in both.events_since(revision + 1 if is_known else 0, b"/key", b"/kez"):
+                if not events and not heard:
+                    etcd.put(b"/key", b"1")
+                heard += [etcds.pair_of(one)[1] for one in events]
+                revisions.append(known)
+            expect("what was heard", heard, [b"1", b"2"])
+            found = [revision if is_known else 0, revision + 1, revision + 1, revision + 2]
+            expect("up to which revision", revisions, found)
+
+
+PARTS = (heard_once, goes_on, no_room, no_byte_left, etcd_is_full, damaged, another_program)

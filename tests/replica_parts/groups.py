@@ -77,7 +77,7 @@ def one_member(name):
     member.start()
     etcd = Etcd([Member("127.0.0.1", clients)], 5.0)
     try:
-        if not wait_until(lambda: answers(etcd), 30):
+        if not wait_until(lambda: answers(etcd), LONG):
             raise RuntimeError((place / "etcd.said").read_text())
         yield place, etcd, member
     finally:

@@ -1,10 +1,12 @@
 """What an operator does: all of etcd is lost, an entry that no pdpd takes, rows that differ, another program."""
+import contextlib
 import shutil
+import socket
 import sqlite3
 import threading
 
 from audit_parts.shared import expect, log, status_of, wait_until
-from replica import pushing, rows, skipping
+from replica import core, pushing, rows, skipping
 from replica.etcd import Etcd, Member
 from replica.shared_log import Entry, Head, SharedLog, Wrong
 from serving import OPERATOR
@@ -161,6 +163,51 @@ def skipped():
         expect("what is told of it", (status, said.count(b"skipped")), (0, 1))
 
 
+class Outlasted:
+    """In place of a pdpd one that gets each message, and is killed before it answers any."""
+
+    def __init__(self, port):
+        self.count, self.socket = 0, socket.create_server(("127.0.0.1", port))
+        threading.Thread(target=self.work, daemon=True).start()
+
+    def work(self):
+        with contextlib.suppress(OSError):
+            while True:
+                with self.socket.accept()[0] as one:
+                    self.count += b"PUT /domains/acme/pip" in one.recv(65_536)
+
+    def close(self):
+        self.socket.shutdown(socket.SHUT_RDWR)
+        self.socket.close()
+
+
+def outlasting():
+    """An entry with which every pdpd is killed before it has answered is skipped, too: no daemon sends it any more once
+    it was asked for, and what comes behind it is made."""
+    with Lab("outlasting", ack="local") as lab:
+        first = lab.machines[0]
+        lab.make_domain(first)
+        are_level(lab)
+        for one in lab.machines:
+            one.pdpd.kill()
+        others = [Outlasted(one.pdpd_port) for one in lab.machines]
+        head = {"domain": "acme", "who": "admin", "method": "PUT", "path": PIP, "fields": []}
+        change = core.Change(head, b"", core.CLOCK.monotonic() + LONG)
+        core.Appending(lab.log, core.CLOCK, lambda look: "", lambda what: None).append([change])
+        expect("each has got it", wait_until(lambda: min(one.count for one in others) > 0, LONG), True)
+        lab.log.freeze("by hand")
+        skipping.skip(lab.log, change.number, MACHINES)
+        expect("nobody has it", wait_until(lambda: all(one.has(change.number) for one in lab.machines), LONG), True)
+        counts = [one.count for one in others]
+        for one, other in zip(lab.machines, others):
+            other.close()
+            one.start_pdpd()
+        lab.log.thaw(MACHINES)
+        expect("the next change", wait_until(lambda: status_of(change_rows(first, "next")) == 200, LONG), True)
+        expect("it was sent no more", [one.count for one in others], counts)
+        expect("all are level", are_level(lab), True)
+
+
 def meeting_of(lab, machine):
     members = [Member("127.0.0.1", one.client_port) for one in lab.machines]
     return rows.Meeting(SharedLog(Etcd(members), 0, machine.name, lab.log.program),
@@ -286,4 +333,4 @@ def unbegun():
         expect("with the log's name and an empty store", are_level(lab), True)
 
 
-PARTS = (unbegun, pushed, pushed_wrongly, skipped, rows_compared, rows_alone, stale_refusals)
+PARTS = (unbegun, pushed, pushed_wrongly, skipped, outlasting, rows_compared, rows_alone, stale_refusals)
