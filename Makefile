@@ -69,7 +69,7 @@ author-test: ## tests the policy author's desk (tools/policy/policy.py); proves 
 policy-file: ## packs the policy author's desk as one file that Python from 3.9 runs: build/policy.pyz
 	@tools/policy/pack.py
 
-bench: pdpd ## proves and builds pdpd, and runs all benchmarks but bench/gate.py, bench/heads, bench/units.py, bench/deploy.py, bench/guards.py, bench/casbin.py, bench/audit.py and bench/changes.py
+bench: pdpd ## proves and builds pdpd, and runs all benchmarks but those that the head of bench/all names
 	bench/all
 
 dist: ## packs the proved program, or PROGRAM=PATH, the kit for several of them behind HAProxy, the author's desk, and their pages: build/pdpd-VERSION.tar.gz

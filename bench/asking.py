@@ -1,4 +1,4 @@
-"""A domain of one policy, and asks for its decisions."""
+"""A domain of one policy, and decision requests to it."""
 import json
 
 from transcripts import TOKEN  # it makes `sent` importable

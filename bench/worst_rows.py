@@ -174,6 +174,12 @@ def head(size):
     return ["stream", *pieces]
 
 
+def head_to_server(size):
+    """A head of so many bytes, of lines of 250, that comes to a server a byte a piece."""
+    text = "GET / HTTP/1.1\n" + ("x" * 248 + ":\n") * (size // 250)
+    return ["server_in_memory", *("piece:" + ("\\n" if byte == "\n" else byte) for byte in text[:size])]
+
+
 ACME = ["domain:acme", "ask:acme-token-1", "document:" + written(policy("p")), "root:policy|p|||"]
 
 
@@ -243,6 +249,7 @@ LINES = [
     ("n obligations through 120 nested sets", obligations_carried, 500, LINEAR),
     ("n policies that each of 64 individuals names", policies_named, 499, LINEAR),
     ("a head of n bytes, a byte a piece", head, 4_000, LINEAR),
+    ("a head of n bytes to a server, a byte a piece", head_to_server, 8_000, LINEAR),
     ("256 matches by equality on a bag of n texts", partial(matches, EQUAL, 256), 40_000, LINEAR),
     ("n matches by equality on a bag of 80,000 texts", partial(matches, EQUAL, values=80_000), 128, LINEAR),
     ("100 n matches by equality on a bag of 40 n texts", matches_named, 120, LINEAR),

@@ -16,7 +16,7 @@ import sys
 sys.dont_write_bytecode = True
 sys.argv.insert(1, "--listen")
 from checks import is_program  # noqa: E402
-from listen_parts import addresses, clients, crowds, ends, kills, parting, readers, waiting  # noqa: E402
+from listen_parts import addresses, changes, clients, crowds, ends, kills, parting, readers, waiting  # noqa: E402
 from serve_parts.shared import PROGRAM, TOKEN_FILE, folder  # noqa: E402
 from listen_parts.shared import checks  # noqa: E402
 from serving import OPERATOR  # noqa: E402
@@ -28,6 +28,8 @@ PARTS = (
     parting.behind_faults, parting.over_a_slow_network, parting.stays_bounded,
     ends.by_input, ends.at_the_door, ends.half_a_message, ends.by_terminal, ends.by_signal, ends.input_unwatched,
     addresses.internet, addresses.unix, addresses.occupied, addresses.unusable,
+    changes.routed, changes.one_at_a_time, changes.kept, changes.stays, changes.at_a_path, changes.at_the_end,
+    changes.told, changes.unusable,
     clients.old_curl, clients.pooled, clients.pooled_by_java, clients.proxied,
     kills.under_writers)
 

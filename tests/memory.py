@@ -20,14 +20,18 @@ import time
 
 sys.dont_write_bytecode = True
 import programs  # noqa: E402
-from growths import FAILING, TOP, Replay, Rows, by_model, compiled, entries, in_turn, not_asked, script  # noqa: E402
+from growths import (  # noqa: E402
+    FAILING, TOP, UNTOUCHED, Program, Replay, Rows, by_model, compiled, entries, in_turn, not_asked, script)
 from held import COUNTING, faults_of_refusals, faults_of_routes, faults_of_values, most_and_left  # noqa: E402
+from rows import encoded, line  # noqa: E402
 from serving import OPERATOR, UNAVAILABLE, decided, making, message  # noqa: E402
 
 MIB = 2 ** 20
 # What may be held at once for a few messages, and what more for an entry of 1 MiB: its bytes twice, as they were read
 # and as its connection holds them, the latter in a list that doubles.
 MOST_HELD, MOST_OF_AN_ENTRY = MIB, 5 * MIB
+# For how many allocations that fail a row of a decision may be answered: one is of the input.
+MOST_ANSWERED = 4
 
 
 def figures(program, library):
@@ -111,6 +115,26 @@ class Refusing:
                 + [f"{self.what}: no run was of the kind: {kind}" for kind in kinds if not self.counts[kind]])
 
 
+def faults_of_decisions(xa_trials, library):
+    """A decision in which an allocation fails ends by that: it is begun again for large bags alone. So of a row of one
+    there are few allocations that may fail and that it is answered for all the same."""
+    program = Program(xa_trials, library)
+    row = line(["decide", encoded(b'{"Request":{"Resource":[%b]}}' % b",".join([b"{}"] * 8))]).encode()
+    wanted = program.written([], row, 0)
+    runs = [found == wanted for _, found in in_turn(lambda place: same_as(wanted, program.written([], row, place)))]
+    answered = sum(runs) - UNTOUCHED
+    print(f"tests/memory.py: a row of eight decisions: {len(runs) - UNTOUCHED} allocations refused in turn, and "
+          f"{answered} times it is answered")
+    if b'"NotApplicable"' not in wanted[1] or len(runs) < UNTOUCHED + 40:
+        return ["a row of eight decisions isn't answered, or takes fewer than 40 allocations"]
+    return ["a decision that found no memory is begun again"] if answered > MOST_ANSWERED else []
+
+
+def same_as(wanted, found):
+    """What was found, and whether it is what was wanted."""
+    return found, found == wanted
+
+
 class Asking(Refusing):
     """A domain that is asked the same twice."""
 
@@ -139,7 +163,7 @@ def main():
         library = compiled(FAILING, f"{folder}/failing.so")
         counting = compiled(COUNTING, f"{folder}/counting.so")
         faults = figures(pdpd, counting) + faults_of_routes(pdpd, counting) + faults_of_values(pdpd, counting)
-        faults += faults_of_refusals(xa_trials, counting)
+        faults += faults_of_refusals(xa_trials, counting) + faults_of_decisions(xa_trials, library)
         faults += [f"the script doesn't ask for: {command}" for command in not_asked(script())]
         tables = Refusing("the script over tables", Replay(pdpd, library), script())
         rows = Refusing("the script over tables, as a row", Rows(xa_trials, library, "server_in_tables"), script())

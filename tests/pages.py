@@ -2,16 +2,19 @@
 """Looks whether what the pages (*.md) have between the comments `pages: ..` and `end of pages` is what is generated of
 the files that it names, whether a line of prose is longer than 110 columns, whether each link leads to a file of the
 repository and to a heading in it, whether files and commands that pages name are there, whether each public call has an
-example in its crate's CALLING.md, whether numbers that were counted by hand still hold, and whether all pages together
-have more words than they may. Takes some seconds.
+example in its crate's CALLING.md, whether numbers that were counted by hand and figures that were measured still hold,
+whether bench/all names what it leaves out, whether a word of ours stands for one of the field's, and whether all pages
+together have more words than they may. Takes some seconds.
 
 usage: tests/pages.py             looks; the last line is 'N passed, M failed'
        tests/pages.py --write     writes what is generated, and wraps prose at 100 columns
        tests/pages.py --words     tells the words of each page: all, and those that are neither generated nor code
 
-tests/page_parts.py has what is generated, by the words of the marks; tests/page_numbers.py the numbers.
+tests/page_parts.py has what is generated, by the words of the marks; tests/page_numbers.py the numbers;
+tests/page_figures.py the figures.
 """
 import functools
+import os
 import pathlib
 import re
 import subprocess
@@ -22,11 +25,15 @@ sys.dont_write_bytecode = True
 TOP = pathlib.Path(__file__).resolve().parent.parent
 sys.path.insert(0, str(TOP / "tests"))
 
+from page_figures import wrong_figures  # noqa: E402
 from page_numbers import wrong_numbers  # noqa: E402
 from page_parts import DECISIONS, ITEM, anchor_of, decided, generated, wrapped  # noqa: E402
 
 GREATEST, MOST_WORDS = 110, 42_000
 FOLDERS = "tests|bench|tools|examples|deploy|edits|docs|crates"
+# Words of code and contracts, in whose place docs/GLOSSARY.md has the field's: store, lack of memory, decision request.
+OURS = re.compile(r"\b(?:keepers?|want\s+of\s+memory|whole\s+orders?|"
+                  r"(?:an|each|every|one|another) ask|(?:all|ordinary) asks)\b")
 GENERATED = re.compile(r"<!-- (?!end)[^>]*-->\n.*?<!-- end of [^>]*-->", re.S)
 
 
@@ -122,6 +129,15 @@ def lost_commands(text, folder):
                 yield name
 
 
+def unnamed_benchmarks():
+    """The benchmarks, which can be started, that bench/all neither runs nor says that it leaves out."""
+    text = (TOP / "bench" / "all").read_text(encoding="utf-8")
+    for path in sorted((TOP / "bench").iterdir()):
+        if path.is_file() and os.access(path, os.X_OK) and path.name not in ("all", "page.py"):
+            if not re.search(rf"(?<![\w.]){re.escape(path.name)}(?![\w.]*\w)", text):
+                yield path.name
+
+
 def public_calls(crate):
     """The functions that others may call: those of public types and traits, and those that the root file names."""
     texts = {path.stem: path.read_text(encoding="utf-8") for path in (crate / "src").rglob("*.rt")}
@@ -143,10 +159,16 @@ def faults_of(path):
                     if not re.search(rf"\b{name}\b", text))
     if path.parent == DECISIONS:
         yield from (f"no date: {heading}" for heading, date, _ in decided(path.stem) if date == "no date")
+    if path == TOP / "bench" / "README.md":
+        yield from (f"bench/all neither runs nor names {name}" for name in unnamed_benchmarks())
     for span, name in named_files(plain(text)):
         if not any(each.endswith((name, name.removesuffix(".antt"))) for each in all_files()):
             yield f"no file {span}"
     yield from wrong_numbers(str(path.relative_to(TOP)))
+    yield from wrong_figures(str(path.relative_to(TOP)))
+    if path.name not in ("GLOSSARY.md", "DEFINITIONS.md"):
+        prose = re.sub(r"`[^`\n]*`|\]\([^)]*\)", "", without_code(text))
+        yield from (f"a word of ours: {word}" for word in OURS.findall(prose))
     if text != generated(text, path.parent):
         yield "what is generated is stale: make pages"
     for number, line in enumerate(plain(text).split("\n"), 1):

@@ -15,7 +15,8 @@ from program_parts import command_line, connections, entries, failing, routes  #
 from program_parts.shared import PROGRAM, checks  # noqa: E402
 
 PARTS = (
-    command_line.command_lines, entries.bytes_of_headings, entries.headings, entries.cuts, entries.pipes, entries.reads,
+    command_line.command_lines, entries.bytes_of_headings, entries.headings, entries.cuts, entries.single,
+    entries.pipes, entries.reads,
     connections.sizes, connections.behind_what_is_held, connections.replies, connections.connections,
     connections.many_connections, connections.used_again,
     routes.routes, routes.mixed_routes, routes.removed, routes.moments, routes.examples,

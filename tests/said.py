@@ -7,8 +7,8 @@ def of_command(advice):
     return f"pdpd {COMMAND}: {advice}".encode()
 
 
-USAGE = (b"usage: pdpd listen DATABASE ADDRESS TOKEN-FILE, pdpd serve DATABASE ADDRESS TOKEN-FILE CONNECTIONS, or "
-         b"pdpd replay OPERATOR-TOKEN (8 to 64 visible ASCII characters); pdpd --help says more\n")
+USAGE = (b"usage: pdpd listen DATABASE ADDRESS TOKEN-FILE [CHANGES-ADDRESS], pdpd serve DATABASE ADDRESS TOKEN-FILE "
+         b"CONNECTIONS, or pdpd replay OPERATOR-TOKEN (8 to 64 visible ASCII characters); pdpd --help says more\n")
 NO_COMMAND = b"pdpd: no command; " + USAGE
 NO_TOKEN = b"pdpd replay: OPERATOR-TOKEN is no token; " + USAGE
 NO_TEXT = b"pdpd: a word of the command line isn't in UTF-8; " + USAGE

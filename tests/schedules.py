@@ -18,6 +18,7 @@ from counting import CountingServer  # noqa: E402
 from growths import compiled  # noqa: E402
 from held import COUNTING, counted  # noqa: E402
 from reactors import schedule  # noqa: E402
+from routes import TABLE  # noqa: E402
 from sent import OPERATOR, growing_policy, making, message  # noqa: E402
 
 TOKEN = "acme-token-1"
@@ -60,6 +61,22 @@ def late_rows():
         yield ["arrive:1", f"comes:0:{LIST.hex()}", f"takes:0:{takes}", "turn", f"time:{now}", "turn", "turn", "got:0"]
     yield ["arrive:1", f"comes:0:{LAST.hex()}", "turn", "time:1999", "turn", "time:2000", "turn"]
     yield ["limits:1000:1000", "arrive:1", f"comes:0:{LIST[:9].hex()}", *["turn"] * 20]
+
+
+def overdue_rows():
+    """Each that is late is closed in that turn: all 64 at once, of which some are quiet, some have sent half a message,
+    some take no reply and some were parted with; and one of which a byte comes now and then, also in that turn."""
+    def send(kind, held):
+        return [f"comes:{peer}:{held.hex()}" for peer in range(kind, 64, 4)]
+
+    deaf = [f"takes:{peer}:0" for peer in range(2, 64, 4)]
+    for now in (9_999, 10_000):
+        yield ["limits:10000:10000", "arrive:64", *deaf, "turn", *send(1, LIST[:9]), *send(2, LIST), "turn",
+               "time:8000", *send(3, LAST), "turn", f"time:{now}", "turn", "turn"]
+    for now in (1_999, 2_000):
+        drips = [(time, f"comes:0:{LIST[place:place + 1].hex()}", "turn")
+                 for place, time in enumerate(("turn", "time:500", "time:1000", "time:1500", f"time:{now}"))]
+        yield ["limits:1000:2000", "arrive:1", *(field for drip in drips for field in drip), "got:0"]
 
 
 def crowded_rows():
@@ -131,9 +148,60 @@ def ending_rows():
     yield ["no-clock", "arrive:1", f"comes:0:{LIST.hex()}", "turn"]
 
 
+def each_route():
+    """A message for each row of the table of routes, with the operator's token or a wrong one, and others that have no
+    route."""
+    parts = {"domain": "a", "kind": "policy", "id": "urn:p", "version": "1.0"}
+    routes = [(method, path.format(**parts)) for path, commands in TABLE.items() for method in commands]
+    for method, path in (*routes, ("PUT", "/nowhere"), ("PUT", "/operator/domains"), ("PUT", "/domains/NO/pip")):
+        for token in (OPERATOR, "no-such-token"):
+            yield message(method, path, token)
+    yield message("PUT", "/domains/a/pip", OPERATOR).replace(b"\r\n\r\n", b"\r\nContent-Type: text/xml\r\n\r\n")
+
+
+def split_rows():
+    """Changes have an address of their own: at the first one those that ask for a change are turned away, in their
+    order among others, and the server learns of none; at the other each is answered, on one connection at a time, for
+    which a place is kept and which isn't driven out."""
+    change, close = creates("acme"), creates("beta").replace(b"1.1", b"1.0")
+    yield ["split", "arrive:1", f"comes:0:{b''.join(each_route()).hex()}", *["turn"] * 45, "got:0"]
+    yield ["split", "no-clock", "arrive:1", f"comes:0:{(change + LIST).hex()}", *["turn"] * 3, "got:0"]
+    yield ["split", "arrive:2", "arrive-changes:1", f"comes:0:{(LIST + change + LIST).hex()}",
+           f"comes:2:{(change + LIST).hex()}", *["turn"] * 4, f"comes:0:{(LIST + close + LIST).hex()}", *["turn"] * 4,
+           "got:0", "got:2"]
+    for place in range(0, len(change) + 1):  # cut behind each byte, at either address
+        yield ["split", "arrive:1", "arrive-changes:1", *(f"comes:{peer}:{change[:place].hex()}" for peer in (0, 1)),
+               "turn", *(f"comes:{peer}:{change[place:].hex()}" for peer in (1, 0)), *["turn"] * 2, "got:0", "got:1"]
+    yield ["split", "arrive:1", "arrive-changes:1", *(f"takes:{peer}:1" for peer in (0, 1)),  # replies go byte by byte
+           *(f"comes:{peer}:{(change + LIST).hex()}" for peer in (0, 1)), *["turn"] * 220, "got:0", "got:1"]
+    # one after another, in the order in which they came, also if one sends nothing or is dropped
+    yield ["split", "arrive-changes:4", *(f"comes:{peer}:{creates(name).hex()}" for peer, name in enumerate("abcd")),
+           "turn", "turn", "ends:0:", "turn", "turn", "time:30000", "turn", "turn", "ends:3:", f"comes:2:{LIST.hex()}",
+           "turn", "turn", "time:59999", "turn", "time:60000", *["turn"] * 3, *(f"got:{peer}" for peer in range(4))]
+    yield ["split", "arrive-changes:2", f"comes:0:{close.hex()}", f"comes:1:{LIST.hex()}", *["turn"] * 2, "time:1999",
+           "turn", "time:2000", *["turn"] * 3, "got:0", "got:1"]
+    for now in (9_999, 10_000):  # also if it takes no reply, for as long as any may do so
+        yield ["split", "arrive-changes:2", f"comes:0:{change.hex()}", "takes:0:0", f"comes:1:{LIST.hex()}", "turn",
+               f"time:{now}", *["turn"] * 3, "got:1"]
+    # a place is kept, and none that is taken by others goes for it; it stays while others are driven out
+    for now in (99, 100):
+        yield ["split", "arrive:64", "turn", f"time:{now}", "turn", "arrive-changes:2", "turn",
+               f"comes:64:{LIST.hex()}", "turn", "turn", "got:64"]
+    yield ["split", "arrive-changes:1", "turn", "time:50", "arrive:65", "turn", "time:150", "turn", "time:250", "turn"]
+    yield ["split", "arrive:63", "turn", *(f"comes:{peer}:{LIST[:5].hex()}" for peer in range(63)), "arrive:1", "turn",
+           "time:9000", "turn", "arrive-changes:1", "turn", "turn"]
+    # it ends, and some wait at either door
+    for now in (999, 1_000):
+        yield ["split", "arrive-changes:2", "turn", "arrive:1", f"comes:1:{change.hex()}", f"comes:2:{LIST.hex()}",
+               "end", "turn", f"time:{now}", *["turn"] * 3, "time:2000", "turn", "got:1", "got:2"]
+    yield ["split", "fails:accept:2", "arrive:3", "arrive-changes:3", *["turn"] * 5, "ends:3:", "ends:4:",
+           *["turn"] * 6]
+
+
 def worked():
     """All of them."""
-    for rows in (mixed_rows, failing_rows, late_rows, crowded_rows, busy_rows, door_rows, marked_rows, ending_rows):
+    for rows in (mixed_rows, failing_rows, late_rows, overdue_rows, crowded_rows, busy_rows, door_rows, marked_rows,
+                 ending_rows, split_rows):
         for row in rows():
             yield "\t".join(row)
 
@@ -166,12 +234,16 @@ class Drawn:
                        if chance.random() < 0.15]
         if chance.random() < 0.3:
             self.fields.insert(0, f"limits:{chance.choice((0, 500, 3000))}:{chance.choice((0, 400, 2000))}")
+        self.is_split = chance.random() < 0.4
+        if self.is_split:
+            self.fields.insert(0, "split")
         if chance.random() < 0.3:
             self.fields.append(f"passes:{chance.choice((1, 30, 400))}")
 
     def arrive(self):
         count = self.chance.choice((1, 2, 3, 60, 70)) if self.count < 130 else 1
-        self.fields.append(f"arrive:{count}")
+        at_changes = self.is_split and self.chance.random() < 0.4
+        self.fields.append(f"arrive-changes:{count}" if at_changes else f"arrive:{count}")
         self.left += [pieces(self.chance, stream(self.chance)) for _ in range(count)]
         self.count += count
 

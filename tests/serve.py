@@ -35,7 +35,7 @@ PARTS = (
     memory.connections_leave_nothing, memory.stack, memory.address_space, disks.file_size, sockets.idle,
     limits.long_replies, limits.limits, limits.limits_told, limits.work_unless_set, limits.reading_and_views,
     sizes.long_parts, sizes.many_domains, sizes.long_text, sizes.many_assignments, sizes.full_domain,
-    costs.single, costs.kept, costs.at_once, sockets.last)
+    costs.single, costs.looks, costs.kept, costs.at_once, sockets.last)
 
 # What holds of `pdpd serve` alone, and why; tests/listen.py has what holds of `pdpd listen` in its place.
 ONE_BY_ONE = {

@@ -10,6 +10,7 @@ from serve_parts.streams import places_to_cut
 from serving import CREATED
 
 from .shared import PLACES, clients_of, expect, listening, percentile, timed, within
+from .waiting import LOOKS, looks_at
 
 # How many connections ask without a pause while one more asks now and then, for how many seconds, and how long that one
 # waits at most in all but one of a hundred times. Each of its asks waits for at most one of each other.
@@ -126,10 +127,10 @@ def descriptors():
             for client in clients:
                 client.send(LIST)
             time.sleep(0.5)
-            before = served.processor_seconds()
-            time.sleep(1)
+            before, states = served.processor_seconds(), looks_at(served, LOOKS)
             within("processor seconds of a second in which nothing can be taken",
                    served.processor_seconds() - before, Between(0, 0.3))
+            within("how often it was found asleep in it", states.count("S"), range(LOOKS // 2, LOOKS + 1))
             expect("one that was taken", [first.reply(), first.ask(LIST)], [listing(["acme"])] * 2)
             open_now = len(os.listdir(f"/proc/{served.process.pid}/fd"))
             within("its descriptors", open_now, Between(DESCRIPTORS - 1, DESCRIPTORS))

@@ -122,6 +122,7 @@ def told():
         said = served.said.decode()
         lines = [line for line in said.splitlines() if "dropped" in line]
         within("lines about 41 drops", len(lines), Between(11, 31))
+        expect("drops of which they tell", refusals_in(lines), 41)
         expect("the last tells of those that were left out", "others before" in lines[-1], True)
         expect("the operator's token in them", "operator-token" in said, False)
 

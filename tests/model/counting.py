@@ -1,5 +1,5 @@
 """How often a server reads a text and works out a response, by what it keeps of those before: a shelf of texts,
-views of domains that are ready, and a cache of responses; and which asks it refuses, by its limits of work, of a
+views of domains that are ready, and a cache of responses; and which requests it refuses, by its limits of work, of a
 response and of reading.
 
 What is kept changes no reply. A view is kept for the domain's number and its epoch, one for each number. A response is

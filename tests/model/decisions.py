@@ -3,6 +3,7 @@ Multiple Decision Profile)."""
 import collections
 import json
 
+from charges import Refused
 from contexts import FIRST_MOMENT, LAST_MOMENT, Context, SourceRow
 from documents import DocumentFault
 from identifiers import STATUS, category as category_named
@@ -13,6 +14,7 @@ from requests import NotProfile, individuals_of, request_of
 from responses import body, result
 from rows import decoded, encoded, text_of, value_of
 from versions import reference_of
+from work import spent
 
 SYNTAX_ERROR = STATUS + "syntax-error"
 View = collections.namedtuple("View", "active root source")
@@ -71,14 +73,24 @@ def texts_in(shown):
     return 0
 
 
+def counting(most):
+    """A function that is shown results, one after another: TooLong once their texts have more bytes than that."""
+    texts = 0
+
+    def show(one):
+        nonlocal texts
+        texts += texts_in(one)
+        if most is not None and texts > most:
+            raise TooLong("Results")
+    return show
+
+
 def response(view, held, moment, most=None):
     """The text of the response; TooLong where it has more bytes than that, which may be known by the texts of its
     first results alone."""
-    made, texts = results(view, held, moment), 0
-    for one in made if most is not None else []:
-        texts += texts_in(one)
-        if texts > most:
-            raise TooLong("Results")
+    made, show = results(view, held, moment), counting(most)
+    for one in made:
+        show(one)
     text = body(made)
     if most is not None and len(text.encode()) > most:
         raise TooLong("Reply")
@@ -94,9 +106,9 @@ def row_of(field):
 
 
 def given(fields):
-    """What decides, the moment, and how long the response may be, by fields `active:TEXT`, `root:REFERENCE`, `row:..`,
-    `moment:SECONDS` and `reply:BYTES`."""
-    view, moment, most = View([], None, []), 0, None
+    """What decides, the moment, how long the response may be, and its work, by fields `active:TEXT`, `root:REFERENCE`,
+    `row:..`, `moment:SECONDS`, `reply:BYTES` and `work:UNITS`."""
+    view, moment, most, units = View([], None, []), 0, None, None
     for field in fields:
         word, text = field.split(":", 1)
         if word == "active":
@@ -111,7 +123,9 @@ def given(fields):
                 raise NoMoment
         elif word == "reply":
             most = int(text)
-    return view, moment, most
+        elif word == "work":
+            units = int(text)
+    return view, moment, most, units
 
 
 def decide(*fields):
@@ -119,10 +133,14 @@ def decide(*fields):
     if not fields:
         return ["!FieldCount"]
     try:
-        view, moment, most = given(fields[:-1])
+        view, moment, most, units = given(fields[:-1])
+        if units is not None:
+            spent(view, decoded(fields[-1]), moment, units, lambda: counting(most))
         return [encoded(response(view, decoded(fields[-1]), moment, most))]
     except NotJson:
         return ["!NotJson"]
+    except Refused:
+        return ["!Work"]
     except TooLong as limit:
         return ["!" + str(limit)]
     except (DocumentFault, NoMoment):

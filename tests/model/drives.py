@@ -83,6 +83,7 @@ class Driving(Connections):
     def __init__(self, server):
         super().__init__(server)
         self.peer, self.moments = Peer(), None
+        self.door, self.is_shut = [], False
 
     def comes(self, text):
         """The peer sends bytes."""
@@ -152,18 +153,48 @@ class Driving(Connections):
         except End as end:
             return str(end)
 
-    def drive(self, text):
+    def shown(self, number):
         """How the connection ends, and what the peer has got."""
-        end, peer = self.driven(int(text)), self.peer
-        self.peer, self.moments = Peer(), None
+        end, peer = self.driven(number), self.peer
         unflushed = ["unflushed:" + encoded(peer.kept)] if peer.kept else []
         unread = [f"unread {len(peer.sends)}"] if peer.sends else []
         return [end] + in_runs(each_encoded(peer.got)) + unflushed + unread
 
+    def drive(self, text):
+        """Drives a connection; then another peer begins."""
+        found = self.shown(int(text))
+        self.peer, self.moments = Peer(), None
+        return found
+
+    def queues(self, _):
+        """The peer waits at the door, and another begins."""
+        self.door.append(self.peer)
+        self.peer = Peer()
+        return []
+
+    def next_shown(self):
+        """Takes the peer that came first, on a connection of its own, and drives it; none is taken behind the last."""
+        if self.is_shut or not self.door:
+            return ["!Failed"]
+        self.peer, number = self.door.pop(0), self.front.open()
+        found = self.shown(number)
+        self.front.close(number)
+        return found
+
+    def serve(self, text):
+        """Takes so many peers, one after another."""
+        found, begun = [], self.peer
+        for number in range(int(text)):
+            found += self.next_shown()
+            self.is_shut = self.is_shut or number + 1 == int(text)
+        self.peer, self.moments = begun, None
+        return found
+
     def happen(self, word, text):
         if word in ("reads", "writes", "flushes"):
             return self.calls(word, text)
-        return getattr(self, word)(text) if word in ("comes", "clock", "drive") else super().happen(word, text)
+        own = ("comes", "clock", "drive", "queues", "serve")
+        return getattr(self, word)(text) if word in own else super().happen(word, text)
 
 
 def driven(*fields):

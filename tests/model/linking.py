@@ -34,8 +34,6 @@ class Linking:
         self.active, self.keys = active, [held[:3] for held in active]
         # how many policies and sets the trees have so far; references that have no document are not counted
         self.size = 0
-        # the places of the documents that were looked into so far, each once, in order
-        self.read = {}
         # the place that was found for each reference
         self.found = {}
 
@@ -45,7 +43,6 @@ class Linking:
         place = self.place_of(reference)
         if place is None or place in path or len(path) == MOST_ON_A_PATH:
             return LEAF
-        self.read[place] = None
         return self.tree(self.active[place].document, [*path, place])
 
     def place_of(self, reference):
@@ -72,14 +69,23 @@ def linked(active, root):
 
 
 def places_read(active, root):
-    """The places of the documents that are looked into for the tree of the root reference, in order; up to where it is
-    known to be too large, if it is."""
-    linking = Linking(active)
-    try:
-        linking.referred(root, [])
-    except TooLarge:
-        pass
-    return list(linking.read)
+    """The places of the documents that are read for the tree of the root reference, in order: those to which it leads,
+    each once, first those that are fewer documents away."""
+    linking, read, references = Linking(active), {}, [root]
+    for _ in range(MOST_ON_A_PATH):
+        found = [place for place in dict.fromkeys(map(linking.place_of, references)) if place is not None]
+        found = [place for place in found if place not in read]
+        read.update(dict.fromkeys(found))
+        references = [reference for place in found for reference in references_in(active[place].document)]
+    return list(read)
+
+
+def references_in(document):
+    """The references in a document, in order."""
+    if document.form == "Policy":
+        return []
+    return [reference for child in document.children
+            for reference in (references_in(child) if isinstance(child, Document) else [child])]
 
 
 def tree_shown(tree):

@@ -1,16 +1,23 @@
 """What a reactor does: connections come to 64 places, and are served in turns, in each of which every one has a share.
 
+Changes may have an address of their own: at the first one a message that asks for a change is turned away by the 503,
+and the server doesn't learn of it; at the other one connection is served at a time, a place is kept for it, and it is
+never driven out.
+
 Peers say what they send and how many bytes they take at a write; every so many reads, writes and arrivals fail. Times
 are milliseconds of a timer that may stand, or go on each time that it is asked.
 """
-from fronts import MOST_OPEN, Front
+from fronts import MOST_OPEN, Answer, Front
 from messages import Fault, Message
+from replies import error_reply
+from routes import asks_for_change
 
 PIECE = 65_536
 # for how long a reply may be under way, in all and with fewer than LEAST_BYTES of it taken; what comes behind the last
 # one is dropped; one that owes nothing stays where all places are taken; a reactor that ends waits for the first byte
 # of a message; and for the rest of it, if no limit is set
 REPLY, SLOW, PARTING, GRACE, LEAVING, LAST = 120_000, 10_000, 2_000, 100, 1_000, 10_000
+UNAVAILABLE = error_reply("Unavailable")
 LEAST_BYTES, MOST_DROPPED, MOST_UNDER_WAY, MOST_FAILURES = 65_536, 67_108_864, 33_554_432, 1_000
 
 
@@ -38,7 +45,7 @@ class Network:
     """Peers that wait at the door or sit at places, and calls of which every so many fail."""
 
     def __init__(self):
-        self.peers, self.waiting, self.guest, self.seats = [], [], None, [None] * MOST_OPEN
+        self.peers, self.waiting, self.guest, self.seats = [], {False: [], True: []}, None, [None] * MOST_OPEN
         self.every, self.counts, self.is_shut = {}, {"read": 0, "write": 0, "accept": 0}, False
 
     def counted(self, kind):
@@ -47,17 +54,17 @@ class Network:
         if self.every.get(kind) and self.counts[kind] % self.every[kind] == 0:
             raise Failed
 
-    def arrive(self):
+    def arrive(self, at_changes=False):
         self.peers.append(Peer())
         if not self.is_shut:
-            self.waiting.append(self.peers[-1])
+            self.waiting[at_changes].append(self.peers[-1])
 
-    def accept(self):
+    def accept(self, at_changes=False):
         """Whether one has come."""
-        if self.is_shut or not self.waiting:
+        if self.is_shut or not self.waiting[at_changes]:
             return False
         self.counted("accept")
-        self.guest = self.waiting.pop(0)
+        self.guest = self.waiting[at_changes].pop(0)
         return True
 
     def receive(self, place):
@@ -83,7 +90,8 @@ class Network:
 class Lane:
     """A connection that is open."""
 
-    def __init__(self, now):
+    def __init__(self, now, at_changes):
+        self.at_changes = at_changes
         self.rest, self.is_last, self.holding, self.ready = b"", False, "Nothing", [True, True, False]
         self.size = 0
         self.enter("Quiet", now)
@@ -122,11 +130,11 @@ class Timer:
 class Reactor:
     """Turns over a front and a network."""
 
-    def __init__(self, server, network, timer, idle=30_000, message=10_000):
+    def __init__(self, server, network, timer, idle=30_000, message=10_000, is_split=False):
         self.front, self.network, self.lanes = Front(server), network, [None] * MOST_OPEN
         self.limits, self.first, self.leaving = {"Quiet": idle, "Incoming": message}, 0, None
         self.door, self.end, self.failures, self.deeds, self.moment, self.timer = True, False, 0, [], 0, timer
-        self.began = 0
+        self.began, self.is_split, self.changes, self.change_failures = 0, is_split, is_split, 0
 
     # ---- what is known
 
@@ -146,7 +154,7 @@ class Reactor:
     def idlest(self):
         """The place and the time of the one that has owed nothing for the longest time."""
         found = [(lane.since, place) for place, lane in enumerate(self.lanes)
-                 if lane and lane.stage == "Quiet" and not lane.ready[0]]
+                 if lane and lane.stage == "Quiet" and not lane.ready[0] and not lane.at_changes]
         return min(found) if found else None
 
     def held(self, place):
@@ -166,10 +174,41 @@ class Reactor:
         self.front.close(place)
         self.deeds.append(f"{place}!{reason}")
 
+    def has_changes(self):
+        """Whether one is open that came at the address for changes."""
+        return any(lane and lane.at_changes for lane in self.lanes)
+
+    def has_place(self):
+        """Whether a place is free for one that comes at the first address: one is kept for changes."""
+        return self.lanes.count(None) > (1 if self.is_split and not self.has_changes() else 0)
+
+    def may_take_change(self):
+        return not self.has_changes() and None in self.lanes
+
+    def seat(self, now, at_changes):
+        place = self.front.open()
+        self.lanes[place], self.network.seats[place] = Lane(now, at_changes), self.network.guest
+        self.deeds.append(f"{place}+")
+
+    def take_change(self, now):
+        """One is taken at the address for changes, if the last has gone."""
+        if self.network.is_shut or not (self.is_split and self.changes and self.may_take_change()):
+            return
+        try:
+            self.changes = self.network.accept(at_changes=True)
+        except Failed:
+            self.change_failures += 1
+            if self.change_failures >= MOST_FAILURES:
+                raise Halt("Door") from None
+            return
+        if self.changes:
+            self.change_failures = 0
+            self.seat(now, at_changes=True)
+
     def take_one(self, now):
         """Whether another may be tried."""
         driven_out = None
-        if None not in self.lanes:
+        if not self.has_place():
             idlest = self.idlest()
             if idlest is None or now - idlest[0] < GRACE:
                 return False
@@ -186,9 +225,7 @@ class Reactor:
         self.failures = 0
         if driven_out is not None:
             self.close(driven_out, "DrivenOut")
-        place = self.front.open()
-        self.lanes[place], self.network.seats[place] = Lane(now), self.network.guest
-        self.deeds.append(f"{place}+")
+        self.seat(now, at_changes=False)
         return True
 
     def take_some(self, now):
@@ -256,10 +293,31 @@ class Reactor:
         return "Goes"
 
     def answer(self, place, now):
-        lane, answer = self.lanes[place], self.front.answer(place, self.moment)
+        """The next message is answered, or turned away, which asks no clock; gives the time behind that."""
+        lane = self.lanes[place]
+        away = self.is_split and not lane.at_changes and self.asks_for_change(place)
+        if not away and self.moment is None:
+            raise Halt("NoClock")
+        answer = self.turned_away(place) if away else self.front.answer(place, self.moment)
+        now = max(now, self.timer.tell())
         lane.rest, lane.is_last, lane.holding = answer.reply, answer.is_last, "Part"
         lane.size = len(lane.rest)
         lane.enter("Outgoing", now)
+        return now
+
+    def asks_for_change(self, place):
+        """Whether the first message of a connection has a route that changes something."""
+        stream = self.front.stream(place)
+        held, has_ended = stream.held, stream.has_ended
+        found = stream.next()
+        stream.held, stream.has_ended = held, has_ended
+        return isinstance(found, Message) and asks_for_change(found)
+
+    def turned_away(self, place):
+        """The 503 to the first message of a connection, which is cut off."""
+        stream = self.front.stream(place)
+        stream.next()
+        return Answer(UNAVAILABLE, stream.has_ended)
 
     def go(self, place, has_room):
         """How far the connection is behind its share. Its times are those when something happens in it, and not when
@@ -272,10 +330,7 @@ class Reactor:
         if went == "Goes" and not lane.rest and lane.holding != "Whole":
             went = self.read_some(place, now)
         if went in ("Goes", "Waits") and lane.wants_room() and has_room:
-            if self.moment is None:
-                raise Halt("NoClock")
-            now = max(now, self.timer.tell())
-            self.answer(place, now)
+            now = self.answer(place, now)
             went = self.send_some(place, now)
         if went not in ("Goes", "Waits"):
             return went
@@ -313,22 +368,29 @@ class Reactor:
         return min(found + self.rest_at_door(now), default=None)
 
     def rest_at_door(self, now):
-        """The same, for those that wait at the door, and for the door."""
-        if self.network.is_shut or not self.door and self.leaving is None:
+        """The same, for those that wait at the doors, and for the doors."""
+        if self.network.is_shut:
             return []
-        if not self.door or None in self.lanes:
+        if not self.one_waits():
+            return [] if self.leaving is None else [0]
+        if self.door and self.has_place() or self.changes and self.may_take_change():
             return [0]
-        idlest = self.idlest()
+        idlest = self.idlest() if self.door else None
         found = [max(0, GRACE - max(0, now - idlest[0]))] if idlest else []
         return found + ([] if self.leaving is None else [max(0, LEAVING - max(0, now - self.leaving))])
+
+    def one_waits(self):
+        """Whether one may wait at a door."""
+        return self.door or self.changes
 
     def turn(self):
         """What is done in a turn; gives for how long nothing is to be done then, None for ever."""
         self.began = now = self.timer.tell()
         if self.end and self.leaving is None:
             self.leaving = now
-        if self.leaving is not None and (not self.door or self.has_left(now)):
+        if self.leaving is not None and (not self.one_waits() or self.has_left(now)):
             self.network.is_shut = True
+        self.take_change(now)
         self.take_some(now)
         goes = False
         for offset in range(MOST_OPEN):
@@ -345,15 +407,23 @@ class Schedule:
     def __init__(self, server):
         self.network, self.timer, self.told = Network(), Timer(), None
         self.server, self.found = server, []
-        self.reactor = Reactor(server, self.network, self.timer)
+        self.reactor, self.is_split = Reactor(server, self.network, self.timer), False
 
     def limits(self, text):
         idle, message = (int(word) or None for word in text.split(":"))
-        self.reactor = Reactor(self.server, self.network, self.timer, idle, message)
+        self.reactor = Reactor(self.server, self.network, self.timer, idle, message, self.is_split)
+
+    def split(self, _):
+        self.is_split = True
+        self.limits("30000:10000")
 
     def arrive(self, text):
         for _ in range(int(text)):
             self.network.arrive()
+
+    def arrive_changes(self, text):
+        for _ in range(int(text)):
+            self.network.arrive(at_changes=True)
 
     def peer(self, text):
         number, _, what = text.partition(":")
@@ -402,7 +472,8 @@ class Schedule:
         for place, peer in enumerate(self.network.seats):
             so = [bool(peer.sends) or peer.has_ended, peer.takes != 0, peer.has_ended] if peer else [False] * 3
             self.reactor.note(place, *(so if self.told is None else self.told.get(place, [False] * 3)))
-        self.reactor.door = self.reactor.door or bool(self.network.waiting)
+        self.reactor.door = self.reactor.door or bool(self.network.waiting[False])
+        self.reactor.changes = self.reactor.changes or bool(self.network.waiting[True])
         self.reactor.end = self.reactor.end or getattr(self, "is_ending", False)
         self.told = None
 

@@ -21,6 +21,8 @@ TABLE = {
 }
 OF_OPERATOR = ("domains", "create", "remove", "put", "drop")
 WITH_BODY = ("put", "drop", "decide", "upload", "root", "source")
+# what changes nothing that is kept
+READING = ("domains", "decide", "list", "document", "rows")
 MEDIA = (b"application/json", b"application/xacml+json")
 LETTERS = b"abcdefghijklmnopqrstuvwxyz0123456789"
 # what is asked for, and the parts of the path by their names, percent-decoded
@@ -88,6 +90,14 @@ def route_of(message):
     if command in WITH_BODY and not is_json(message.fields):
         raise Error("BadMediaType")
     return Route(command, parts)
+
+
+def asks_for_change(message):
+    """Whether the message has a route that changes something that is kept, whoever sends it."""
+    try:
+        return route_of(message).command not in READING
+    except Error:
+        return False
 
 
 def route(method, target):

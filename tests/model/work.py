@@ -77,9 +77,9 @@ def large_attributes(found):
     return [attribute for held in found for attribute in held.attributes if len(attribute.values) >= LARGE]
 
 
-def results(view, is_identified, found, individuals, moment, work):
+def results(view, is_identified, found, individuals, moment, work, shown=None):
     """The results for the individual requests, each the places of its objects among those found; None for one that
-    refers to what isn't there."""
+    refers to what isn't there. Each is shown to the function, if there is one, before the next is decided."""
     if work.is_ordered:
         for attribute in large_attributes(found):
             work.spend(ORDERED * units(attribute.values))
@@ -90,11 +90,14 @@ def results(view, is_identified, found, individuals, moment, work):
             made.append(None)
         else:
             made.append(of_individual(view, is_identified, [found[place] for place in places], moment, work))
+            if shown is not None:
+                shown(made[-1])
     return made
 
 
-def spent(view, held, moment, limit):
-    """The units of the work on the bytes of a request; Refused where they are more than the limit."""
+def spent(view, held, moment, limit, begun=None):
+    """The units of the work on the bytes of a request; Refused where they are more than the limit. `begun` gives, each
+    time that the results are begun, the function to which they are shown."""
     try:
         (is_combined, is_identified), found, named = request_of(held)
     except (NotProfile, NotJson):
@@ -104,9 +107,9 @@ def spent(view, held, moment, limit):
         return 0
     work = Work(limit, sum(len(attribute.values) for attribute in large_attributes(found)))
     try:
-        results(view, is_identified, found, individuals, moment, work)
+        results(view, is_identified, found, individuals, moment, work, begun and begun())
     except WantsOrder:
         # what was spent until then stays spent
         work.is_ordered = True
-        results(view, is_identified, found, individuals, moment, work)
+        results(view, is_identified, found, individuals, moment, work, begun and begun())
     return limit - work.left

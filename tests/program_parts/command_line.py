@@ -16,7 +16,8 @@ def command_lines():
         expect(f"token {token!r}", run(entry(0, 0, ASK), ["replay", token]), (b"", NO_TOKEN, 2))
     expect("a word that isn't in UTF-8", run(b"", [b"replay\xff"]), (b"", NO_TEXT, 2))
     out, said, status = run(b"", ["--help"])
-    names = (b"pdpd listen DATABASE ADDRESS TOKEN-FILE\n", b"pdpd serve DATABASE ADDRESS TOKEN-FILE CONNECTIONS\n",
+    names = (b"pdpd listen DATABASE ADDRESS TOKEN-FILE [CHANGES-ADDRESS]\n",
+             b"pdpd serve DATABASE ADDRESS TOKEN-FILE CONNECTIONS\n",
              b"pdpd replay OPERATOR-TOKEN\n", b"PDPD_WORK", b"PDPD_READING", b"PDPD_MESSAGE", b"PDPD_END",
              b"Exit statuses: 0 ")
     expect("--help", ([name in out for name in names], said, status), ([True] * len(names), b"", 0))

@@ -1,19 +1,21 @@
 """The lines of entries, and transcripts that are cut or come in pieces."""
 import os
 import re
+import resource
 import shutil
 import signal
 import subprocess
 import tempfile
 import time
 
+from checks import Between
 from growths import compiled
 from said import FAILED
 from sent import OPERATOR
 
 from .shared import (
     ASK, BEGUN, FIRST_MOMENT, LAST_MOMENT, MOST_BYTES, PROGRAM, REPLY, beginning, checks, entry, expect, replay, run,
-    written)
+    within, written)
 
 DIGITS = re.compile(rb"\A[0-9]+\Z")
 LONG_LINE = b"the line before it has more than 64 bytes"
@@ -119,6 +121,33 @@ def cuts():
         expect(f"a message in two pieces, cut after {place} bytes", replay(pieces), (written(0, REPLY), b"", 0))
     single = b"".join(entry(0, 0, ASK[at:at + 1]) for at in range(len(ASK)))
     expect("a message in pieces of one byte", replay(single), (written(0, REPLY), b"", 0))
+
+
+# How many entries have one byte, how often each run is made, and how much longer one may take than another.
+SINGLE, RUNS, MOST_TIMES = 15_000, 3, 2.5
+
+
+def seconds_of_single(first, rest):
+    """The least processor time of a run over an entry, and over others that have a byte each."""
+    transcript = entry(0, 0, first) + b"".join(entry(0, 0, rest[at:at + 1]) for at in range(SINGLE))
+    found = []
+    for _ in range(RUNS):
+        before = resource.getrusage(resource.RUSAGE_CHILDREN)
+        expect("single bytes", run(transcript), (b"", b"", 0))
+        after = resource.getrusage(resource.RUSAGE_CHILDREN)
+        found.append(after.ru_utime + after.ru_stime - before.ru_utime - before.ru_stime)
+    return min(found)
+
+
+def single():
+    """Bytes of a head, of a target, and of a body behind a long head, one by one, take as long as those of a body."""
+    fields = b"".join(b"X-%d-%s:\r\n" % (number, b"n" * 235) for number in range(62))
+    begun = b"POST /domains/acme/pdp HTTP/1.1\r\nContent-Length: 524288\r\n"
+    of_body = seconds_of_single(begun + b"\r\n", b" " * SINGLE)
+    for what, first, rest in (("a head", begun, fields), ("a target", b"GET /", b"a" * SINGLE),
+                              ("a body behind a long head", begun + fields + b"\r\n", b" " * SINGLE)):
+        within(f"how much longer {SINGLE} bytes of {what} take", seconds_of_single(first, rest) / of_body,
+               Between(0, MOST_TIMES))
 
 
 def replaying():

@@ -12,7 +12,7 @@ MOST_BYTES = 1_048_576
 FIRST_MOMENT, LAST_MOMENT = -62_135_596_800, 253_402_300_799
 
 checks = Checks("tests/program.py")
-expect = checks.expect
+expect, within = checks.expect, checks.within
 
 ASK, REPLY = message("POST", "/domains/acme/pdp", "acme-token-1", '{"Request":{}}'), decided("Permit")
 NO_ROUTE = reply("404 Not Found", '{"Error":"NoRoute"}')

@@ -14,7 +14,7 @@ SETTINGS = (("PDPD_WORK", WORK_BAD), ("PDPD_REPLY", REPLY_BAD), ("PDPD_READING",
             ("PDPD_VIEWS", VIEWS_BAD), ("PDPD_IDLE", IDLE_BAD), ("PDPD_SUMS", SUMS_BAD),
             *((("PDPD_MESSAGE", MESSAGE_BAD), ("PDPD_END", END_BAD)) if COMMAND == "listen" else ()))
 NO_ADDRESS = PLACE_BAD if COMMAND == "listen" else ADDRESS_BAD
-WORDS = "DATABASE ADDRESS TOKEN-FILE" + (" CONNECTIONS" if COMMAND == "serve" else "")
+WORDS = "DATABASE ADDRESS TOKEN-FILE " + ("CONNECTIONS" if COMMAND == "serve" else "[CHANGES-ADDRESS]")
 TOKENS = {
     "empty": b"", "seven": b"1234567\n", "sixty-five": b"x" * 65, "space": b"operator token\n",
     "carriage": b"operator-token-1\r\n", "second": b"\noperator-token-1\n", "high": b"operator-\xfftoken\n",
@@ -30,8 +30,9 @@ def with_word(place, word):
 def usages():
     """Words that are no command line, and numbers of connections that are none."""
     for words, said in (([], NO_COMMAND), ([COMMAND], other_words(COMMAND, WORDS)),
-                        (["sever", *GOOD[1:]], no_such_command("sever")), (GOOD[:-1], other_words(COMMAND, WORDS)),
-                        ([*GOOD, "1"], None), ([COMMAND, *GOOD], None),
+                        (["sever", *GOOD[1:]], no_such_command("sever")), (GOOD[:3], other_words(COMMAND, WORDS)),
+                        ([*GOOD, "1", "2"], None),
+                        ([*GOOD, "1"], None if COMMAND == "serve" else line("1", PLACE_BAD)),
                         (with_word(0, "Serve"), no_such_command("Serve")),
                         ([""], no_such_command("")), (["--halp"], no_such_command("--halp")),
                         (["a\nb"], no_such_command("a\\u{a}b")), (["replay"], other_words("replay", "OPERATOR-TOKEN")),

@@ -1,12 +1,15 @@
 """What bytes cost of the processor's time if they come one by one, and a decision that is kept among many; and how
 long a reply behind another takes."""
+import itertools
 import pathlib
 import socket
 import time
 
 from checks import Between
+from growths import compiled
+from held import COUNTING, Held
 
-from .shared import ASK, PERMIT, expect, in_acme, make_domain, serving, within
+from .shared import ASK, PERMIT, environment, expect, folder, in_acme, make_domain, serving, within
 
 # Bytes that come one by one, how often, and how much longer those behind many others may take than the first.
 SINGLE, REPEATED, ROUNDS, MOST_TIMES = 50, 5, 3, 3
@@ -42,12 +45,16 @@ def seconds_of_single_bytes(served, before):
         return min(found)
 
 
+def head_of(count):
+    """A head of so many long fields, behind which a long body is to come."""
+    fields = b"".join(b"X-%d-%s:\r\n" % (number, b"n" * 220) for number in range(count))
+    return b"POST /domains/acme/pdp HTTP/1.1\r\n%sContent-Length: 524288\r\n\r\n" % fields
+
+
 def single():
     """A byte of a head or a body takes as long behind many others as behind few."""
     target = b"GET /" + b"a" * 16_000
-    fields = b"".join(b"X-%d-%s:\r\n" % (number, b"n" * 220) for number in range(60))
-    small, large = (b"POST /domains/acme/pdp HTTP/1.1\r\n%sContent-Length: 524288\r\n\r\n" % more
-                    for more in (b"", fields))
+    small, large = map(head_of, (0, 60))
     with serving("single.db") as served:
         for what, few, more in (("a head", target[:20], target[:14_000]), ("a body behind a long head", small, large),
                                 ("a body", small, small + b" " * 520_000)):
@@ -57,23 +64,45 @@ def single():
                    Between(0, MOST_TIMES))
 
 
+def allocations(library, count):
+    """How many allocations a run takes over a head of many fields, and so many bytes of its body, one by one."""
+    with serving(f"looks-{count}.db", 1, env=environment(LD_PRELOAD=library)) as served:
+        with served.client() as client:
+            client.send(head_of(60))
+            client.is_silent(0.1)
+            for _ in range(count):
+                send_and_wait(served, client, b" ")
+            client.ends_writing()
+            client.all()
+        return Held(*map(int, served.ended()[1].split()[-4:])).allocations
+
+
+def looks():
+    """A head is read once, and not again for each byte of its body: these take less than an allocation each."""
+    library = compiled(COUNTING, str(folder / "counting.so"))
+    few, many = (allocations(library, count) for count in (SINGLE, 2 * SINGLE))
+    within(f"allocations that {SINGLE} bytes of a body take", many - few, range(-SINGLE, SINGLE))
+
+
 def long_ask(number):
     """A decision request whose body is as long as one whose decision is kept, and has its number at the end."""
     return in_acme("POST pdp", f'{{"Request":{{"Action":{{"Id":"{number:04}"}}}}}}'.rjust(LONGEST_KEPT))
 
 
 def seconds_of_kept(count):
-    """The least processor time of asks whose decisions are kept, where so many are."""
+    """The least processor time of asks whose decisions are kept, where so many are: of those that were kept last, each
+    asked again when all of them were."""
     with serving(f"kept-{count}.db") as served:
         make_domain(served)
         with served.client() as client:
             replies = {client.ask(long_ask(number)) for number in range(count)}
             expect(f"{count} decisions", replies, {PERMIT})
-            found = []
+            found, asked = [], itertools.cycle(map(long_ask, range(count // 2, count)))
             for _ in range(REPEATED * ROUNDS):
+                asks = list(itertools.islice(asked, FEW_KEPT))
                 began = served.processor_seconds()
-                for number in range(FEW_KEPT):
-                    client.ask(long_ask(number))
+                for ask in asks:
+                    client.ask(ask)
                 found.append(served.processor_seconds() - began)
     return min(found)
 

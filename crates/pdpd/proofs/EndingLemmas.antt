@@ -1,5 +1,5 @@
 -- How serving ends, and what is left of it.
-use Rattle.std.proofs.Common.{◌≡◌, ℕ, ℤ, List, Option, Some, None, Result, Ok, Err, refl, subst}
+use Rattle.std.proofs.Common.{◌≡◌, ℕ, ℤ, is_some, List, Option, Some, None, Result, Ok, Err, refl, subst}
 use Rattle.sqlite.specs.Recovery.{Image}
 use Rattle.sqlite_disk.specs.declared.Disk as disk
 use Rattle.sqlite_store.specs.declared.store.FileStore.{FileStore}
@@ -39,11 +39,11 @@ ends_serving_as image token serving ended end none served address is = record {
 }
 
 pub ends_listening_as : {D : Type 0} {g : disk.Ghosts D} (image : Image) (token : Option (List ℕ)) (listening : ListenCommand) (ended : Ended D (Keeper (FileStore D g)) g)
-    (end : Served D (Keeper (FileStore D g)) g) → token ≡ None → HasServedAtOnce image token None None ended → (IsNoPlace listening.address → ended ≡ Unbegun Place)
+    (end : Served D (Keeper (FileStore D g)) g) → token ≡ None → HasServedAtOnce image token (is_some listening.changes) None None ended → (IsNoPlace listening.address → ended ≡ Unbegun Place)
     → end ≡ record { exit = exit_of_end ended; ended = Some ended } → EndsListening image listening end
 ends_listening_as image token listening ended end none served place is = record {
   ended = ended;
   is = is;
-  served = subst (λ (t : Option (List ℕ)). HasServedAtOnce image t None None ended) none served;
+  served = subst (λ (t : Option (List ℕ)). HasServedAtOnce image t (is_some listening.changes) None None ended) none served;
   place = place;
 }

@@ -1,4 +1,5 @@
 pub mod BeginningLemmas
+pub mod CommandLineLemmas
 pub mod EndingLemmas
 pub mod HeadingLemmas
 pub mod ListeningLemmas

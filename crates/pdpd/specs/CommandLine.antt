@@ -23,13 +23,29 @@ serving_of database address token_file connections =
     (λ n. Serve (record { database = database; address = address; token_file = token_file; connections = n }))
     (connections_of connections)
 
+-- what the two words after the program's name ask for
+unfoldable pub of_two_words : List ℕ → List ℕ → Option Command
+of_two_words word token = if bytes_eq word (codes "replay") then Some (Replay token) else None
+
+-- what the four words after it ask for
+unfoldable pub of_four_words : List ℕ → List ℕ → List ℕ → List ℕ → Option Command
+of_four_words word database address token_file =
+    if bytes_eq word (codes "listen")
+    then Some (Listen (record { database = database; address = address; token_file = token_file; changes = None }))
+    else None
+
+-- what the five words after it ask for
+unfoldable pub of_five_words : List ℕ → List ℕ → List ℕ → List ℕ → List ℕ → Option Command
+of_five_words word database address token_file last =
+    if bytes_eq word (codes "listen")
+    then Some (Listen (record { database = database; address = address; token_file = token_file; changes = Some last }))
+    else (if bytes_eq word (codes "serve") then serving_of database address token_file last else None)
+
 -- what the words ask for, of which the first is the program's name
 abbrev pub command_of : List (List ℕ) → Option Command
 command_of (program ∷ word ∷ []) = option_of word
-command_of (program ∷ word ∷ token ∷ []) = if bytes_eq word (codes "replay") then Some (Replay token) else None
-command_of (program ∷ word ∷ database ∷ address ∷ token_file ∷ []) =
-    if bytes_eq word (codes "listen")
-    then Some (Listen (record { database = database; address = address; token_file = token_file })) else None
-command_of (program ∷ word ∷ database ∷ address ∷ token_file ∷ connections ∷ []) =
-    if bytes_eq word (codes "serve") then serving_of database address token_file connections else None
+command_of (program ∷ word ∷ token ∷ []) = of_two_words word token
+command_of (program ∷ word ∷ database ∷ address ∷ token_file ∷ []) = of_four_words word database address token_file
+command_of (program ∷ word ∷ database ∷ address ∷ token_file ∷ last ∷ []) =
+    of_five_words word database address token_file last
 command_of _ = None

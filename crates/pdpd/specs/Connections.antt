@@ -14,6 +14,7 @@ use Rattle.xa_server.specs.Connection.{empty_stream}
 use Rattle.xa_server.specs.Driven.{IsDrivenWithin, Known}
 use Rattle.xa_server.specs.Front.{front_is_clean, front_state}
 use Rattle.xa_server.specs.Lines.{none_open}
+use Rattle.xa_server.specs.Peers.{HasVisits, Peer, Visit, peer_in}
 use Rattle.xa_store.specs.Keeper.{IsSound, Keeper}
 use Rattle.xa_store.specs.KeeperReading.{custody_by, kept_by}
 use Rattle.pdpd.specs.declared.fault.Fault.{Fault}
@@ -21,7 +22,6 @@ use Rattle.pdpd.specs.declared.store.closed.ClosedStore.{ClosedStore}
 use Rattle.pdpd.specs.Beginning.{Begins, IsLeftIn}
 use Rattle.pdpd.specs.Fault.{fault_of_end}
 use Rattle.pdpd.specs.OneRun.{AreOneRun}
-use Rattle.pdpd.specs.Peers.{HasVisits, Peer, Visit, peer_in}
 
 -- a front, and what the clock by which its messages are served has told so far, if that is known
 pub record Clocked (R : Type 0) : Type 0 where
@@ -32,8 +32,8 @@ abbrev pub at_clock : {R : Type 0} → Front R → Option (List (Option ℤ)) �
 at_clock front told = record { front = front; told = told }
 
 module _ {R : Type 0} (custody : R → Custody) where
-  -- no connection was open. One was opened, of which nothing had come; it was driven to its end, and closed.
-  -- `known_old` and `known_new` are what is known of its reader, its writer and the clock
+  -- a connection, of which nothing had come, was driven to its end beside a front of which none is open. `known_old`
+  -- and `known_new` are what is known of its reader, its writer and the clock
   pub record IsConnectionServed (end : DriveEnd) (old new : Front R) (known_old known_new : Known) : Type 0 where
     pub after : Stream
     pub is_driven : IsDrivenWithin custody 1_000_000 end

@@ -1,5 +1,5 @@
 -- How the program may end by what the words of its command line ask for.
-use Rattle.std.specs.Prelude.{◌≡◌, ◌⊎◌, ◌↔◌, ℕ, ℤ, false, List, Option, Some, None, Ok, Err, IsFalse}
+use Rattle.std.specs.Prelude.{◌≡◌, ◌⊎◌, ◌↔◌, ℕ, ℤ, false, List, Bool, Option, Some, None, is_some, Ok, Err, IsFalse}
 use Rattle.sqlite.specs.Recovery.{Image}
 use Rattle.sqlite_disk.specs.declared.Disk.{Ghosts}
 use Rattle.sqlite_store.specs.declared.store.FileStore.{FileStore}
@@ -57,14 +57,15 @@ module _ {D : Type 0} {g : Ghosts D} (image : Image) (token : Option (List ℕ))
   HasServed told_old told_new count (Unbegun fault) = (comes_of_serving fault ≡ false) × (told_new ≡ told_old)
 
   -- how serving at once over such files has ended, in the same way
-  abbrev pub HasServedAtOnce : Option (List (Option ℤ)) → Option (List (Option ℤ)) → Ended D (Keeper (FileStore D g)) g
-      → Type 0
-  HasServedAtOnce told_old told_new (Closed closed) = HasCleanFiles closed → ServesFilesAtOnce image token closed
-  HasServedAtOnce told_old told_new (Unclosed fault) =
+  abbrev pub HasServedAtOnce : Bool → Option (List (Option ℤ)) → Option (List (Option ℤ))
+      → Ended D (Keeper (FileStore D g)) g → Type 0
+  HasServedAtOnce split told_old told_new (Closed closed) =
+      HasCleanFiles closed → ServesFilesAtOnce image token split closed
+  HasServedAtOnce split told_old told_new (Unclosed fault) =
       (fault ≡ Store NotClosed)
-      × ((front : Front (Keeper (FileStore D g))) × ServesAtOnceFrom image token (Ok tt) front)
-  HasServedAtOnce told_old told_new (Broken front fault) = ServesAtOnceFrom image token (Err fault) front
-  HasServedAtOnce told_old told_new (Unbegun fault) = (comes_of_serving fault ≡ false) × (told_new ≡ told_old)
+      × ((front : Front (Keeper (FileStore D g))) × ServesAtOnceFrom image token split (Ok tt) front)
+  HasServedAtOnce split told_old told_new (Broken front fault) = ServesAtOnceFrom image token split (Err fault) front
+  HasServedAtOnce split told_old told_new (Unbegun fault) = (comes_of_serving fault ≡ false) × (told_new ≡ told_old)
 
 module _ {D : Type 0} {g : Ghosts D} (image : Image) where
   -- how the program ends by serving over two files that held `image`: as serving has ended. Nothing is known of the
@@ -79,7 +80,7 @@ module _ {D : Type 0} {g : Ghosts D} (image : Image) where
   pub record EndsListening (listening : ListenCommand) (end : Served D (Keeper (FileStore D g)) g) : Type 0 where
     pub ended : Ended D (Keeper (FileStore D g)) g
     pub is : end ≡ record { exit = exit_of_end ended; ended = Some ended }
-    pub served : HasServedAtOnce image None None None ended
+    pub served : HasServedAtOnce image None (is_some listening.changes) None None ended
     pub place : IsNoPlace listening.address → ended ≡ Unbegun Place
 
   -- how the program may end by what the words of the command line ask for

@@ -9,12 +9,16 @@ use Rattle.std.specs.declared.io.ErrorKind.TheVariants as kind
 use Rattle.sqlite.specs.declared.error.Error.{Error}
 use Rattle.sqlite.specs.declared.error.Error.TheVariants.{SqliteFailure}
 use Rattle.sqlite.specs.declared.error.ErrorCode.TheVariants as code
+use Rattle.xa_server.specs.declared.accept_error.AcceptError.{AcceptError}
+use Rattle.xa_server.specs.declared.accept_error.AcceptError.TheVariants as accepting
 use Rattle.xa_server.specs.declared.drive_end.DriveEnd.{DriveEnd}
 use Rattle.xa_server.specs.declared.drive_end.DriveEnd.TheVariants as drive_end
 use Rattle.xa_store.specs.declared.error.OpenError.{OpenError}
 use Rattle.xa_store.specs.declared.error.OpenError.TheVariants as opening
 use Rattle.pdpd.specs.declared.exit.Exit.{Exit}
 use Rattle.pdpd.specs.declared.exit.Exit.TheVariants as exit
+use Rattle.pdpd.specs.declared.fault.DoorFault.{DoorFault}
+use Rattle.pdpd.specs.declared.fault.DoorFault.TheVariants as door
 use Rattle.pdpd.specs.declared.fault.Fault.{Fault}
 use Rattle.pdpd.specs.declared.fault.Fault.TheVariants as variant
 use Rattle.pdpd.specs.declared.fault.Fault.TheVariants.{Address, Place, End, TokenUnread, TokenBad, Store, Shut}
@@ -23,10 +27,16 @@ use Rattle.pdpd.specs.declared.fault.Fault.TheVariants.{Input, Connection, Waiti
 use Rattle.pdpd.specs.declared.fault.StoreFault.TheVariants as store
 use Rattle.pdpd.specs.declared.serve.setting.Setting.{Setting}
 
+-- how the program ends by a fault of the address for changes
+abbrev pub exit_of_door : DoorFault → Exit
+exit_of_door door.Place = exit.Usage
+exit_of_door _ = exit.Socket
+
 -- how the program ends by a fault
 abbrev pub exit_of_fault : Fault → Exit
 exit_of_fault Address = exit.Usage
 exit_of_fault Place = exit.Usage
+exit_of_fault (variant.Changes fault) = exit_of_door fault
 exit_of_fault End = exit.Usage
 exit_of_fault (variant.Setting _) = exit.Usage
 exit_of_fault TokenUnread = exit.Usage
@@ -119,6 +129,8 @@ comes_of_serving Connection = true
 comes_of_serving Waiting = true
 comes_of_serving Clock = true
 comes_of_serving Shut = true
+comes_of_serving (variant.Changes door.Place) = false
+comes_of_serving (variant.Changes _) = true
 comes_of_serving _ = false
 
 -- a fault of that setting, or want of memory
@@ -137,6 +149,11 @@ fault_of_end drive_end.NoClock = Some Clock
 fault_of_end drive_end.Memory = Some Memory
 fault_of_end drive_end.Shut = Some Shut
 fault_of_end _ = None
+
+-- why no further connection is given
+abbrev pub fault_of_accepting : AcceptError → Fault
+fault_of_accepting accepting.Failed = Connection
+fault_of_accepting accepting.Memory = Memory
 
 -- whether the next connection may be taken after one that couldn't be: its peer or the network failed, not the listener
 abbrev pub is_passing : ErrorKind → Bool

@@ -9,7 +9,6 @@ pub mod Halves
 pub mod Heading
 pub mod Listening
 pub mod OneRun
-pub mod Peers
 pub mod Replay
 pub mod running
 pub mod Setting

@@ -1,6 +1,6 @@
 -- Connections that were served at once.
-use Rattle.std.specs.Prelude.{◌≡◌, ◌≢◌, ◌<◌, ◌≤◌, ℕ, List, ◌++◌, length, codes, Option, Some, None, Result, Ok}
-use Rattle.std.specs.Prelude.{OnOk, if◌then◌else◌}
+use Rattle.std.specs.Prelude.{◌≡◌, ◌≢◌, ◌<◌, ◌≤◌, ℕ, Bool, List, ◌++◌, length, codes, Option, Some, None}
+use Rattle.std.specs.Prelude.{Result, Ok, OnOk, if◌then◌else◌}
 use Rattle.std.specs.List.{All}
 use Rattle.std.specs.Net.Grammar.{IsSocketText}
 use Rattle.std.specs.declared.io.ErrorKind.{ErrorKind}
@@ -81,12 +81,13 @@ unknown_traffic _ = None
 -- Connections were served at once, turn after turn; if all is well until all had ended, and else up to a fault, in a
 -- turn that was broken off. All of their messages, in the order in which they were cut off, are one run of the server
 -- if its keeper is sound at the end, and each domain's replies in it, whatever the connections on which its messages
--- came, are those of its own machine, used by it alone (`IsPlayed`). Whatever the keeper has come to, they were served
--- one after another, and those up to where it was shut are such a run if it was sound at the beginning
--- (`AreServed`). Which connections these were, and what came and went on them, isn't said.
-pub record ServesAtOnce {R : Type 0} (custody : R → Custody) (result : Result (Unit {0}) Fault) (old new : Front R)
-    : Type 0 where
-  pub served : IsServedAtOnce custody unknown_traffic old new tt tt
+-- came, are those of its own machine, used by it alone (`IsPlayed`). If changes have an address of their own (`split`),
+-- so are all but those that were turned away (`IsPlayedBeside`). Whatever the keeper has come to, they were served one
+-- after another, and those up to where it was shut are such a run if it was sound at the beginning (`AreServed`). Which
+-- connections these were, and what came and went on them, isn't said.
+pub record ServesAtOnce {R : Type 0} (custody : R → Custody) (split : Bool) (result : Result (Unit {0}) Fault)
+    (old new : Front R) : Type 0 where
+  pub served : IsServedAtOnce custody unknown_traffic split old new tt tt
   pub sound : front_is_sound custody new → front_is_sound custody old
   pub clean : front_is_clean custody new → front_is_clean custody old
   pub ended : OnOk result (new.lines ≡ none_open)
@@ -94,9 +95,9 @@ pub record ServesAtOnce {R : Type 0} (custody : R → Custody) (result : Result 
 
 -- Connections were served at once over a network, turn after turn (`IsServedAtOnce`): as far as it is known what went
 -- over it, nothing else did.
-pub record ServesAtOnceOver {R N : Type 0} (custody : R → Custody) (done : N → Option (List Traffic))
+pub record ServesAtOnceOver {R N : Type 0} (custody : R → Custody) (done : N → Option (List Traffic)) (split : Bool)
     (result : Result (Unit {0}) Fault) (old new : Front R) (network_old network_new : N) : Type 0 where
-  pub served : IsServedAtOnce custody done old new network_old network_new
+  pub served : IsServedAtOnce custody done split old new network_old network_new
   pub sound : front_is_sound custody new → front_is_sound custody old
   pub clean : front_is_clean custody new → front_is_clean custody old
   pub ended : OnOk result (new.lines ≡ none_open)
@@ -105,20 +106,20 @@ pub record ServesAtOnceOver {R N : Type 0} (custody : R → Custody) (done : N �
 
 -- connections were served at once from what two files held, that is `image`, to this front; `token` is known of the
 -- token file's text. If the disk has given back what was written, serving began as `Begins` says
-pub record ServesAtOnceFrom {D : Type 0} {g : Ghosts D} (image : Image) (token : Option (List ℕ))
+pub record ServesAtOnceFrom {D : Type 0} {g : Ghosts D} (image : Image) (token : Option (List ℕ)) (split : Bool)
     (result : Result (Unit {0}) Fault) (new : Front (Keeper (FileStore D g))) : Type 0 where
   pub old : Front (Keeper (FileStore D g))
   pub begins : front_is_clean (custody_by over_files) old
       → Begins (IsSound over_files old.server.records) image token (front_state (custody_by over_files) old)
-  pub served : ServesAtOnce (custody_by over_files) result old new
+  pub served : ServesAtOnce (custody_by over_files) split result old new
 
 -- a store was served and closed. Its two files held `image`, and `token` is known of the token file's text.
 -- Connections were served at once from what the files held, and what they have left is in the files
-pub record ServesFilesAtOnce {D : Type 0} {g : Ghosts D} (image : Image) (token : Option (List ℕ))
+pub record ServesFilesAtOnce {D : Type 0} {g : Ghosts D} (image : Image) (token : Option (List ℕ)) (split : Bool)
     (closed : ClosedStore D g) : Type 0 where
   pub old : Front (Keeper (FileStore D g))
   pub new : Front (Keeper (FileStore D g))
   pub begins : Begins (IsSound over_files old.server.records) image token (front_state (custody_by over_files) old)
-  pub served : ServesAtOnce (custody_by over_files) (Ok tt) old new
+  pub served : ServesAtOnce (custody_by over_files) split (Ok tt) old new
   pub sound : IsSound over_files new.server.records
   pub left : IsLeftIn closed (kept_by over_files new.server.records)

@@ -1,5 +1,5 @@
 //! The command line.
-ghost use Rattle.std.specs.Prelude.{◌≡◌, map, string_bytes};
+ghost use Rattle.std.specs.Prelude.{◌≡◌, map, option_map, string_bytes};
 ghost use Rattle.pdpd.specs.CommandLine as spec;
 
 use crate::fault::Asked;
@@ -31,6 +31,7 @@ impl ServeCommand<'_> {
             database: self.database.as_str(),
             address: self.address.as_str(),
             token_file: self.token_file.as_str(),
+            changes: None,
         }
     }
 }
@@ -44,9 +45,21 @@ pub struct ListenCommand<'a> {
     pub address: TextRef<'a>,
     /// The path of the file whose first line is the operator's token.
     pub token_file: TextRef<'a>,
+    /// Where connections for changes are taken, if that is an address of their own.
+    pub changes: Option<TextRef<'a>>,
 }
 
 impl ListenCommand<'_> {
+    /// Where connections for changes are taken, if that is an address of their own.
+    pub fn changes(&self) -> Option<&str>
+        ensures { option_map (λ text. text.now) result ≡ self.now.changes }
+    {
+        match &self.changes {
+            Some(changes) => Some(changes.as_str()),
+            None => None,
+        }
+    }
+
     /// What is served.
     pub fn asked(&self) -> Asked<'_> {
         Asked {
@@ -54,6 +67,7 @@ impl ListenCommand<'_> {
             database: self.database.as_str(),
             address: self.address.as_str(),
             token_file: self.token_file.as_str(),
+            changes: self.changes(),
         }
     }
 }
@@ -114,37 +128,82 @@ fn serving_of<'a>(
     }))
 }
 
+/// What the two words after the program's name ask for.
+#[tactic(auto, unfolding(crate::specs::CommandLine::of_two_words))]
+fn of_two_words<'a>(command: &str, token: &'a str) -> Option<Command<'a>>
+    ensures { result ≡ spec.of_two_words command.now token.now }
+{
+    match command {
+        "replay" => Some(Command::Replay(TextRef::new(token))),
+        _ => None,
+    }
+}
+
+/// What the four words after the program's name ask for.
+#[tactic(auto, unfolding(crate::specs::CommandLine::of_four_words))]
+fn of_four_words<'a>(
+    command: &str,
+    file: &'a str,
+    address: &'a str,
+    token_file: &'a str,
+) -> Option<Command<'a>>
+    ensures { result ≡ spec.of_four_words command.now file.now address.now token_file.now }
+{
+    match command {
+        "listen" => Some(Command::Listen(ListenCommand {
+            database: TextRef::new(file),
+            address: TextRef::new(address),
+            token_file: TextRef::new(token_file),
+            changes: None,
+        })),
+        _ => None,
+    }
+}
+
+/// What the five words after the program's name ask for.
+#[tactic(auto, unfolding(crate::specs::CommandLine::of_five_words))]
+fn of_five_words<'a>(
+    command: &str,
+    file: &'a str,
+    address: &'a str,
+    token_file: &'a str,
+    last: &'a str,
+) -> Option<Command<'a>>
+    ensures { result ≡ spec.of_five_words command.now file.now address.now token_file.now last.now }
+{
+    match command {
+        "listen" => Some(Command::Listen(ListenCommand {
+            database: TextRef::new(file),
+            address: TextRef::new(address),
+            token_file: TextRef::new(token_file),
+            changes: Some(TextRef::new(last)),
+        })),
+        "serve" => serving_of(file, address, token_file, last),
+        _ => None,
+    }
+}
+
 /// What the words of a command line ask for. The first of them is the program's name.
+#[tactic(auto, using(crate::proofs::CommandLineLemmas::none_of_few, crate::proofs::CommandLineLemmas::none_of_four, crate::proofs::CommandLineLemmas::none_of_many))]
 pub fn command_of<A: Allocator>(words: &[String<A>]) -> Option<Command<'_>>
     ensures { result ≡ spec.command_of (map string_bytes words.now) }
 {
     match words {
         [_program, word] => option_of(word.as_str()),
-        [_program, command, token] if command.as_str() == "replay" => {
-            Some(Command::Replay(TextRef::new(token.as_str())))
-        }
-        [_program, command, database, address, token_file] if command.as_str() == "listen" => {
-            Some(Command::Listen(ListenCommand {
-                database: TextRef::new(database.as_str()),
-                address: TextRef::new(address.as_str()),
-                token_file: TextRef::new(token_file.as_str()),
-            }))
-        }
-        [
-            _program,
-            command,
-            database,
-            address,
-            token_file,
-            connections,
-        ] if command.as_str() == "serve" => {
-            serving_of(
-                database.as_str(),
-                address.as_str(),
-                token_file.as_str(),
-                connections.as_str(),
-            )
-        }
+        [_program, command, token] => of_two_words(command.as_str(), token.as_str()),
+        [_program, command, database, address, token_file] => of_four_words(
+            command.as_str(),
+            database.as_str(),
+            address.as_str(),
+            token_file.as_str(),
+        ),
+        [_program, command, database, address, token_file, last] => of_five_words(
+            command.as_str(),
+            database.as_str(),
+            address.as_str(),
+            token_file.as_str(),
+            last.as_str(),
+        ),
         _ => None,
     }
 }

@@ -54,7 +54,7 @@ impl fmt::Display for Exit {
             Exit::Done => "pdpd: done",
             Exit::Failed => "pdpd: standard input or output failed",
             Exit::Usage =>
-                "usage: pdpd listen DATABASE ADDRESS TOKEN-FILE, pdpd serve DATABASE ADDRESS TOKEN-FILE CONNECTIONS, or pdpd replay OPERATOR-TOKEN (8 to 64 visible ASCII characters); pdpd --help says more",
+                "usage: pdpd listen DATABASE ADDRESS TOKEN-FILE [CHANGES-ADDRESS], pdpd serve DATABASE ADDRESS TOKEN-FILE CONNECTIONS, or pdpd replay OPERATOR-TOKEN (8 to 64 visible ASCII characters); pdpd --help says more",
             Exit::Malformed { entry, fault } => return write!(f, "pdpd: entry {entry}: {fault}"),
             Exit::Store => "pdpd: the store failed",
             Exit::Socket => "pdpd: the socket or the clock failed",

@@ -1,12 +1,13 @@
 //! Why `pdpd listen` or `pdpd serve` ends before its connections have ended, and the line that says what to
 //! do.
 ghost use Rattle.std.specs.Prelude.{◌≡◌};
-ghost use Rattle.pdpd.specs.Fault.{exit_of_fault};
+ghost use Rattle.pdpd.specs.Fault.{exit_of_door, exit_of_fault};
 
 use crate::exit::Exit;
 use crate::serve::setting::Setting;
 use std::alloc::{AllocError, AllocFailed};
 use std::fmt;
+use xa_server::AcceptError;
 
 /// Why a store can't be opened, or closed.
 #[derive(Clone, Copy)]
@@ -71,6 +72,50 @@ impl StoreFault {
     }
 }
 
+/// Why no connections can be taken at the address for changes.
+#[derive(Clone, Copy)]
+pub enum DoorFault {
+    /// The address is none, and no path of a Unix socket.
+    Place,
+    /// No connections can be taken there.
+    Socket,
+    /// Something else than a socket stands at the path of a Unix socket.
+    Occupied,
+    /// Another program takes connections there.
+    Taken,
+    /// No Unix socket can be made there.
+    Unmade,
+}
+
+impl DoorFault {
+    /// How the program ends.
+    fn exit(self) -> Exit
+        ensures { result ≡ exit_of_door self }
+    {
+        match self {
+            DoorFault::Place => Exit::Usage,
+            DoorFault::Socket | DoorFault::Occupied => Exit::Socket,
+            DoorFault::Taken | DoorFault::Unmade => Exit::Socket,
+        }
+    }
+
+    /// What to do about it: what is done at any address.
+    fn advice(self) -> &'static str {
+        match self {
+            DoorFault::Place =>
+                "not an IP address, `:` and a port, such as 127.0.0.1:8080, nor `unix:` and a path of up to 107 bytes",
+            DoorFault::Socket =>
+                "no connections can be taken there; another program may have the port, or this machine another address",
+            DoorFault::Occupied =>
+                "something else than a socket stands there; name another path, or move it away",
+            DoorFault::Taken =>
+                "another program takes connections there; stop that one first, or name another path",
+            DoorFault::Unmade =>
+                "no socket can be made there; its folder has to be there, and this user has to be allowed to write in it",
+        }
+    }
+}
+
 /// Why connections aren't served, or no more of them.
 #[derive(Clone, Copy)]
 pub enum Fault {
@@ -78,6 +123,8 @@ pub enum Fault {
     Address,
     /// The address is none, and no path of a Unix socket.
     Place,
+    /// No connections can be taken at the address for changes.
+    Changes(DoorFault),
     /// PDPD_END is set to another word than `input`.
     End,
     /// The variable of that setting is set to no number.
@@ -119,6 +166,7 @@ impl Fault {
     {
         match self {
             Fault::Address | Fault::Place | Fault::End => Exit::Usage,
+            Fault::Changes(fault) => fault.exit(),
             Fault::Setting(_) | Fault::TokenUnread | Fault::TokenBad => Exit::Usage,
             Fault::Store(_) | Fault::Shut => Exit::Store,
             Fault::Socket | Fault::Occupied | Fault::Taken | Fault::Unmade => Exit::Socket,
@@ -132,8 +180,8 @@ impl Fault {
     fn advice(self) -> &'static str {
         match self {
             Fault::Address => "not an IP address, `:` and a port, such as 127.0.0.1:8080",
-            Fault::Place =>
-                "not an IP address, `:` and a port, such as 127.0.0.1:8080, nor `unix:` and a path of up to 107 bytes",
+            Fault::Place => DoorFault::Place.advice(),
+            Fault::Changes(fault) => fault.advice(),
             Fault::End => "PDPD_END is to be `input`, or not set",
             Fault::Setting(setting) => setting.advice(),
             Fault::TokenUnread =>
@@ -142,14 +190,10 @@ impl Fault {
             Fault::Store(fault) => fault.advice(),
             Fault::Shut =>
                 "writing or reading it failed, and it can't go on; look after the disk, then start the program again",
-            Fault::Socket =>
-                "no connections can be taken there; another program may have the port, or this machine another address",
-            Fault::Occupied =>
-                "something else than a socket stands there; name another path, or move it away",
-            Fault::Taken =>
-                "another program takes connections there; stop that one first, or name another path",
-            Fault::Unmade =>
-                "no socket can be made there; its folder has to be there, and this user has to be allowed to write in it",
+            Fault::Socket => DoorFault::Socket.advice(),
+            Fault::Occupied => DoorFault::Occupied.advice(),
+            Fault::Taken => DoorFault::Taken.advice(),
+            Fault::Unmade => DoorFault::Unmade.advice(),
             Fault::Input =>
                 "the end of standard input can't be watched (PDPD_END); it is to be a pipe, a socket or a terminal",
             Fault::Connection => "taking a connection failed; start the program again",
@@ -168,6 +212,7 @@ impl Fault {
             Fault::Address | Fault::Place | Fault::Socket | Fault::Occupied => Some(asked.address),
             Fault::Taken | Fault::Unmade => Some(asked.address),
             Fault::Connection | Fault::Waiting => Some(asked.address),
+            Fault::Changes(_) => asked.changes,
             Fault::Setting(_) | Fault::End | Fault::Input | Fault::Clock => None,
             Fault::Output | Fault::Memory => None,
         }
@@ -193,6 +238,20 @@ impl<T: Drop> From<AllocFailed<T>> for Fault {
 
     fn from(_: AllocFailed<T>) -> Fault {
         Fault::Memory
+    }
+}
+
+impl From<AcceptError> for Fault {
+    ghost use Rattle.std.specs.Prelude.{◌≡◌};
+    ghost use Rattle.pdpd.specs.Fault.{fault_of_accepting};
+
+    ghost from_gives = { λ error fault. fault ≡ fault_of_accepting error };
+
+    fn from(error: AcceptError) -> Fault {
+        match error {
+            AcceptError::Failed => Fault::Connection,
+            AcceptError::Memory => Fault::Memory,
+        }
     }
 }
 
@@ -242,6 +301,8 @@ pub struct Asked<'a> {
     pub address: &'a str,
     /// The path of the file whose first line is the operator's token.
     pub token_file: &'a str,
+    /// Where connections for changes are taken, if that is an address of their own.
+    pub changes: Option<&'a str>,
 }
 
 impl<'a> Asked<'a> {

@@ -7,7 +7,7 @@ XACML 3.0, by its JSON Profile 1.1; a store of schema 2, to which one of schema 
 /// What `pdpd --help` answers.
 pub const HELP: &str = "pdpd: policy administration and decisions (XACML 3.0), over HTTP
 
-  pdpd listen DATABASE ADDRESS TOKEN-FILE
+  pdpd listen DATABASE ADDRESS TOKEN-FILE [CHANGES-ADDRESS]
       serves connections, 64 at once, over the store in the file DATABASE, which is made if it
       isn't there. ADDRESS: an IP address, `:` and a port; or `unix:` and the path of a socket.
       TOKEN-FILE: its first line is the operator's token, 8 to 64 visible ASCII characters.
@@ -19,6 +19,8 @@ pub const HELP: &str = "pdpd: policy administration and decisions (XACML 3.0), o
       PDPD_VIEWS limits the memory for cached views of domains, in bytes (0: none is cached).
       With PDPD_SUMS 0 a new file has no sums that tell of its damage. With PDPD_END `input` it
       ends when its standard input ends, after what is under way is answered.
+      With CHANGES-ADDRESS a message that asks for a change is answered there alone, on one
+      connection at a time; at ADDRESS it gets 503.
   pdpd serve DATABASE ADDRESS TOKEN-FILE CONNECTIONS
       serves that many connections (1 to 1000000), one after another. ADDRESS: an IP address, `:`
       and a port. PDPD_IDLE ends a connection that gives or takes nothing for so many seconds.

@@ -1,7 +1,7 @@
-//! `pdpd listen DATABASE ADDRESS TOKEN-FILE`: answers the messages of connections, 64 at once, over a store
-//! in a file; `pdpd serve DATABASE ADDRESS TOKEN-FILE CONNECTIONS`: those of so many connections, one after
-//! another; and `pdpd replay OPERATOR-TOKEN`: those of a transcript. `pdpd --help` and `pdpd --version` say
-//! how it is called, and which version it is.
+//! `pdpd listen DATABASE ADDRESS TOKEN-FILE [CHANGES-ADDRESS]`: answers the messages of connections, 64 at
+//! once, over a store in a file; `pdpd serve DATABASE ADDRESS TOKEN-FILE CONNECTIONS`: those of so many
+//! connections, one after another; and `pdpd replay OPERATOR-TOKEN`: those of a transcript. `pdpd --help` and
+//! `pdpd --version` say how it is called, and which version it is.
 #![tactic(auto)]
 
 ghost use Rattle.std.specs.Prelude.{◌≡◌, ◌⊎◌, ◌↔◌, IsFalse, map, string_bytes};

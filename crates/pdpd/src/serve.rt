@@ -4,7 +4,6 @@ ghost use Rattle.std.specs.Prelude.{false, Err, None, Some};
 ghost use Rattle.std.specs.Net.Grammar.{IsSocketText, Parses};
 ghost use Rattle.sqlite.specs.Files.{over_files};
 ghost use Rattle.sqlite.specs.WalFiles.{image_at};
-ghost use Rattle.xa_server.specs.Driven.{seen_by};
 ghost use Rattle.xa_server.specs.Front.{front_is_clean, front_state};
 ghost use Rattle.xa_server.specs.Lines.{none_open};
 ghost use Rattle.xa_store.specs.Keeper.{IsSound};
@@ -14,11 +13,10 @@ ghost use Rattle.pdpd.specs.Beginning.{Begins, known_text};
 ghost use Rattle.pdpd.specs.Connections.{AreIsolatedOver, ServesFrom, at_clock};
 ghost use Rattle.pdpd.specs.Fault.{IsNoAddress, IsOfConnections, IsOfFiles, IsOfServing, comes_of_serving};
 ghost use Rattle.pdpd.specs.Fault.{fault_of_end};
-ghost use Rattle.pdpd.specs.running.Serving.{Serves, ServesConnection, ServesNextOver, WasSound};
+ghost use Rattle.pdpd.specs.running.Serving.{Serves, ServesNextOver, WasSound};
 
 pub(crate) mod listening;
 mod parting;
-mod peers;
 pub(crate) mod served;
 pub(crate) mod setting;
 pub(crate) mod settings;
@@ -30,7 +28,6 @@ use crate::command_line::ServeCommand;
 use crate::fault::{Asked, Fault};
 use crate::refusals::Refusals;
 use crate::serve::listening::Listening;
-use crate::serve::peers::Peers;
 use crate::serve::served::Serving;
 use crate::serve::settings::{Settings, front_of_tables};
 use crate::serve::token::operator_of_file;
@@ -41,7 +38,7 @@ use std::io::{self, Read};
 use std::net::{SocketAddr, TcpListener};
 use std::rt::HostRuntime;
 use xa_records::Records;
-use xa_server::{Clock, DriveEnd, Front, Reader, Writer, drive};
+use xa_server::{Clock, DriveEnd, Front, Peers, drive_next};
 
 /// Fails if a connection that ended so ends the program, too. The fault says why.
 fn check_end(end: DriveEnd) -> Result<(), Fault>
@@ -59,33 +56,8 @@ fn check_end(end: DriveEnd) -> Result<(), Fault>
     }
 }
 
-/// Serves a connection, each message at the clock's moment, until it ends (`xa_server`, `drive`).
-/// No other is open before, and none is afterwards.
-fn serve_connection<R: Records, I: Reader, W: Writer, C: Clock>(
-    front: &mut Front<R>,
-    reader: &mut I,
-    writer: &mut W,
-    clock: &mut C,
-) -> Result<(), Fault>
-    requires { front.old.lines ≡ none_open }
-    ensures served { let seen = seen_by W.Writer C.Clock in
-        ServesConnection R.custody result front.old front.new
-        (seen (I.remaining reader.old) (I.reads reader.old) writer.old clock.old)
-        (seen (I.remaining reader.new) (I.reads reader.new) writer.new clock.new) }
-    ensures closed { front.new.lines ≡ none_open }
-    ensures sound { WasSound R.custody front.old front.new }
-    ensures err { IfErr result IsOfConnections }
-{
-    let Ok(conn) = front.open() else {
-        unreachable!()
-    };
-    let end = drive(front, conn, reader, writer, clock);
-    // It fails only if it isn't open: either way it isn't afterwards.
-    let _closed = front.close(conn);
-    check_end(end)
-}
-
-/// Takes a connection and serves it. After the last, none is taken any more.
+/// Takes a connection and serves it, each message at the clock's moment, until it ends (`xa_server`,
+/// `drive_next`). After the last, none is taken any more.
 fn serve_next<R: Records, P: Peers, C: Clock>(
     front: &mut Front<R>,
     peers: &mut P,
@@ -100,11 +72,9 @@ fn serve_next<R: Records, P: Peers, C: Clock>(
     ensures sound { WasSound R.custody front.old front.new }
     ensures err { IfErr result IsOfConnections }
 {
-    let (mut input, mut output) = peers.next(is_last)?;
-    let result = serve_connection(front, &mut input, &mut output, clock);
-    peers.part(input, output);
+    let end = drive_next(&mut front.server, peers, clock, is_last)?;
     refusals.tell_of_last(front);
-    result
+    check_end(end)
 }
 
 /// Serves that many connections, one after another.

@@ -27,7 +27,7 @@ pub enum UsageFault<'a> {
 /// The words that a command takes, if there is such a command.
 fn words_of(command: &str) -> Option<&'static str> {
     match command {
-        "listen" => Some("DATABASE ADDRESS TOKEN-FILE"),
+        "listen" => Some("DATABASE ADDRESS TOKEN-FILE [CHANGES-ADDRESS]"),
         "serve" => Some("DATABASE ADDRESS TOKEN-FILE CONNECTIONS"),
         "replay" => Some("OPERATOR-TOKEN"),
         "--help" | "--version" => Some("no words"),

@@ -6,6 +6,7 @@ use Rattle.std.proofs.lemmas.Bool.{true≢false}
 use Rattle.xa_value.specs.declared.or_memory.OrMemory.{OrMemory}
 use Rattle.xa_value.specs.declared.or_memory.OrMemory.TheVariants.{Memory, Error}
 use Rattle.xa_value.specs.Gives.{Gives, memory_apart}
+use Rattle.xa_link.specs.Reading.{OnceAnswered}
 
 -- it is the definition's
 pub given_apart : {X E : Type 0} (given : Result X (OrMemory E)) (definition : Result X E) (told : Result (Result X E) AllocError)
@@ -26,3 +27,10 @@ read_apart {X} {E} (Err Memory) told old new units is read =
     subst (λ (t : Result (Result X E) AllocError). IfOk t (λ answer. IsOk answer → old ≡ new + units)) (sym is) tt
 read_apart {X} {E} (Err (Error e)) told old new units is read =
     subst (λ (t : Result (Result X E) AllocError). IfOk t (λ answer. IsOk answer → old ≡ new + units)) (sym is) (λ ok. absurd (true≢false (sym ok)))
+
+-- what holds once a call has answered
+pub answered_apart : {X E : Type 0} (given : Result X (OrMemory E)) (told : Result (Result X E) AllocError) (P : Type 0)
+    → told ≡ memory_apart given → OnceAnswered given P → IfOk told (λ _. P)
+answered_apart {X} {E} (Ok x) told P is holds = subst (λ (t : Result (Result X E) AllocError). IfOk t (λ _. P)) (sym is) holds
+answered_apart {X} {E} (Err Memory) told P is holds = subst (λ (t : Result (Result X E) AllocError). IfOk t (λ _. P)) (sym is) tt
+answered_apart {X} {E} (Err (Error e)) told P is holds = subst (λ (t : Result (Result X E) AllocError). IfOk t (λ _. P)) (sym is) holds

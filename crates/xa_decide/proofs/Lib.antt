@@ -6,6 +6,7 @@ mod LookLemmas
 mod NamedLemmas
 mod NamingLemmas
 pub mod NodesLemmas
+mod OverLemmas
 mod RowLemmas
 pub mod TimelessLemmas
 mod TypeLemmas

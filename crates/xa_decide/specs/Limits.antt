@@ -15,6 +15,11 @@ abbrev pub IsWithin : Option ℕ → List ℕ → Type 0
 IsWithin None body = ⊤
 IsWithin (Some most) body = length body ≤ most
 
+-- a number of bytes is more than the limit, if there is one
+abbrev pub IsOver : Option ℕ → ℕ → Type 0
+IsOver None bytes = ⊥
+IsOver (Some most) bytes = most < bytes
+
 -- there is a limit, and a body, which has more bytes
 abbrev pub IsLonger : Option ℕ → Option (List ℕ) → Type 0
 IsLonger None body = ⊥
@@ -22,11 +27,12 @@ IsLonger (Some most) None = ⊥
 IsLonger (Some most) (Some body) = most < length body
 
 -- what is told by the limit that a decision has reached, the definition's body being this, if there is one. The body is
--- longer than it may be; or there is a limit of what is counted as a decision goes on, of which no more is said
+-- longer than it may be, whether that was found of the whole or of its first results; or there is a limit of the work,
+-- of which no more is said
 abbrev pub MayRefuse : Limits → Option (List ℕ) → OverLimit → Type 0
 MayRefuse limits body Work = IsSome limits.work
 MayRefuse limits body Reply = IsLonger limits.reply body
-MayRefuse limits body Results = IsSome limits.reply
+MayRefuse limits body Results = IsLonger limits.reply body
 MayRefuse limits body Reading = ⊥
 
 -- if a call has reached a limit, P holds of that

@@ -11,6 +11,6 @@ abbrev pub reading_for : List Active → Option Reference → ℕ
 reading_for active None = 0
 reading_for active (Some root) = reading active root
 
--- there is no tree, or it isn't too large: of one that is too large, a part is read
+-- there is no tree, or it isn't too large: of one that is too large no clause says how much is left
 abbrev pub IsNotTooLarge : Option (Result Linked LinkError) → Type 0
 IsNotTooLarge tree = IfSome tree IsOk

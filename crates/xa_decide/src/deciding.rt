@@ -1,12 +1,17 @@
 //! How the individual requests of a request are decided, one after another, and how that is paid for.
-ghost use Rattle.std.specs.Prelude.{◌≡◌, true, [], ◌∷◌, map, IfOk};
+ghost use Rattle.std.specs.Prelude.{◌≡◌, ◌≤◌, true, [], ◌∷◌, map, IfOk, Some};
+ghost use Rattle.xa_expr.specs.declared.fault.Fault.TheVariants.{SyntaxError};
 ghost use Rattle.xa_policy.specs.Evaluation.{as_asked};
+ghost use Rattle.xa_profile.specs.Response.{response_body};
 ghost use Rattle.xa_decide.specs.Decision.{decided, evaluated_by_tree, objects_at};
 ghost use Rattle.xa_decide.specs.Decision.{result_of, result_without_objects};
+ghost use Rattle.xa_decide.specs.Limits.{IfOver, MayRefuse};
 ghost use Rattle.xa_decide.specs.Timeless.{is_timeless_request};
+ghost use Rattle.xa_profile.specs.writing.Lengths.{bytes_of_result};
 
 use crate::context::IndividualContext;
 use crate::indexed_object::IndexedObject;
+use crate::limits::OverLimit;
 use crate::order::units_of_order;
 use crate::request_body::individuals_of;
 use crate::response_work::cost_of_result;
@@ -17,7 +22,7 @@ use xa_expr::{Context, Fault, STEP};
 use xa_link::LinkError;
 use xa_policy::{Evaluated, Linked, evaluate};
 use xa_profile::{CategoryObject, Individual, Request, ResultObject};
-use xa_value::{Items, Moment};
+use xa_value::{Items, Moment, OrMemory};
 
 /// The results of a request, and whether they are the same at every moment.
 #[derive(Drop)]
@@ -26,6 +31,15 @@ pub(crate) struct Outcome {
     pub(crate) results: Items<ResultObject>,
     /// Whether no attribute of the clock is asked for.
     pub(crate) timeless: bool,
+}
+
+/// A result, and how many bytes of the body are counted for it.
+#[derive(Drop)]
+struct Counted {
+    /// The result.
+    result_object: ResultObject,
+    /// The bytes, or some fewer.
+    bytes: u64,
 }
 
 /// What decides the individual requests of a request.
@@ -67,37 +81,50 @@ impl<'a> Deciding<'a> {
 
     /// The result of an individual request, which is paid for before it is written.
     #[tactic(auto, unfolding(crate::specs::Decision::decision))]
-    fn result_of(&self, alloc: Global, individual: Individual) -> Result<ResultObject, AllocError>
-        ensures { IfOk result (λ r. r ≡ result_of self.now.view.now self.now.names_policies
-            self.now.objects.now self.now.moment individual) }
+    fn result_of(&self, alloc: Global, individual: Individual) -> Result<Counted, AllocError>
+        ensures value { IfOk result (λ counted. counted.result_object ≡ result_of self.now.view.now
+            self.now.names_policies self.now.objects.now self.now.moment individual) }
+        ensures bytes { IfOk result (λ counted.
+            counted.bytes ≤ bytes_of_result self.now.objects.now counted.result_object) }
     {
         self.work.spend(STEP)?;
         let places = match individual {
             Individual::Places(places) => places,
             Individual::BadReference => {
-                return Ok(result_without_objects(alloc, Fault::SyntaxError));
+                return Ok(bad_reference(alloc));
             }
         };
-        let chosen = places.as_slice();
-        let context = self.context_at(alloc, chosen)?;
+        let context = self.context_at(alloc, places.as_slice())?;
         let evaluated = evaluated_by_tree(alloc, self.view.tree(), &context, self.names_policies)?;
-        self.work
-            .spend_on_result(cost_of_result(self.objects, chosen, &evaluated))?;
-        Ok(ResultObject { evaluated, places })
+        let result_object = ResultObject { evaluated, places };
+        let cost = cost_of_result(self.objects, &result_object);
+        self.work.spend(cost.units)?;
+        Ok(Counted {
+            result_object,
+            bytes: cost.bytes,
+        })
     }
 
-    /// The results of individual requests.
+    /// The results of individual requests, as long as these may stand in the response.
     fn results_of(
         &self,
         alloc: Global,
         individuals: Items<Individual>,
-    ) -> Result<Items<ResultObject>, AllocError>
-        ensures { IfOk result (λ results. results ≡ map (result_of self.now.view.now
+    ) -> Result<Items<ResultObject>, OrMemory<OverLimit>>
+        ensures results { IfOk result (λ results. results ≡ map (result_of self.now.view.now
             self.now.names_policies self.now.objects.now self.now.moment) individuals) }
+        ensures over { IfOver result (MayRefuse self.now.work.now.limits (Some (response_body
+            self.now.objects.now (map (result_of self.now.view.now self.now.names_policies
+            self.now.objects.now self.now.moment) individuals)))) }
     {
+        let limits = self.work.limits();
         let mut results = Items::new(alloc);
+        let mut bytes = 0u64;
         for individual in individuals.into_vec() {
-            results.push(self.result_of(alloc, individual)?)?;
+            let counted = self.result_of(alloc, individual)?;
+            bytes = bytes.saturating_add(counted.bytes);
+            limits.check_results(bytes)?;
+            results.push(counted.result_object)?;
         }
         Ok(results)
     }
@@ -129,6 +156,17 @@ fn result_without_objects(alloc: Global, fault: Fault) -> ResultObject
     ResultObject {
         evaluated: Evaluated::undecided(alloc, fault),
         places: Items::new(alloc),
+    }
+}
+
+/// The result of a bad reference, of which no bytes are counted.
+fn bad_reference(alloc: Global) -> Counted
+    ensures value { result.result_object ≡ result_without_objects SyntaxError }
+    ensures bytes { result.bytes ≡ 0 }
+{
+    Counted {
+        result_object: result_without_objects(alloc, Fault::SyntaxError),
+        bytes: 0,
     }
 }
 
@@ -176,15 +214,17 @@ pub(crate) fn outcome_of_request(
     request: &Request,
     moment: Moment,
     work: &Work,
-) -> Result<Outcome, AllocError>
+) -> Result<Outcome, OrMemory<OverLimit>>
     ensures results { IfOk result (λ outcome. outcome.results ≡ decided view.now request.now moment) }
     ensures timeless { IfOk result (λ outcome. outcome.timeless ≡ is_timeless_request view.now request.now) }
+    ensures over { IfOver result (MayRefuse work.now.limits
+        (Some (response_body request.now.objects (decided view.now request.now moment)))) }
 {
     if request.combined_decision {
-        return one_outcome(alloc, Fault::ProcessingError);
+        return Ok(one_outcome(alloc, Fault::ProcessingError)?);
     }
     let Ok(individuals) = individuals_of(alloc, request)? else {
-        return one_outcome(alloc, Fault::ProcessingError);
+        return Ok(one_outcome(alloc, Fault::ProcessingError)?);
     };
     let indexed = indexed_objects(alloc, work, request.objects.as_slice())?;
     let deciding = Deciding {

@@ -1,14 +1,14 @@
 //! The decision on a request. `respond` is for a server, which keeps a body that is the same at every
 //! moment; `answer` for a program that needs the body alone, and `decide` for one that has its request as a
 //! value and takes the response as one.
-ghost use Rattle.std.specs.Prelude.{◌≡◌, ℕ, true, [], ◌∷◌, List, Option, option_map, IfOk, IfSome, Some};
+ghost use Rattle.std.specs.Prelude.{◌≡◌, true, [], ◌∷◌, option_map, IfOk, IfSome, Some};
 ghost use Rattle.xa_expr.specs.declared.fault.Fault.TheVariants.{SyntaxError};
 ghost use Rattle.xa_profile.specs.Response.{response_body};
 ghost use Rattle.xa_decide.specs.Decision.{answer, body_of, decided, result_without_objects};
 ghost use Rattle.xa_decide.specs.Limits.{IfOver, IsWithin, MayRefuse};
 ghost use Rattle.xa_decide.specs.Timeless.{is_timeless_answer, is_timeless_request};
 
-use crate::deciding::{one_result, outcome_of_request};
+use crate::deciding::{Outcome, one_result, outcome_of_request};
 use crate::limits::{Limits, OverLimit};
 use crate::request_body::RequestBody;
 use crate::view::View;
@@ -36,25 +36,44 @@ pub struct Responded {
     pub timeless: bool,
 }
 
-/// `decide` by this work. If the request's large bags are searched so often that it takes no longer to put
+/// What comes of the request, with this work. Which limit it has reached is told here, so that no limit is
+/// taken for want of memory.
+fn outcome_within(
+    alloc: Global,
+    view: &View,
+    request: &Request,
+    moment: Moment,
+    work: &Work,
+) -> Result<Outcome, OrMemory<OverLimit>>
+    ensures results { IfOk result (λ outcome. outcome.results ≡ decided view.now request.now moment) }
+    ensures timeless { IfOk result (λ outcome. outcome.timeless ≡ is_timeless_request view.now request.now) }
+    ensures over { IfOver result (MayRefuse work.now.limits
+        (Some (response_body request.now.objects (decided view.now request.now moment)))) }
+{
+    work.told(outcome_of_request(alloc, view, request, moment, work))
+}
+
+/// `decide` under limits. If the request's large bags are searched so often that it takes no longer to put
 /// their values in order, that is done, and the request is decided again from the start, with what is left of
 /// the work.
-fn decide_by<'a>(
+fn decide_within<'a>(
     alloc: Global,
     view: &View,
     request: &'a Request,
     moment: Moment,
-    work: &mut Work,
-) -> Result<Decided<'a>, AllocError>
+    limits: Limits,
+) -> Result<Decided<'a>, OrMemory<OverLimit>>
     ensures objects { IfOk result (λ d. d.response.objects.now ≡ request.now.objects) }
     ensures results { IfOk result (λ d. d.response.results ≡ decided view.now request.now moment) }
     ensures timeless { IfOk result (λ d. d.timeless ≡ is_timeless_request view.now request.now) }
-    ensures limits { work.new.limits ≡ work.old.limits }
+    ensures over { IfOver result (MayRefuse limits
+        (Some (response_body request.now.objects (decided view.now request.now moment)))) }
 {
-    let outcome = match outcome_of_request(alloc, view, request, moment, work) {
-        Err(_) if work.wants_order() => {
+    let mut work = Work::new(limits, request.objects.as_slice());
+    let outcome = match outcome_within(alloc, view, request, moment, &work) {
+        Err(OrMemory::Memory) if work.wants_order() => {
             work.begin_ordered();
-            outcome_of_request(alloc, view, request, moment, work)?
+            outcome_within(alloc, view, request, moment, &work)?
         }
         outcome => outcome?,
     };
@@ -80,26 +99,8 @@ pub fn decide<'a>(
     ensures results { IfOk result (λ d. d.response.results ≡ decided view.now request.now moment) }
     ensures timeless { IfOk result (λ d. d.timeless ≡ is_timeless_request view.now request.now) }
 {
-    let mut work = Work::new(Limits::none(), request.objects.as_slice());
-    decide_by(alloc, view, request, moment, &mut work)
-}
-
-/// `decide` under limits.
-fn decide_within<'a>(
-    alloc: Global,
-    view: &View,
-    request: &'a Request,
-    moment: Moment,
-    limits: Limits,
-) -> Result<Decided<'a>, OrMemory<OverLimit>>
-    ensures objects { IfOk result (λ d. d.response.objects.now ≡ request.now.objects) }
-    ensures results { IfOk result (λ d. d.response.results ≡ decided view.now request.now moment) }
-    ensures timeless { IfOk result (λ d. d.timeless ≡ is_timeless_request view.now request.now) }
-    ensures over { IfOver result (λ over. (body : Option (List ℕ)) → MayRefuse limits body over) }
-{
-    let mut work = Work::new(limits, request.objects.as_slice());
-    let decided = decide_by(alloc, view, request, moment, &mut work);
-    work.told(decided)
+    // Under no limits it fails for want of memory alone.
+    decide_within(alloc, view, request, moment, Limits::none()).map_err(|_| AllocError)
 }
 
 /// The response to a body that is no request.
@@ -140,8 +141,7 @@ fn respond_with(
 /// moment; none, if the body of the request is no JSON. JSON that is no request of the JSON Profile
 /// has a response, of the status syntax-error. Fails with `OverLimit::Work`, if it asks for more work than
 /// the limits allow, and with `OverLimit::Reply`, if the body of the response has more bytes; with
-/// `OverLimit::Results`, if its results were counted to have more, before all of them are there. Without a
-/// limit it fails with none of these.
+/// `OverLimit::Results`, if that was found of its first results. Without a limit it fails with none of these.
 #[tactic(auto, unfolding(crate::specs::Decision::answer, crate::specs::Timeless::is_timeless_answer))]
 pub fn respond(
     alloc: Global,

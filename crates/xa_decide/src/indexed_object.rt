@@ -1,11 +1,12 @@
 //! Category objects, with their attributes to be found.
-ghost use Rattle.std.specs.Prelude.{◌≡◌, [], ◌++◌, bytes_eq, filter, option_map, slice_get};
+ghost use Rattle.std.specs.Prelude.{◌≡◌, ◌≤◌, [], ◌++◌, bytes_eq, filter, option_map, slice_get};
 ghost use Rattle.std.specs.Prelude.{IfOk, IfSome, if◌then◌else◌};
 ghost use Rattle.std.specs.List.{All, filter_map, flat_map};
 ghost use Rattle.xa_bag.specs.Bag.{bag_of};
 ghost use Rattle.xa_decide.specs.Context.{is_named_by, object_values};
 ghost use Rattle.xa_decide.specs.indexing.Naming.{naming_values, said, said_by};
 ghost use Rattle.xa_decide.specs.indexing.Types.{IsOfType, IsOfTypes};
+ghost use Rattle.xa_profile.specs.writing.Lengths.{bytes_of_object};
 
 use crate::attribute::push_attribute;
 use crate::budget::Budget;
@@ -40,12 +41,13 @@ pub(crate) struct IndexedObject<'a> {
 }
 
 impl<'a> Model for IndexedObject<'a> {
-    ghost use Rattle.std.specs.Prelude.{◌≡◌, map, IfSome};
+    ghost use Rattle.std.specs.Prelude.{◌≡◌, ◌≤◌, map, IfSome};
     ghost use Rattle.xa_profile.specs.declared.category_object.CategoryObject.{CategoryObject as Object};
     ghost use Rattle.xa_decide.specs.indexing.Index.{IsOrder};
     ghost use Rattle.xa_decide.specs.indexing.Keys.{name_key_of, issuer_key_of};
     ghost use Rattle.xa_decide.specs.indexing.Naming.{naming_values, said, said_by};
     ghost use Rattle.xa_decide.specs.indexing.Types.{IsOfTypes};
+    ghost use Rattle.xa_profile.specs.writing.Lengths.{bytes_of_object};
 
     ghost Value = { Object };
 
@@ -54,7 +56,8 @@ impl<'a> Model for IndexedObject<'a> {
     ghost invariant = { λ o. IsOrder name_key_of o.object.now.attributes o.by_name.items
         × IsOrder issuer_key_of o.object.now.attributes o.by_issuer.items
         × IfSome o.members (λ members. members.items ≡ map (λ a. a.values) o.object.now.attributes)
-        × (said_by o.naming ≡ said (naming_values o.object.now)) × IsOfTypes o.object.now };
+        × (said_by o.naming ≡ said (naming_values o.object.now)) × IsOfTypes o.object.now
+        × (o.writing_cost.bytes ≤ bytes_of_object o.object.now) };
 }
 
 impl<'a> IndexedObject<'a> {
@@ -81,7 +84,9 @@ impl<'a> IndexedObject<'a> {
     }
 
     /// What it costs to write what stands of the object in a result.
-    pub(crate) fn writing_cost(&self) -> WritingCost {
+    pub(crate) fn writing_cost(&self) -> WritingCost
+        ensures { result.bytes ≤ bytes_of_object self.now }
+    {
         self.writing_cost
     }
 

@@ -1,8 +1,8 @@
 //! What the decision on one request may cost, and the error of a call that would have cost more.
 ghost use Rattle.std.specs.Prelude.{◌≡◌, IfErr, IfOk, Some};
 ghost use Rattle.xa_value.specs.declared.or_memory.OrMemory.TheVariants.{Error as Over};
-ghost use Rattle.xa_decide.specs.declared.limits.OverLimit.TheVariants.{Reply};
-ghost use Rattle.xa_decide.specs.Limits.{IsLonger, IsWithin, no_limits};
+ghost use Rattle.xa_decide.specs.declared.limits.OverLimit.TheVariants.{Reply, Results};
+ghost use Rattle.xa_decide.specs.Limits.{IsLonger, IsOver, IsWithin, no_limits};
 
 use thiserror::Error;
 use xa_value::OrMemory;
@@ -38,6 +38,16 @@ impl Limits {
             _ => Ok(()),
         }
     }
+
+    /// Whether a response may have results of so many bytes; if not, the limit that they are over.
+    pub(crate) fn check_results(&self, bytes: u64) -> Result<(), OverLimit>
+        ensures { IfErr result (λ over. (over ≡ Results) × IsOver self.now.reply bytes) }
+    {
+        match self.reply {
+            Some(most) if bytes > most => Err(OverLimit::Results),
+            _ => Ok(()),
+        }
+    }
 }
 
 /// The limit that a call has reached, which therefore has given nothing. No call answers this under no limit.
@@ -49,8 +59,7 @@ pub enum OverLimit {
     /// That of the response: its body has more bytes.
     #[error("a longer response than the limit")]
     Reply,
-    /// That of the response, before all its results were there: these were counted to have more bytes. No
-    /// clause speaks of what is counted, which are the bytes of the results or some fewer.
+    /// That of the response, before all its results were there: these alone have more bytes.
     #[error("a longer response than the limit")]
     Results,
     /// That of reading: the texts of the policies have more bytes.

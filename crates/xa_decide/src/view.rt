@@ -1,5 +1,5 @@
 //! The view of a domain: what its decisions depend on.
-ghost use Rattle.std.specs.Prelude.{◌≡◌, ◌+◌, [], false, true, IfOk, IsOk, None};
+ghost use Rattle.std.specs.Prelude.{◌≡◌, ◌+◌, ◌≤◌, [], false, true, IfOk, IsOk, None};
 ghost use Rattle.xa_link.specs.Linking.{link};
 ghost use Rattle.xa_link.specs.Reading.{reading};
 ghost use Rattle.xa_shelf.specs.Allowance.{IsBeyond};
@@ -65,6 +65,7 @@ impl View {
         ensures value { IfOk result (λ view. view ≡ view_by active.now root.now source) }
         ensures read { IfOk result (λ view.
             IsNotTooLarge view.tree → reader.old.left ≡ reader.new.left + reading_for active.now root.now) }
+        ensures within { IfOk result (λ _. reading_for active.now root.now ≤ reader.old.left) }
         ensures refused { reader.old.is_spent ≡ false → reader.new.is_spent ≡ true
             → IsBeyond reader.old (reading_for active.now root.now) }
         ensures over { IfOver result (λ over.
@@ -140,6 +141,7 @@ fn linked_tree(
     ensures value { IfOk result (λ tree. tree ≡ link active.now root.now) }
     ensures read { IfOk result (λ tree.
         IsOk tree → reader.old.left ≡ reader.new.left + reading active.now root.now) }
+    ensures within { IfOk result (λ _. reading active.now root.now ≤ reader.old.left) }
     ensures refused { reader.old.is_spent ≡ false → reader.new.is_spent ≡ true
         → IsBeyond reader.old (reading active.now root.now) }
 {
@@ -156,6 +158,7 @@ fn tree_of(
     ensures value { IfOk result (λ tree. tree ≡ tree_of active.now root.now) }
     ensures read { IfOk result (λ tree.
         IsNotTooLarge tree → reader.old.left ≡ reader.new.left + reading_for active.now root.now) }
+    ensures within { IfOk result (λ _. reading_for active.now root.now ≤ reader.old.left) }
     ensures refused { reader.old.is_spent ≡ false → reader.new.is_spent ≡ true
         → IsBeyond reader.old (reading_for active.now root.now) }
 {

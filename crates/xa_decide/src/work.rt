@@ -1,11 +1,9 @@
-//! The work of one message: how much it may ask for, how many bytes its response may have, and how the
-//! large bags of its request are searched.
+//! The work of one message: how much it may ask for, and how the large bags of its request are searched.
 ghost use Rattle.std.specs.Prelude.{◌≡◌, ℕ, List, Option, map, IfOk, IfSome, Ok};
 ghost use Rattle.xa_decide.specs.Limits.{IfOver, MayRefuse};
 
 use crate::budget::Budget;
 use crate::limits::{Limits, OverLimit};
-use crate::writing_cost::WritingCost;
 use std::alloc::{AllocError, Global};
 use xa_bag::{Bag, Members};
 use xa_expr::{LOOK, units_of, units_of_bag};
@@ -35,15 +33,13 @@ enum Search {
     Ordered,
 }
 
-/// The work of one message, and the bytes that its response may still have.
+/// The work of one message.
 #[derive(Drop)]
 pub(crate) struct Work {
     /// What the message may cost.
     limits: Limits,
     /// The units that the message may still ask for.
     budget: Budget,
-    /// The bytes that its response may still have.
-    reply: Budget,
     /// How its large bags are searched.
     search: Search,
 }
@@ -58,17 +54,14 @@ impl Work {
         Work {
             limits,
             budget: Budget::new(limits.work),
-            reply: Budget::new(limits.reply),
             search: Search::Scanning(Budget::new(Some(values))),
         }
     }
 
-    /// Puts the values of large bags in order from now on. What is left of the work stays; the response is
-    /// begun anew.
+    /// Puts the values of large bags in order from now on. What is left of the work stays.
     pub(crate) fn begin_ordered(&mut self)
         ensures { self.new.limits ≡ self.old.limits }
     {
-        self.reply = Budget::new(self.limits.reply);
         self.search = Search::Ordered;
     }
 
@@ -80,23 +73,29 @@ impl Work {
         }
     }
 
-    /// What was given. An evaluation ends without memory and by a limit alike; here it is told which of these
-    /// it was.
-    pub(crate) fn told<T>(&self, given: Result<T, AllocError>) -> Result<T, OrMemory<OverLimit>>
+    /// What was given. An evaluation ends without memory and by the limit of work alike; here it is told
+    /// which of these it was.
+    pub(crate) fn told<T>(
+        &self,
+        given: Result<T, OrMemory<OverLimit>>,
+    ) -> Result<T, OrMemory<OverLimit>>
         ensures value { IfOk result (λ value. given ≡ Ok value) }
-        ensures over { IfOver result (λ over.
-            (body : Option (List ℕ)) → MayRefuse self.now.limits body over) }
+        ensures over { (body : Option (List ℕ)) → IfOver given (MayRefuse self.now.limits body)
+            → IfOver result (MayRefuse self.now.limits body) }
     {
         match given {
-            Ok(value) => Ok(value),
-            Err(_) if self.limits.work.is_some() && self.budget.is_exceeded() => {
+            Err(OrMemory::Memory) if self.limits.work.is_some() && self.budget.is_exceeded() => {
                 Err(OrMemory::Error(OverLimit::Work))
             }
-            Err(_) if self.limits.reply.is_some() && self.reply.is_exceeded() => {
-                Err(OrMemory::Error(OverLimit::Results))
-            }
-            Err(_) => Err(OrMemory::Memory),
+            given => given,
         }
+    }
+
+    /// What the message may cost.
+    pub(crate) fn limits(&self) -> Limits
+        ensures { result ≡ self.now.limits }
+    {
+        self.limits
     }
 
     /// What the message may ask for.
@@ -107,13 +106,6 @@ impl Work {
     /// Takes the units from what the message may ask for.
     pub(crate) fn spend(&self, units: u64) -> Result<(), AllocError> {
         self.budget.spend(units)
-    }
-
-    /// Takes what it costs to write a result: the units from what the message may ask for, and the bytes
-    /// from what its response may have.
-    pub(crate) fn spend_on_result(&self, cost: WritingCost) -> Result<(), AllocError> {
-        self.budget.spend(cost.units)?;
-        self.reply.spend(cost.bytes)
     }
 
     /// Charges one look for each value of the bag, if it is large.

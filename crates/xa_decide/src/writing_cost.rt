@@ -1,9 +1,12 @@
 //! What it costs to write a part of a response: how much work, and how many bytes. It is asked before
 //! anything is written, so that nothing is written if too little is left. A text counts by the bytes that
 //! JSON has for it: a quotation mark, a backslash and a control character take two or six (RFC 8259,
-//! section 7).
-ghost use Rattle.std.specs.Prelude.{◌≡◌, ◌+◌, length};
+//! section 7). Clauses say that what is counted is written.
+ghost use Rattle.std.specs.Prelude.{◌≡◌, ◌≤◌, ◌+◌, length};
 ghost use Rattle.json.specs.Print.{escape_byte};
+ghost use Rattle.xa_profile.specs.Response.{values_data};
+ghost use Rattle.xa_profile.specs.writing.Lengths.{bytes_of, bytes_of_all, bytes_of_text};
+ghost use Rattle.xa_profile.specs.writing.Lengths.{bytes_of_text_if_any, bytes_of_value, length_of};
 
 use xa_bag::Bag;
 use xa_expr::{is_of_one_size, units_of, units_of_printing};
@@ -27,23 +30,19 @@ impl WritingCost {
     pub(crate) const NOTHING: WritingCost = WritingCost { units: 0, bytes: 0 };
 
     /// What it costs to write both of these.
-    pub(crate) fn and(self, other: WritingCost) -> WritingCost {
+    pub(crate) fn and(self, other: WritingCost) -> WritingCost
+        ensures { result.bytes ≤ self.bytes + other.bytes }
+    {
         WritingCost {
             units: self.units.saturating_add(other.units),
             bytes: self.bytes.saturating_add(other.bytes),
         }
     }
 
-    /// What it costs to write so many of these.
-    pub(crate) fn times(self, count: usize) -> WritingCost {
-        WritingCost {
-            units: self.units.saturating_mul(count as u64),
-            bytes: self.bytes.saturating_mul(count as u64),
-        }
-    }
-
     /// What it costs to write a text.
-    pub(crate) fn of_text(text: &Text) -> WritingCost {
+    pub(crate) fn of_text(text: &Text) -> WritingCost
+        ensures { result.bytes ≤ bytes_of_text text.now }
+    {
         let bytes = text.as_bytes();
         let count = bytes.len() as u64;
         let escapes = escapes_in(bytes);
@@ -54,7 +53,9 @@ impl WritingCost {
     }
 
     /// What it costs to write a text that may be left out.
-    pub(crate) fn of_text_if_any(text: &Option<Text>) -> WritingCost {
+    pub(crate) fn of_text_if_any(text: &Option<Text>) -> WritingCost
+        ensures { result.bytes ≤ bytes_of_text_if_any text.now }
+    {
         match text {
             Some(text) => WritingCost::of_text(text),
             None => WritingCost::NOTHING,
@@ -62,7 +63,9 @@ impl WritingCost {
     }
 
     /// What it costs to write a value. What has no text of its own is printed first.
-    pub(crate) fn of_value(value: &Value) -> WritingCost {
+    pub(crate) fn of_value(value: &Value) -> WritingCost
+        ensures { result.bytes ≤ bytes_of_value value.now }
+    {
         let growth = growth_of(value);
         WritingCost {
             units: units_of(value)
@@ -73,19 +76,30 @@ impl WritingCost {
     }
 
     /// What it costs to write the values, one after another.
-    fn of_values(values: &[Value]) -> WritingCost {
-        values.iter().fold(
-            WritingCost::NOTHING,
-            |all, value| all.and(WritingCost::of_value(value)),
-        )
+    fn of_values(values: &[Value]) -> WritingCost
+        ensures { result.bytes ≤ bytes_of_all bytes_of_value values.now }
+    {
+        let mut cost = WritingCost::NOTHING;
+        for value in values {
+            cost = cost.and(WritingCost::of_value(value));
+        }
+        cost
     }
 
-    /// What it costs to write the values of a bag. If these are of one size, none but the first is looked at.
-    pub(crate) fn of_bag(bag: &Bag) -> WritingCost {
+    /// What it costs to write the values of a bag. If these are of one size, none but the first is looked
+    /// at, and their commas are counted.
+    #[tactic(auto, using(xa_profile::proofs::LengthLemmas::values_take, xa_profile::proofs::LengthLemmas::commas_of_values))]
+    pub(crate) fn of_bag(bag: &Bag) -> WritingCost
+        ensures { result.bytes ≤ bytes_of (values_data bag.now.values) }
+    {
         match bag.values() {
             [first, ..] if is_of_one_size(bag.data_type()) => {
-                WritingCost::of_value(first).times(bag.len())
-            },
+                let count = bag.len() as u64;
+                WritingCost {
+                    units: WritingCost::of_value(first).units.saturating_mul(count),
+                    bytes: count.saturating_sub(1),
+                }
+            }
             values => WritingCost::of_values(values),
         }
     }
@@ -117,19 +131,26 @@ fn has_escapes(text: &[u8]) -> bool {
 }
 
 /// How many bytes the escapes of the text add to it.
-fn escapes_in(text: &[u8]) -> u64 {
+#[tactic(auto, using(xa_profile::proofs::LengthLemmas::no_shorter))]
+fn escapes_in(text: &[u8]) -> u64
+    ensures { length text.now + result ≤ bytes_of_text text.now }
+{
     if !has_escapes(text) {
         return 0;
     }
-    text.iter().fold(
-        0u64,
-        |count, byte| count.saturating_add(escape_growth(*byte)),
-    )
+    let mut escapes = 0u64;
+    for byte in text {
+        escapes = escapes.saturating_add(escape_growth(*byte));
+    }
+    escapes
 }
 
 /// How many more bytes a value takes than it has: its escapes, a second digit for each byte, or a third in
 /// base64.
-fn growth_of(value: &Value) -> u64 {
+#[tactic(auto, using(xa_profile::proofs::LengthLemmas::string_takes, xa_profile::proofs::LengthLemmas::uri_takes, xa_profile::proofs::LengthLemmas::hex_takes, xa_profile::proofs::LengthLemmas::base64_takes))]
+fn growth_of(value: &Value) -> u64
+    ensures { length_of value.now + result ≤ bytes_of_value value.now }
+{
     match value {
         Value::String(text) | Value::AnyUri(text) => escapes_in(text.as_bytes()),
         Value::HexBinary(bytes) => bytes.as_slice().len() as u64,
@@ -146,11 +167,13 @@ fn units_of_growth(value: &Value, growth: u64) -> u64 {
     }
 }
 
-/// How many bytes the value has, of text or binary; one, if it is of another type.
-fn length_of(value: &Value) -> u64 {
+/// How many bytes the value has, of text or binary; none, if it is of another type.
+fn length_of(value: &Value) -> u64
+    ensures { result ≡ length_of value.now }
+{
     match value {
         Value::String(text) | Value::AnyUri(text) => text.as_bytes().len() as u64,
         Value::HexBinary(bytes) | Value::Base64Binary(bytes) => bytes.as_slice().len() as u64,
-        _ => 1,
+        _ => 0,
     }
 }

@@ -93,7 +93,7 @@ opening_not_whole held TransferCoding h after b none = none
 opening_not_whole held BodyTooLarge h after b none = none
 
 -- the same head has the same bytes after it
-same_head : (held : List ℕ) (h k : RequestHead) (after other : List ℕ) → BeginsWithHead held h after → BeginsWithHead held k other
+pub same_head : (held : List ℕ) (h k : RequestHead) (after other : List ℕ) → BeginsWithHead held h after → BeginsWithHead held k other
     → (h ≡ k) × (after ≡ other)
 same_head held h k after other b d = request_unique held h k after other b.0 d.0
 
@@ -106,7 +106,7 @@ same_message held m n r q x y =
     let split = same_split m.body n.body r q l s.1 in
     (x.3 ∙ ap (λ (h : RequestHead). message_of h m.body) s.0 ∙ ap (λ (b : List ℕ). message_of y.0 b) split.0 ∙ sym y.3, split.1)
 
-whole_not_unfinished : (held : List ℕ) (m : Message) (r : List ℕ) → BeginsWithMessage held m r → IsUnfinished held → ⊥
+pub whole_not_unfinished : (held : List ℕ) (m : Message) (r : List ℕ) → BeginsWithMessage held m r → IsUnfinished held → ⊥
 unfolding BeginsWithMessage IsUnfinished
 whole_not_unfinished held m r x (inl opened) = head_not_open held x.0 (m.body ++ r) x.1 opened.0.0
 whole_not_unfinished held m r x (inr opened) =
@@ -115,7 +115,7 @@ whole_not_unfinished held m r x (inr opened) =
     let l : length m.body ≡ opened.2 = cc in
     omega (arith, l, opened.5, ap length s.1, length-append m.body r)
 
-whole_not_faulty : (held : List ℕ) (m : Message) (r : List ℕ) (fault : SessionFault) → BeginsWithMessage held m r → IsFaulty held fault → ⊥
+pub whole_not_faulty : (held : List ℕ) (m : Message) (r : List ℕ) (fault : SessionFault) → BeginsWithMessage held m r → IsFaulty held fault → ⊥
 unfolding BeginsWithMessage IsFaulty
 whole_not_faulty held m r fault x (inl opening) = opening_not_whole held fault x.0 (m.body ++ r) x.1 opening
 whole_not_faulty held m r fault x (inr head) =

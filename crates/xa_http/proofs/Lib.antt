@@ -5,3 +5,4 @@ pub mod LawLemmas
 pub mod TrimLemmas
 pub mod OpenHeadLemmas
 pub mod TableLemmas
+pub mod ChangingLemmas

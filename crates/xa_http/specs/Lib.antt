@@ -11,3 +11,4 @@ pub mod Table
 pub mod Routes
 pub mod Reply
 pub mod Laws
+pub mod Changing

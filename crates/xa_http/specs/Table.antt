@@ -53,6 +53,17 @@ reads_body (asks.Domain domain.SetRoot) = true
 reads_body (asks.Domain domain.SetSource) = true
 reads_body _ = false
 
+-- what is asked for changes what is kept
+abbrev pub changes : Command → Bool
+changes asks.Domains = false
+changes (asks.Operator _) = true
+changes asks.Decide = false
+changes (asks.Domain domain.List) = false
+changes (asks.Domain domain.ShowSource) = false
+changes (asks.Domain _) = true
+changes (asks.Document document.Show) = false
+changes (asks.Document _) = true
+
 -- which part of a place's path names a domain; part 0 is what stands before the first slash
 abbrev pub domain_part : Place → Option ℕ
 domain_part place.Domains = None

@@ -1,6 +1,6 @@
 //! What is asked for at a place.
 ghost use Rattle.std.specs.Prelude.{◌≡◌};
-ghost use Rattle.xa_http.specs.Table.{reads_body};
+ghost use Rattle.xa_http.specs.Table.{changes, reads_body};
 
 /// What the operator asks for of one domain.
 #[derive(Clone, Copy, Debug, PartialEq, Eq)]
@@ -71,5 +71,20 @@ impl Command {
                     DomainCommand::Upload | DomainCommand::SetRoot | DomainCommand::SetSource
                 )
         )
+    }
+
+    /// Whether what is asked for changes what is kept.
+    pub(crate) fn changes(self) -> bool
+        ensures { result ≡ changes self }
+    {
+        match self {
+            Command::Domains | Command::Decide => false,
+            Command::Operator(_) => true,
+            Command::Domain(command) => !matches!(
+                command,
+                DomainCommand::List | DomainCommand::ShowSource
+            ),
+            Command::Document(command) => !matches!(command, DocumentCommand::Show),
+        }
     }
 }

@@ -1,6 +1,7 @@
 //! The route of a message, by its target, its method and the media type of its body.
 ghost use Rattle.std.specs.Prelude.{◌≡◌, Some, codes, IfOk, IsErr, option_and_then, option_map};
 ghost use Rattle.xa_value.specs.Gives.{Gives, answered};
+ghost use Rattle.xa_http.specs.Changing.{asks_for_change};
 ghost use Rattle.xa_http.specs.Routes.{address_of, decoded_part, document_parts, named_by, named_part};
 ghost use Rattle.xa_http.specs.Routes.{path_of_plain, path_of, place_at, route_of, route_to, takes_body};
 ghost use Rattle.xa_http.specs.Table.{table};
@@ -76,6 +77,21 @@ impl Routes {
             return Err(RouteFault::BadMediaType.into());
         }
         Ok(route_to(alloc, path, command)?)
+    }
+
+    /// Whether the message asks for a change: what its route asks for changes what is kept. It depends on
+    /// the message's head alone, and takes no memory.
+    #[tactic(auto, using(crate::proofs::ChangingLemmas::changes_to), unfolding(crate::specs::Routes::route_of, crate::specs::Changing::asks_for_change))]
+    pub fn asks_for_change(&self, message: &Message) -> bool
+        ensures { result ≡ asks_for_change message.now }
+    {
+        let Some((place, _path)) = self.address_of(message.target.as_slice()) else {
+            return false;
+        };
+        let Some(command) = place.command(message.method.as_slice()) else {
+            return false;
+        };
+        takes_body(message, command) && command.changes()
     }
 
     /// The place where the target leads, and the path that leads there.

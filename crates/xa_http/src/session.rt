@@ -1,6 +1,7 @@
 //! The session of one stream: its whole messages, in whatever pieces the bytes come.
 ghost use Rattle.std.specs.Prelude.{◌≡◌, ◌≤◌, ◌++◌, [], true, false, length, drop};
 ghost use Rattle.std.specs.Prelude.{IfOk, IsTrue, MatchResult, Ok, OnOk, OnErr};
+ghost use Rattle.xa_http.specs.Changing.{TellsChange};
 ghost use Rattle.xa_http.specs.parsing.Front.{HasHead, IsFront};
 ghost use Rattle.xa_http.specs.Messages.{IsCut, IsLook, IsNext, IsUnfinished, StandsAtFront};
 ghost use Rattle.xa_http.specs.declared.session.Look.TheVariants as look;
@@ -10,6 +11,7 @@ use crate::beginning::{Beginning, Head, is_whole, read_front, whole_body};
 use crate::fault::SessionFault;
 use crate::message::Message;
 use crate::open_head::OpenHead;
+use crate::routes::Routes;
 use std::alloc::{AllocError, Global};
 use std::marker::Model;
 
@@ -135,6 +137,26 @@ impl Session {
         }
     }
 
+    /// Whether the message at the front of the stream asks for a change; it doesn't if none is whole. Nothing
+    /// is changed. A session that has ended takes no memory for it.
+    #[tactic(auto, using(crate::proofs::ChangingLemmas::none_asks, crate::proofs::ChangingLemmas::unfinished_asks, crate::proofs::ChangingLemmas::faulty_asks))]
+    pub fn asks_for_change(&mut self, routes: &Routes) -> Result<bool, AllocError>
+        ensures tells { IfOk result (TellsChange self.old) }
+        ensures same { self.new ≡ self.old }
+    {
+        if self.ended {
+            return Ok(false);
+        }
+        match self.front()? {
+            Beginning::Head(head) => {
+                let asks = asks_behind(self.held(), &head, routes);
+                self.head = Some(head);
+                Ok(asks)
+            }
+            Beginning::More | Beginning::Fault(_) => Ok(false),
+        }
+    }
+
     /// Takes the next piece of the stream. A session that has ended takes it too, and answers
     /// nothing to it. Without memory nothing is taken.
     pub fn feed(&mut self, piece: &[u8]) -> Result<(), AllocError>
@@ -251,6 +273,18 @@ fn look_behind(held: &[u8], head: &Head) -> Look
     } else {
         Look::More
     }
+}
+
+/// Whether the message at the front of bytes that begin with that head is whole, and asks for a change.
+#[tactic(auto, using(crate::proofs::ChangingLemmas::whole_asks, crate::proofs::ChangingLemmas::unfinished_asks))]
+fn asks_behind(held: &[u8], head: &Head, routes: &Routes) -> bool
+    requires { HasHead held.now head.now }
+    ensures { TellsChange (record { held = held.now; ended = false }) result }
+{
+    if !is_whole(held, head) {
+        return false;
+    }
+    routes.asks_for_change(&head.message)
 }
 
 /// Drops the bytes before the start, if they are more than those after it.

@@ -1,9 +1,11 @@
 -- Where documents lead by the places that references stand for is where they lead by the references.
-use Rattle.std.proofs.Common.{◌≡◌, ℕ, zero, suc, ◌+◌, Bool, true, false, ◌-◌, ◌<◌, ◌≤◌, ◌==◌, List, [], ◌∷◌, length, get_or, map, take, Option, Some, None, refl, sym, ap, subst, ◌∙◌, arith}
+use Rattle.std.proofs.Common.{◌≡◌, ℕ, zero, suc, ◌+◌, Bool, true, false, ◌-◌, ◌<◌, ◌≤◌, ◌==◌, List, [], ◌∷◌, length, get_or, map, take, Option, Some, None, Result, Ok, Err, refl, sym, ap, subst, ◌∙◌, arith}
 use Rattle.std.specs.Prelude.{◌||◌, option_map}
 use Rattle.std.specs.List.{list_any}
 use Rattle.std.proofs.lemmas.Bool.{true≢false}
 use Rattle.std.proofs.lemmas.List.Folds.{list_any_more}
+use Rattle.xa_value.specs.declared.or_memory.OrMemory.{OrMemory}
+use Rattle.xa_value.specs.declared.or_memory.OrMemory.TheVariants.{Memory, Error}
 use Rattle.xa_policy.specs.declared.reference.Reference.{Reference}
 use Rattle.xa_policy.specs.Policy.{PolicyParts, SetParts}
 use Rattle.xa_notation.specs.declared.document.Document.{Document}
@@ -19,7 +21,7 @@ use Rattle.xa_link.specs.declared.placed.Placed.TheVariants as part
 use Rattle.xa_link.specs.Linking.{document_at, unless_circular}
 use Rattle.xa_link.specs.placing.Placed.{placed, placed_at, placed_step}
 use Rattle.xa_link.specs.placing.Progress.{Progress, Reads, Refuses, is_read, led_at, led_from, led_from_all, led_to_within, some_place, some_place_step}
-use Rattle.xa_link.specs.Reading.{bytes_at, is_at_or_below, leads_to, leads_within, reading, some_reference, some_reference_in, some_step}
+use Rattle.xa_link.specs.Reading.{OnceAnswered, bytes_at, is_at_or_below, leads_to, leads_within, reading, some_reference, some_reference_in, some_step}
 use Rattle.xa_link.specs.Resolution.{resolve}
 use Rattle.xa_link.proofs.ReadingLemmas.{bytes_of_none, bytes_same, or_false}
 
@@ -29,15 +31,15 @@ any_map : {X : Type 0} (f : X → Bool) (xs : List X) → list_any (λ b. b) (ma
 any_map f [] = refl
 any_map f (x ∷ xs) = ap (λ b. f x || b) (any_map f xs)
 
-some_policy : (test : Option ℕ → Bool) (policy : PolicyParts) → some_place test (part.Policy policy) ≡ false
+pub some_policy : (test : Option ℕ → Bool) (policy : PolicyParts) → some_place test (part.Policy policy) ≡ false
 some_policy test policy = ap (some_place test) (sym (part.rolls-Policy policy)) ∙ fold-roll-Placed Bool (some_place_step test) (Placed-F.Policy policy)
 
-some_set : (test : Option ℕ → Bool) (set : SetParts) (children : List Placed) → some_place test (part.PolicySet set children) ≡ list_any (some_place test) children
+pub some_set : (test : Option ℕ → Bool) (set : SetParts) (children : List Placed) → some_place test (part.PolicySet set children) ≡ list_any (some_place test) children
 some_set test set children =
     ap (some_place test) (sym (part.rolls-PolicySet set children)) ∙ fold-roll-Placed Bool (some_place_step test) (Placed-F.PolicySet set children)
     ∙ any_map (some_place test) children
 
-some_of_reference : (test : Option ℕ → Bool) (place : Option ℕ) → some_place test (part.Reference place) ≡ test place
+pub some_of_reference : (test : Option ℕ → Bool) (place : Option ℕ) → some_place test (part.Reference place) ≡ test place
 some_of_reference test place = ap (some_place test) (sym (part.rolls-Reference place)) ∙ fold-roll-Placed Bool (some_place_step test) (Placed-F.Reference place)
 
 module _ (below : Option ℕ → Bool) (place_of : Reference → Option ℕ) (test : Reference → Bool) (same : (r : Reference) → test r ≡ below (place_of r)) where
@@ -58,7 +60,7 @@ module _ (below : Option ℕ → Bool) (place_of : Reference → Option ℕ) (te
   layer_alike (Document-F.PolicySet set ds) = some_set below set (map (placed place_of) (map (λ e. e.0) ds)) ∙ children_alike ds
   layer_alike (Document-F.Reference reference) = some_of_reference below (place_of reference) ∙ sym (same reference)
 
-  some_is : (d : Document) → some_place below (placed place_of d) ≡ some_reference test d
+  pub some_is : (d : Document) → some_place below (placed place_of d) ≡ some_reference test d
   some_is = ind-Document IsAlike (λ x y is.
       let here = subst (λ z. some_place below (placed_step place_of (map-Document Document Placed (placed place_of) z)) ≡ some_step test (map-Document Document Bool (some_reference test) z)) is (layer_alike y) in
       ap (some_place below) (fold-roll-Document Placed (placed_step place_of) x) ∙ here ∙ sym (fold-roll-Document Bool (some_step test) x))
@@ -150,7 +152,7 @@ module _ (more : ℕ) (active : List Active) (path : List ℕ) (children : List 
       ap (λ d. led_from_all more active path (take i children) place || led_from more active path d place) is
       ∙ sym (list_any_more (λ d. led_from more active path d place) children i child there)
 
-any_taken : {X : Type 0} (f : X → Bool) (n : ℕ) (xs : List X) → list_any f (take n xs) ≡ true → list_any f xs ≡ true
+pub any_taken : {X : Type 0} (f : X → Bool) (n : ℕ) (xs : List X) → list_any f (take n xs) ≡ true → list_any f xs ≡ true
 any_taken f zero xs e = absurd (true≢false (sym e))
 any_taken f (suc n) [] e = e
 any_taken f (suc n) (x ∷ xs) e = by_test (f x) refl (any_taken f n xs)
@@ -193,3 +195,18 @@ module _ (active : List Active) (root : Reference) (wanted : ℕ → Bool) (led 
       let less : before.left + bytes_at (is_read start.read) start.active < bytes_at (λ place. is_read start.read place || wanted place) start.active =
       refuses.short not_before spent in
       (refuses.by_limit not_before spent, omega (arith, whole, less, none_read))
+
+  -- and there are no more than were left
+  pub reading_within : (new : Progress) → new.active ≡ start.active → Reads wanted start new before after → reading active root ≤ before.left
+  reading_within new same reads = let whole : before.left ≡ after.left + reading active root = reading_is new same reads in omega (arith, whole)
+
+-- ---- an answer or none
+
+module _ {X E : Type 0} (P : Type 0) where
+  pub answered_so : (r : Result X (OrMemory E)) → P → OnceAnswered r P
+  answered_so (Ok x) holds = holds
+  answered_so (Err Memory) holds = tt
+  answered_so (Err (Error e)) holds = holds
+
+  pub unanswered_so : (r : Result X (OrMemory E)) → r ≡ Err Memory → OnceAnswered r P
+  unanswered_so r is = subst (λ s. OnceAnswered s P) (sym is) tt

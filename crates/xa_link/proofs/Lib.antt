@@ -1,8 +1,10 @@
+pub mod GatherLemmas
 pub mod LedLemmas
 pub mod LinkingLemmas
 pub mod OrderLemmas
 pub mod PlaceLemmas
 pub mod PlacedLemmas
+pub mod ReachLemmas
 pub mod ReadingLemmas
 pub mod ReorderLemmas
 pub mod ResolutionLemmas

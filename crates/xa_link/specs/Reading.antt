@@ -1,8 +1,10 @@
 -- How much is read for the tree that a reference leads to: the texts of the documents on the paths from it, the text
 -- of each place once.
-use Rattle.std.specs.Prelude.{ℕ, zero, suc, ◌+◌, ◌==◌, Bool, false, ◌||◌}
-use Rattle.std.specs.Prelude.{if◌then◌else◌, List, [], ◌∷◌, length, Option, Some, None}
+use Rattle.std.specs.Prelude.{ℕ, zero, suc, ◌+◌, ◌==◌, ⊤, Bool, false, ◌||◌}
+use Rattle.std.specs.Prelude.{if◌then◌else◌, List, [], ◌∷◌, length, Option, Some, None, Result, Ok, Err}
 use Rattle.std.specs.List.{list_any}
+use Rattle.xa_value.specs.declared.or_memory.OrMemory.{OrMemory}
+use Rattle.xa_value.specs.declared.or_memory.OrMemory.TheVariants.{Memory, Error}
 use Rattle.xa_policy.specs.declared.reference.Reference.{Reference}
 use Rattle.xa_notation.specs.declared.document.Document.{Document, fold-Document}
 use Rattle.xa_notation.specs.declared.document.Document.TheOpen.{Document-F}
@@ -51,3 +53,9 @@ bytes_at test (first ∷ rest) = (if test 0 then length first.text else 0) + byt
 -- how many bytes are read for the tree of a root
 unfoldable pub reading : List Active → Reference → ℕ
 reading active root = bytes_at (leads_to active root) active
+
+-- if a call has answered, be it with an error of its own, P holds
+abbrev pub OnceAnswered : {X E : Type 0} → Result X (OrMemory E) → Type 0 → Type 0
+OnceAnswered (Ok x) P = P
+OnceAnswered (Err Memory) P = ⊤
+OnceAnswered (Err (Error e)) P = P

@@ -3,5 +3,6 @@ pub mod Order
 pub mod Orders
 pub mod Placed
 pub mod Progress
+pub mod Reach
 pub mod Room
 pub mod Seen

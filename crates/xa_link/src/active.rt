@@ -12,6 +12,6 @@ pub struct Active {
     pub id: Text,
     /// Its version.
     pub version: Version,
-    /// Its text, which is read when a reference first leads to it.
+    /// Its text, which is read if the root leads to it.
     pub text: Items<u8>,
 }

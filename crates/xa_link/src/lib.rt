@@ -3,8 +3,9 @@
 //!
 //! `resolution` says which of the active documents (`active`) a reference stands for. If many are asked for,
 //! `index` finds it by an `order`, by what patterns of one shape see of versions (`seen`), and keeps one for
-//! each shape (`orders`). `resolved` reads a document once and has its references resolved (`placed`);
-//! `linking` makes the tree of it, which has no more parts than `room` leaves.
+//! each shape (`orders`). `resolved` reads a document once and has its references resolved (`placed`).
+//! `reach` reads all to which the root leads; `linking` makes the tree, which has no more parts than `room`
+//! leaves.
 #![tactic(auto)]
 
 mod active;
@@ -14,6 +15,7 @@ mod linking;
 mod order;
 mod orders;
 mod placed;
+mod reach;
 mod resolution;
 mod resolved;
 mod room;

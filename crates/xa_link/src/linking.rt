@@ -8,13 +8,14 @@ ghost use Rattle.xa_link.specs.declared.active.Active.{Active as Document};
 ghost use Rattle.xa_link.specs.Linking.{document_at, link, replaced_in, tree_within, unless_circular};
 ghost use Rattle.xa_link.specs.placing.Placed.{led_within, linked};
 ghost use Rattle.xa_link.specs.placing.Progress.{Counted, led_at, led_from, led_from_all, led_to_within};
-ghost use Rattle.xa_link.specs.Reading.{reading};
+ghost use Rattle.xa_link.specs.Reading.{OnceAnswered, reading};
 ghost use Rattle.xa_link.specs.Resolution.{resolve};
 ghost use Rattle.xa_link.specs.placing.Room.{all_fitted, fitted, policy_fitted, set_fitted};
 
 use crate::active::Active;
 use crate::link_error::LinkError;
 use crate::placed::Placed;
+use crate::reach::read_all;
 use crate::resolution::resolve;
 use crate::resolved::Resolved;
 use crate::room::{Fitted, less_one};
@@ -25,7 +26,7 @@ use xa_value::{Boxed, Items, OrMemory, Shared};
 
 /// How many documents may stand on a path, the first one too. The standard sets no bound; linking
 /// recurses once for each, and for each policy set inside one.
-const MAX_PATH_LEN: usize = 17;
+pub(crate) const MAX_PATH_LEN: usize = 17;
 
 /// How many policies and policy sets a tree may have. The standard sets no bound; 17 sets that each name
 /// the next one twice make 2^17.
@@ -248,10 +249,10 @@ fn linked_children(
 
 /// The tree that the reference leads to among the active documents (XACML 3.0, core, sections 5.10, 5.11
 /// and 7.15). A reference that leads to no document, back to one on its path, or past 17 documents is
-/// left unresolved. Rules are shared with the documents. A document is read, and its references are
-/// resolved, once, however often the tree holds it, and not at all if the root doesn't lead to it.
-/// Once a document is resolved, a reference in it that leads nowhere costs its leaf alone. It fails for
-/// want of memory only if an allocation failed, or if the reader's limit is reached.
+/// left unresolved. Rules are shared with the documents. First all documents to which the root leads are
+/// read, and their references resolved, each once, also if the tree is too large then. Once a document is
+/// resolved, a reference in it that leads nowhere costs its leaf alone. It fails for want of memory only if
+/// an allocation failed, or if the reader's limit is reached.
 ///
 /// Of n active documents a reference compares some log n. Each shape of patterns, of which there are 765,
 /// costs once some n log n comparisons more.
@@ -265,11 +266,13 @@ pub fn link(
     ensures value { Gives result (link active.now root.now) }
     ensures exact { resolve active.now root.now ≡ None → result ≡ answered (link active.now root.now) }
     ensures read { IfOk result (λ _. reader.old.left ≡ reader.new.left + reading active.now root.now) }
+    ensures within { OnceAnswered result (reading active.now root.now ≤ reader.old.left) }
     ensures refused { reader.old.is_spent ≡ false → reader.new.is_spent ≡ true
         → IsBeyond reader.old (reading active.now root.now) }
 {
     let mut resolved = Resolved::new(alloc, active);
     let place = resolve(active, root);
+    read_all(&mut resolved, reader, place)?;
     let path = Path {
         places: &[],
         more: MAX_PATH_LEN,

@@ -7,7 +7,7 @@ ghost use Rattle.xa_notation.specs.Document.{document_of};
 ghost use Rattle.xa_shelf.specs.Allowance.{asked};
 ghost use Rattle.xa_link.specs.Linking.{document_at};
 ghost use Rattle.xa_link.specs.placing.Placed.{AreRight, HasPlaced, SamePlaced, held, placed_at};
-ghost use Rattle.xa_link.specs.placing.Progress.{Counted, length_at};
+ghost use Rattle.xa_link.specs.placing.Progress.{Counted, is_looked, is_read, length_at};
 ghost use Rattle.xa_link.specs.Resolution.{resolve};
 
 use crate::active::Active;
@@ -81,6 +81,13 @@ impl<'a> Resolved<'a> {
         Ok(found)
     }
 
+    /// Whether the document at the place was read.
+    pub(crate) fn is_read(&self, place: usize) -> bool
+        ensures { result ≡ is_read self.now.read place }
+    {
+        is_looked_at(self.documents.as_slice(), place)
+    }
+
     /// The allocator.
     pub(crate) fn alloc(&self) -> Global {
         self.alloc
@@ -118,6 +125,13 @@ fn share_of(found: &Option<Shared<Placed>>) -> Result<Option<Shared<Placed>>, Al
     ensures { IfOk result (λ share. share ≡ found.now) }
 {
     found.clone()
+}
+
+/// Whether the place was looked at.
+fn is_looked_at(documents: &[Finding], place: usize) -> bool
+    ensures { result ≡ is_looked (held documents.now place) }
+{
+    matches!(documents.get(place), Some(Finding::Looked(_)))
 }
 
 /// What is known of the place.

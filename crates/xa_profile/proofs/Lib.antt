@@ -2,6 +2,7 @@ pub mod CombinationLemmas
 pub mod GroupLemmas
 pub mod IdLemmas
 pub mod JsonLemmas
+pub mod LengthLemmas
 pub mod ListLemmas
 pub mod ObjectLemmas
 pub mod PlaceLemmas

@@ -1,14 +1,15 @@
 -- Deeds, and others after them.
-use Rattle.std.proofs.Common.{◌≡◌, List, [], ◌∷◌, ◌++◌, Option, IsTrue, refl, sym, ap, subst, ◌∙◌}
+use Rattle.std.proofs.Common.{◌≡◌, Bool, List, [], ◌∷◌, ◌++◌, Option, IsTrue, refl, sym, ap, subst, ◌∙◌}
 use Rattle.std.proofs.lemmas.List.{append_assoc}
 use Rattle.xa_records.specs.Keeper.{Custody}
 use Rattle.xa_server.specs.declared.event.Event.{Event}
 use Rattle.xa_server.specs.declared.event.Outcome.{Outcome}
 use Rattle.xa_server.specs.declared.front.Front.{Front}
+use Rattle.xa_server.specs.Turning.{Handling}
 use Rattle.xa_reactor.specs.Step.{Calls, Works, joined}
 use Rattle.xa_reactor.specs.Traffic.{Traffic}
-use Rattle.xa_reactor.specs.Turn.{AreDone, Deed, IsDone, Lanes, calls_in, calls_of, traffic_in, traffic_of}
-use Rattle.xa_reactor.specs.handling.Turning.{Does}
+use Rattle.xa_reactor.specs.Turn.{AreDone, Deed, FitAll, IsDone, Lanes, calls_in, calls_of, closes, opens, steps, traffic_in, traffic_of}
+use Rattle.xa_reactor.specs.handling.Turning.{Does, OpensNone}
 use Rattle.xa_reactor.proofs.WorksLemmas.{same_then_works, works_more, works_same}
 
 -- ---- what deeds come to
@@ -16,8 +17,12 @@ use Rattle.xa_reactor.proofs.WorksLemmas.{same_then_works, works_more, works_sam
 -- calls, by which of them come first
 pub joined_on : (a b c : Calls) → joined a (joined b c) ≡ joined (joined a b) c
 joined_on a b c =
-    ap (λ (es : List Event). record { events = es; outcomes = a.outcomes ++ (b.outcomes ++ c.outcomes) }) (sym (append_assoc a.events b.events c.events))
-    ∙ ap (λ (os : List Outcome). record { events = (a.events ++ b.events) ++ c.events; outcomes = os }) (sym (append_assoc a.outcomes b.outcomes c.outcomes))
+    ap (λ (hs : List Handling). record { hows = hs; events = a.events ++ (b.events ++ c.events); outcomes = a.outcomes ++ (b.outcomes ++ c.outcomes) })
+    (sym (append_assoc a.hows b.hows c.hows))
+    ∙ ap (λ (es : List Event). record { hows = (a.hows ++ b.hows) ++ c.hows; events = es; outcomes = a.outcomes ++ (b.outcomes ++ c.outcomes) })
+    (sym (append_assoc a.events b.events c.events))
+    ∙ ap (λ (os : List Outcome). record { hows = (a.hows ++ b.hows) ++ c.hows; events = (a.events ++ b.events) ++ c.events; outcomes = os })
+    (sym (append_assoc a.outcomes b.outcomes c.outcomes))
 
 -- their calls
 pub calls_on : (deeds more : List Deed) → calls_of (deeds ++ more) ≡ joined (calls_of deeds) (calls_of more)
@@ -34,6 +39,26 @@ traffic_on (deed ∷ deeds) more =
 pub done_on : (deeds more : List Deed) (old mid new : Lanes) → AreDone deeds old mid → AreDone more mid new → AreDone (deeds ++ more) old new
 done_on [] more old mid new same later = subst (λ (lanes : Lanes). AreDone more lanes new) same later
 done_on (deed ∷ deeds) more old mid new (first, is, rest) later = (first, is, done_on deeds more first mid new rest later)
+
+-- who comes by them does at one address, or at two
+pub fit_on : (split : Bool) (deeds more : List Deed) → FitAll split deeds → FitAll split more → FitAll split (deeds ++ more)
+fit_on split [] more fit later = later
+fit_on split (opens conn access ∷ deeds) more (fits, fit) later = (fits, fit_on split deeds more fit later)
+fit_on split (steps step ∷ deeds) more fit later = fit_on split deeds more fit later
+fit_on split (closes conn reason ∷ deeds) more fit later = fit_on split deeds more fit later
+
+-- nobody does
+pub none_fit : (split : Bool) (deeds : List Deed) → OpensNone deeds → FitAll split deeds
+none_fit split [] none = tt
+none_fit split (opens conn access ∷ deeds) absent = absurd absent
+none_fit split (steps step ∷ deeds) none = none_fit split deeds none
+none_fit split (closes conn reason ∷ deeds) none = none_fit split deeds none
+
+pub opens_none_on : (deeds more : List Deed) → OpensNone deeds → OpensNone more → OpensNone (deeds ++ more)
+opens_none_on [] more none later = later
+opens_none_on (opens conn access ∷ deeds) more absent later = absurd absent
+opens_none_on (steps step ∷ deeds) more none later = opens_none_on deeds more none later
+opens_none_on (closes conn reason ∷ deeds) more none later = opens_none_on deeds more none later
 
 -- one deed
 pub done_one : (deed : Deed) (old new : Lanes) → IsDone deed old new → AreDone (deed ∷ []) old new

@@ -26,7 +26,7 @@ use Rattle.xa_reactor.specs.declared.progress.Progress.{Progress}
 use Rattle.xa_reactor.specs.declared.progress.Progress.TheVariants.{Ends, Goes, Waits}
 use Rattle.xa_reactor.specs.declared.progress.Reason.TheVariants as reason
 use Rattle.xa_reactor.specs.Sending.{AreSent, IsHeldOn, IsSentOf, UnderWay, answer_bytes, count_of, is_last, none_under_way, then_under_way, under_way_of}
-use Rattle.xa_reactor.specs.Step.{DropsAs, DropsBy, EndsAs, IsEnd, IsStep, Lasts, PartsBehind, PartsFor, Step, joined, no_calls}
+use Rattle.xa_reactor.specs.Step.{AreHandledBy, DropsAs, DropsBy, EndsAs, IsEnd, IsStep, Lasts, PartsBehind, PartsFor, Step, joined, no_calls}
 use Rattle.xa_reactor.specs.Timing.{IsLate, KeepsMark, KeepsTime, MarksAt}
 use Rattle.xa_reactor.specs.Traffic.{AreAt, HasFailedIn, Traffic, failed, finished, received, received_at, received_by, sent_at}
 use Rattle.xa_reactor.specs.Turn.{EndsBy}
@@ -371,6 +371,7 @@ module _ {R : Type 0} (custody : R → Custody) where
       calls = feeds.calls;
       all = feeds.all;
       fed = feeds.fed;
+      served = feeds.served;
       makes = subst (λ (f : Front R). Makes custody feeds.calls front_old f) (sym same) feeds.makes;
       lasts = subst (λ (f : Front R). Lasts share.conn front_old.lines f.lines) (sym same) feeds.lasts;
     };
@@ -495,6 +496,7 @@ still_fed {R} {custody} conn piece old mid new same was = (
     calls = was.calls;
     all = was.all;
     fed = was.fed;
+    served = was.served;
     makes = subst (λ (f : Front R). Makes custody was.calls f new) same was.makes;
     lasts = subst (λ (f : Front R). Lasts conn f.lines new.lines) same was.lasts;
   },
@@ -511,6 +513,7 @@ none_fed {R} custody is_open conn old new same = (
     calls = no_calls;
     all = refl;
     fed = refl;
+    served = tt;
     makes = makes_same custody is_open old new same;
     lasts = lasts_same conn old.lines new.lines (ap (λ (f : Front R). f.lines) same);
   },
@@ -577,7 +580,7 @@ module _ {R N : Type 0} (custody : R → Custody) (done : N → Option (List Tra
 
   -- there was none, and nothing was sent
   pub answered_none : (result : Result Progress Halt) (taken : Progress) (at : ℕ) (answer : Option Answer) (old new : Lane) (front_old front_new : Front R) (network : N) → as_nanos share.now ≤ at
-      → Asks custody share.conn answer front_old front_new → old.outgoing.left ≡ [] → TakesAnswer answer at taken old new → taken ≢ Goes
+      → Asks custody share.conn (AreHandledBy share.access) answer front_old front_new → old.outgoing.left ≡ [] → TakesAnswer answer at taken old new → taken ≢ Goes
       → ((xs : List Traffic) → IsEnd share.conn.number xs new taken → EndsAs share.conn.number xs new result)
       → AnswersAndSends custody done share result old new front_old front_new network network
   answered_none result taken at None old new front_old front_new network later asks whole (other, same, ended) not_so ends = record {
@@ -598,7 +601,7 @@ module _ {R N : Type 0} (custody : R → Custody) (done : N → Option (List Tra
   answered_none result taken at (Some answer) old new front_old front_new network later asks whole (goes, reply, begins, since, mark) not_so ends = absurd (not_so goes)
 
   -- nothing was asked for
-  pub answered_broken : (halt : Halt) (lane : Lane) (front_old front_new : Front R) (network : N) → Asks custody share.conn None front_old front_new → lane.outgoing.left ≡ []
+  pub answered_broken : (halt : Halt) (lane : Lane) (front_old front_new : Front R) (network : N) → Asks custody share.conn (AreHandledBy share.access) None front_old front_new → lane.outgoing.left ≡ []
       → AnswersAndSends custody done share (Err halt) lane lane front_old front_new network network
   answered_broken halt lane front_old front_new network asks whole = record {
     at = as_nanos share.now;
@@ -626,7 +629,7 @@ module _ {R N : Type 0} (custody : R → Custody) (done : N → Option (List Tra
   since_later now mid new since (inr (under_way, whole, outgoing, other, anew)) = anew
 
   pub answered_and_sent : (result : Result Progress Halt) (taken sent : Progress) (after : Share) (answer : Option Answer) (old mid new : Lane) (front_old front_mid front_new : Front R) (network_old network_new : N)
-      → after ≡ record share { now = after.now } → as_nanos share.now ≤ as_nanos after.now → Asks custody share.conn answer front_old front_mid → TakesAnswer answer (as_nanos after.now) taken old mid → taken ≡ Goes
+      → after ≡ record share { now = after.now } → as_nanos share.now ≤ as_nanos after.now → Asks custody share.conn (AreHandledBy share.access) answer front_old front_mid → TakesAnswer answer (as_nanos after.now) taken old mid → taken ≡ Goes
       → Sends done after sent mid new network_old network_new → front_new ≡ front_mid
       → ((xs : List Traffic) → IsEnd share.conn.number xs new sent → EndsAs share.conn.number xs new result)
       → AnswersAndSends custody done share result old new front_old front_new network_old network_new
@@ -637,7 +640,7 @@ module _ {R N : Type 0} (custody : R → Custody) (done : N → Option (List Tra
         at = as_nanos after.now;
         later = later;
         answer = Some answer;
-        asks = subst (λ (f : Front R). Asks custody share.conn (Some answer) front_old f) (sym front) asks;
+        asks = subst (λ (f : Front R). Asks custody share.conn (AreHandledBy share.access) (Some answer) front_old f) (sym front) asks;
         traffic = here.traffic;
         there = here.there;
         nothing_read = here.nothing_read;
@@ -693,6 +696,8 @@ module _ {R N : Type 0} (custody : R → Custody) (done : N → Option (List Tra
         there = reads.there;
       };
       room = inl refl;
+      fed = reads.feeds.served;
+      handled = tt;
       ends = ends_alike last progress share.conn.number reads.traffic new alike reads.ends;
       drops = drops_alike last progress reads.feeds.dropped new.stage alike reads.drops;
       works =
@@ -769,6 +774,8 @@ module _ {R N : Type 0} (custody : R → Custody) (done : N → Option (List Tra
             there = at_on place reads.traffic answers.traffic reads.there answers.there;
           };
           room = inr room;
+          fed = reads.feeds.served;
+          handled = answers.asks.handled;
           ends = ends_last result reads.traffic answers.traffic new answers.ends;
           drops = drops_none result reads.feeds.dropped new.stage (none_dropped last reads.feeds.dropped mid.stage going other reads.drops);
           works =
@@ -791,6 +798,8 @@ module _ {R N : Type 0} (custody : R → Custody) (done : N → Option (List Tra
         parts = here.parts;
         is_step = here.is_step;
         room = here.room;
+        fed = here.fed;
+        handled = here.handled;
         ends = here.ends;
         drops = here.drops;
         works = here.works;

@@ -12,3 +12,5 @@ pub mod StepLemmas
 pub mod TakingLemmas
 pub mod TurnLemmas
 pub mod WorksLemmas
+pub mod AddressLemmas
+pub mod KeepingLemmas

@@ -75,12 +75,12 @@ step_behind step calls nexts was is old new its plays =
 behind : (deeds more : List Deed) (nexts : List (Option Next)) (lanes_old lanes_new : Lanes) (old new : Lines) → AreDone deeds lanes_old lanes_new
     → Plays (calls_of (deeds ++ more)).events (calls_of (deeds ++ more)).outcomes nexts old new → HasMore more new
 behind [] more nexts lanes_old lanes_new old new done plays = (nexts, old, plays)
-behind (opens other ∷ deeds) more (given ∷ nexts) lanes_old lanes_new old new (lanes, is, done) (mid, does, plays) = behind deeds more nexts lanes lanes_new mid new done plays
+behind (opens other access ∷ deeds) more (given ∷ nexts) lanes_old lanes_new old new (lanes, is, done) (mid, does, plays) = behind deeds more nexts lanes lanes_new mid new done plays
 behind (closes other reason ∷ deeds) more (given ∷ nexts) lanes_old lanes_new old new (lanes, is, done) (mid, does, plays) = behind deeds more nexts lanes lanes_new mid new done plays
 behind (steps step ∷ deeds) more nexts lanes_old lanes_new old new (lanes, (was, is, had, its, room, put), done) plays =
     let rest = step_behind step (calls_of (deeds ++ more)) nexts was is old new its plays in
     behind deeds more rest.0 lanes lanes_new rest.1 new done rest.2
-behind (opens other ∷ deeds) more [] lanes_old lanes_new old new done none = absurd none
+behind (opens other access ∷ deeds) more [] lanes_old lanes_new old new done none = absurd none
 behind (closes other reason ∷ deeds) more [] lanes_old lanes_new old new done none = absurd none
 
 same_rest : (a b c d : ℕ) → a + b ≡ c + d → b ≡ d → a ≡ c

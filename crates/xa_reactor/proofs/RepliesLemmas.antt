@@ -297,14 +297,14 @@ step_replied conn step deeds nexts old new stream is_fed is_asked plays there la
 replied : (conn : Conn) (deeds : List Deed) (nexts : List (Option Next)) (lanes_old lanes_new : Lanes) (old new : Lines) (stream : Stream) → AreDone deeds lanes_old lanes_new
     → Plays (calls_of deeds).events (calls_of deeds).outcomes nexts old new → IsOpen conn old stream → LeaveOpen conn deeds → RepliedBy conn deeds nexts stream
 replied conn [] nexts lanes_old lanes_new old new stream done plays there leave = (inl refl, λ over. refl)
-replied conn (opens other ∷ deeds) (given ∷ nexts) lanes_old lanes_new old new stream (lanes, is, done) (mid, does, plays) there (apart, leave) =
+replied conn (opens other access ∷ deeds) (given ∷ nexts) lanes_old lanes_new old new stream (lanes, is, done) (mid, does, plays) there (apart, leave) =
     replied conn deeds nexts lanes lanes_new mid new stream done plays (ap (line_at conn) does.1.1 ∙ set_other conn other old stream _ apart there) leave
 replied conn (closes other reason ∷ deeds) (given ∷ nexts) lanes_old lanes_new old new stream (lanes, is, done) (mid, does, plays) there (apart, leave) =
     replied conn deeds nexts lanes lanes_new mid new stream done plays (ap (line_at conn) does.1.2 ∙ set_other conn other old stream None apart there) leave
 replied conn (steps step ∷ deeds) nexts lanes_old lanes_new old new stream (lanes, (was, is, had, its, room, put), done) plays there (none, leave) =
     step_replied conn step deeds nexts old new stream its.fed its.asked plays there
     (λ others mid after more open_then. replied conn deeds others lanes lanes_new mid new after done more open_then leave)
-replied conn (opens other ∷ deeds) [] lanes_old lanes_new old new stream done none there leave = absurd none
+replied conn (opens other access ∷ deeds) [] lanes_old lanes_new old new stream done none there leave = absurd none
 replied conn (closes other reason ∷ deeds) [] lanes_old lanes_new old new stream done none there leave = absurd none
 
 pub are_replies : (conn : Conn) (deeds : List Deed) (nexts : List (Option Next)) (lanes_old lanes_new : Lanes) (old new : Lines) (stream : Stream) → AreDone deeds lanes_old lanes_new

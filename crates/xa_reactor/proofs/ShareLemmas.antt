@@ -1,28 +1,31 @@
 -- The share of a place: a step of the connection that is open there, behind which it may be closed.
-use Rattle.std.proofs.Common.{◌≡◌, ◌≢◌, ◌≤◌, ◌⊎◌, inl, inr, ℕ, Bool, true, List, [], ◌∷◌, ◌++◌, Option, Some, None, Result, Ok, IsTrue, refl, sym, ap, subst, ◌∙◌}
+use Rattle.std.proofs.Common.{◌≡◌, ◌≢◌, ◌≤◌, ◌⊎◌, inl, inr, ℕ, Bool, true, List, [], ◌∷◌, ◌++◌, length, Option, Some, None, option_map, Result, Ok, Err, IsTrue, refl, sym, ap, subst, ◌∙◌}
 use Rattle.std.proofs.lemmas.List.{append-nil, get_or-set_same, set-set}
 use Rattle.std.specs.Prelude.{slice_set}
 use Rattle.std.specs.Duration.{as_nanos}
 use Rattle.std.specs.declared.time.Duration.{Duration}
 use Rattle.xa_records.specs.Keeper.{Custody}
+use Rattle.xa_server.specs.declared.event.Answer.{Answer}
 use Rattle.xa_server.specs.declared.event.Event.{Event}
 use Rattle.xa_server.specs.declared.event.Outcome.{Outcome}
 use Rattle.xa_server.specs.declared.front.Front.{Front}
 use Rattle.xa_server.specs.declared.lines.Conn.{Conn}
+use Rattle.xa_server.specs.Turning.{Handling}
+use Rattle.xa_reactor.specs.declared.access.Access.{Access}
 use Rattle.xa_reactor.specs.declared.lane.Lane.{Lane}
 use Rattle.xa_reactor.specs.declared.lane.Share.{Share}
 use Rattle.xa_reactor.specs.declared.limits.Stage.{Stage}
 use Rattle.xa_reactor.specs.declared.limits.Stage.TheVariants.{Parting}
 use Rattle.xa_reactor.specs.declared.limits.Terms.{Terms}
 use Rattle.xa_reactor.specs.declared.progress.Progress.{Progress}
-use Rattle.xa_reactor.specs.declared.progress.Progress.TheVariants.{Ends}
+use Rattle.xa_reactor.specs.declared.progress.Progress.TheVariants.{Ends, Goes, Waits}
 use Rattle.xa_reactor.specs.declared.progress.Reason.{Reason}
 use Rattle.xa_reactor.specs.declared.progress.Reason.TheVariants.{Ended, Failed, Idle, Late, DrivenOut, WantOfMemory}
-use Rattle.xa_reactor.specs.Step.{Calls, DropsAs, DropsBy, EndsAs, IsStep, Step, Works, joined, no_calls}
-use Rattle.xa_reactor.specs.Timing.{IsParted}
-use Rattle.xa_reactor.specs.Traffic.{Traffic}
-use Rattle.xa_reactor.specs.Turn.{AreDone, BreaksOff, Deed, IsDone, IsShareOf, IsStepIn, Lanes, calls_in, calls_of, closes, lane_at, steps, traffic_in, traffic_of, under_way}
-use Rattle.xa_reactor.specs.handling.Turning.{Closes, Does, EndsIf, IsShareAt, StepsAt}
+use Rattle.xa_reactor.specs.Step.{AreHandledBy, Calls, DropsAs, DropsBy, EndsAs, IsStep, IsStepOn, PartsBehind, Step, Works, joined, no_calls}
+use Rattle.xa_reactor.specs.Timing.{IsParted, KeepsMark}
+use Rattle.xa_reactor.specs.Traffic.{Traffic, sent_at}
+use Rattle.xa_reactor.specs.Turn.{AreDone, Deed, IsDone, IsShareOf, IsStepIn, Lanes, calls_in, calls_of, closes, lane_at, steps, traffic_in, traffic_of, under_way}
+use Rattle.xa_reactor.specs.handling.Turning.{Closes, Does, EndsIf, IsShareAt, OpensNone, StepsAt}
 use Rattle.xa_reactor.proofs.AlikeLemmas.{within}
 use Rattle.xa_reactor.proofs.DeedLemmas.{does_more, does_none, done_one}
 
@@ -36,8 +39,9 @@ there_now place lanes lane put there = get_or-set_same lanes place put None (wit
 -- one deed's calls are those of a list of it alone
 one_call : (calls : Calls) → calls ≡ joined calls no_calls
 one_call calls =
-    ap (λ (es : List Event). record { events = es; outcomes = calls.outcomes }) (sym (append-nil calls.events))
-    ∙ ap (λ (os : List Outcome). record { events = calls.events ++ []; outcomes = os }) (sym (append-nil calls.outcomes))
+    ap (λ (hs : List Handling). record { hows = hs; events = calls.events; outcomes = calls.outcomes }) (sym (append-nil calls.hows))
+    ∙ ap (λ (es : List Event). record { hows = calls.hows ++ []; events = es; outcomes = calls.outcomes }) (sym (append-nil calls.events))
+    ∙ ap (λ (os : List Outcome). record { hows = calls.hows ++ []; events = calls.events ++ []; outcomes = os }) (sym (append-nil calls.outcomes))
 
 module _ {R N : Type 0} (custody : R → Custody) (done : N → Option (List Traffic)) where
   pub works_one : (deed : Deed) (front_old front_new : Front R) (network_old network_new : N)
@@ -53,24 +57,71 @@ module _ {R N : Type 0} (custody : R → Custody) (done : N → Option (List Tra
   room_of has_room lanes none room (inl nothing) = inl nothing
   room_of has_room lanes none room (inr has) = inr (room has)
 
+  -- at which address it came makes no difference to what a step does to it, nor to why it ends
+  marks_so : (at sent : ℕ) (answer : Option Answer) (was is : Lane) (access : Access) → KeepsMark at sent answer was is → KeepsMark at sent answer was (record is { access = access })
+  marks_so at sent None was is access it = it
+  marks_so at sent (Some answer) was is access it = it
+
+  step_on_so : (step : Step) (was is : Lane) (access : Access) → IsStepOn step was is → IsStepOn step was (record is { access = access })
+  step_on_so step was is access it = record {
+    fed = it.fed;
+    asked = it.asked;
+    received = it.received;
+    sent = it.sent;
+    held = it.held;
+    unread = it.unread;
+    parted = it.parted;
+    parts = λ parts. parts_so (it.parts parts);
+    time = it.time;
+    marks = λ replies. marks_so step.at (length (sent_at step.conn.number step.traffic)) step.answer was is access (it.marks replies);
+    there = it.there;
+  }
+    where
+      parts_so : (was.stage ≡ Parting) ⊎ PartsBehind step was.outgoing is → (was.stage ≡ Parting) ⊎ PartsBehind step was.outgoing (record is { access = access })
+      parts_so (inl parted) = inl parted
+      parts_so (inr parts) = inr (record { whole = parts.whole; reply = parts.reply; why = parts.why })
+
+  ends_so : {E : Type 0} (result : Result Progress E) (terms : Terms) (step : Step) (is : Lane) (access : Access) → EndsIf terms step is result → EndsIf terms step (record is { access = access }) result
+  ends_so (Ok Waits) terms step is access it = it
+  ends_so (Ok Goes) terms step is access it = it
+  ends_so (Ok (Ends Ended)) terms step is access it = it
+  ends_so (Ok (Ends Failed)) terms step is access it = it
+  ends_so (Ok (Ends Idle)) terms step is access it = it
+  ends_so (Ok (Ends Late)) terms step is access it = it
+  ends_so (Ok (Ends DrivenOut)) terms step is access it = it
+  ends_so (Ok (Ends WantOfMemory)) terms step is access it = it
+  ends_so (Err error) terms step is access it = it
+
+  -- the access of a share is that of its connection
+  access_of : (place : ℕ) (old : Lanes) (was : Lane) (access : Access) → Some was ≡ lane_at place old → option_map (λ lane. lane.access) (lane_at place old) ≡ Some access → was.access ≡ access
+  access_of place old was access there came =
+      let same : Some was.access ≡ Some access = ap (λ (l : Option Lane). option_map (λ lane. lane.access) l) there ∙ came in cc
+
   -- the connection is taken out, has its step, and is put back
   pub steps_at : {E : Type 0} (share : Share) (went result : Result Progress E) (terms : Terms) (was is : Lane) (old : Lanes) (front_old front_new : Front R)
       (network_old network_new : N) → Some was ≡ lane_at share.conn.number old → IsStep custody done share went was is front_old front_new network_old network_new
       → IsShareAt share terms share.conn.number old → ((step : Step) → EndsAs step.conn.number step.traffic is went → EndsIf terms step is result)
       → ((dropped : List ℕ) → DropsAs dropped is.stage went → DropsAs dropped is.stage result)
-      → StepsAt custody done result terms share.conn.number old (slice_set (slice_set old share.conn.number None) share.conn.number (Some is)) front_old front_new network_old network_new
+      → StepsAt custody done result terms share.conn.number old (slice_set (slice_set old share.conn.number None) share.conn.number (Some (record is { access = share.access }))) front_old front_new network_old network_new
   steps_at share went result terms was is old front_old front_new network_old network_new there stepped known ends drops = record {
     step = stepped.step;
     was = was;
-    is = is;
+    is = record is { access = share.access };
     there = sym there;
     its = stepped.its;
     within = (subst (λ (time : Duration). as_nanos time ≤ stepped.step.at) known.at stepped.later, stepped.parts ∙ known.parts);
-    is_step = stepped.is_step;
-    room = room_of share.has_room old (stepped.step.answer ≡ None) known.room stepped.room;
-    ends = ends stepped.step stepped.ends;
+    is_step = step_on_so stepped.step was is share.access stepped.is_step;
+    answers =
+        let same = access_of share.conn.number old was share.access there known.came in
+        record {
+          room = room_of share.has_room old (stepped.step.answer ≡ None) known.room stepped.room;
+          fed = stepped.fed;
+          handled = subst (λ (access : Access). AreHandledBy access stepped.step.asked.hows) (sym same) stepped.handled;
+          came = sym same;
+        };
+    ends = ends_so result terms stepped.step is share.access (ends stepped.step stepped.ends);
     drops = drops stepped.step.dropped stepped.drops;
-    put = set-set old share.conn.number None (Some is);
+    put = set-set old share.conn.number None (Some (record is { access = share.access }));
     works = stepped.works;
   }
 
@@ -98,7 +149,7 @@ module _ {R N : Type 0} (custody : R → Custody) (done : N → Option (List Tra
       steps_of.is,
       ap (λ (n : ℕ). lane_at n old) number ∙ steps_of.there,
       steps_of.is_step,
-      steps_of.room,
+      steps_of.answers,
       steps_of.put ∙ ap (λ (n : ℕ). slice_set old n (Some steps_of.is)) (sym number),
     )
 
@@ -126,8 +177,9 @@ module _ {R N : Type 0} (custody : R → Custody) (done : N → Option (List Tra
     }
 
     -- the program halts
-    pub shared_broken : BreaksOff custody done old mid front_old front_mid network_old network_mid
-    shared_broken = record { deeds = one_step.deeds; are_done = one_step.are_done; works = one_step.works }
+    pub shared_broken : Does custody done OpensNone old mid front_old front_mid network_old network_mid
+    unfolding one_step
+    shared_broken = record { deeds = steps steps_of.step ∷ []; are_so = tt; are_done = one_step.are_done; works = one_step.works }
 
     -- a connection is there still
     pub still_there : lane_at place mid ≡ Some steps_of.is

@@ -134,7 +134,7 @@ stepped conn step old mid was before is there had its put = by_number (eqb_tells
 goes_out : (conn : Conn) (deeds : List Deed) (old new : Lanes) (was : Lane) → AreDone deeds old new → lane_at conn.number old ≡ Some was → LeaveOpen conn deeds
     → GoesOut conn.number new was (answers_to conn deeds) (traffic_of deeds)
 goes_out conn [] old new was same there leave = kept conn.number new was (ap (lane_at conn.number) same ∙ there)
-goes_out conn (opens other ∷ deeds) old new was (mid, (lane, free, nothing, put), done) there (apart, leave) =
+goes_out conn (opens other access ∷ deeds) old new was (mid, (lane, free, nothing, put), done) there (apart, leave) =
     goes_out conn deeds mid new was done
     (ap (lane_at conn.number) put ∙ get_or-set_other old other.number conn.number (Some lane) None (λ same. apart (sym same)) ∙ there) leave
 goes_out conn (closes other reason ∷ deeds) old new was (mid, (lane, had, put), done) there (apart, leave) =
@@ -256,13 +256,13 @@ step_read conn step deeds nexts was is old new its plays later =
 is_read : (conn : Conn) (deeds : List Deed) (nexts : List (Option Next)) (lanes_old lanes_new : Lanes) (old new : Lines) → AreDone deeds lanes_old lanes_new → LeaveOpen conn deeds
     → Plays (calls_of deeds).events (calls_of deeds).outcomes nexts old new → IsRead conn deeds nexts
 is_read conn [] nexts lanes_old lanes_new old new done leave plays = (refl, tt)
-is_read conn (opens other ∷ deeds) (given ∷ nexts) lanes_old lanes_new old new (lanes, does, done) (apart, leave) (mid, opened, plays) =
+is_read conn (opens other access ∷ deeds) (given ∷ nexts) lanes_old lanes_new old new (lanes, does, done) (apart, leave) (mid, opened, plays) =
     let on = is_read conn deeds nexts lanes lanes_new mid new done leave plays in (on.0, (tt, on.1))
 is_read conn (closes other reason ∷ deeds) (given ∷ nexts) lanes_old lanes_new old new (lanes, does, done) (apart, leave) (mid, closed, plays) =
     let on = is_read conn deeds nexts lanes lanes_new mid new done leave plays in (on.0, (apart, on.1))
 is_read conn (steps step ∷ deeds) nexts lanes_old lanes_new old new (lanes, (was, is, had, its, room, put), done) (none, leave) plays =
     step_read conn step deeds nexts was is old new its plays (λ others mid more. is_read conn deeds others lanes lanes_new mid new done leave more)
-is_read conn (opens other ∷ deeds) [] lanes_old lanes_new old new does leave none = absurd none
+is_read conn (opens other access ∷ deeds) [] lanes_old lanes_new old new does leave none = absurd none
 is_read conn (closes other reason ∷ deeds) [] lanes_old lanes_new old new does leave none = absurd none
 
 -- ---- the law

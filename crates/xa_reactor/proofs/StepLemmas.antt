@@ -1,7 +1,7 @@
 -- What one call of a front does for a connection, and what goes over a network one after another.
 use denote.Ref.{Bor}
-use Rattle.std.proofs.Common.{◌≡◌, ◌<◌, inl, inr, ℕ, ℤ, zero, suc, List, [], ◌∷◌, ◌++◌, length, get_or, set-set, IsTrue, Option, Some, None, Result, Ok, Err, nat_eq, refl, sym, ap, subst, ◌∙◌, arith}
-use Rattle.std.specs.Prelude.{if◌then◌else◌, true}
+use Rattle.std.proofs.Common.{◌≡◌, ◌<◌, ◌⊎◌, inl, inr, Bool, ℕ, ℤ, zero, suc, List, [], ◌∷◌, ◌++◌, length, get_or, set-set, IsTrue, Option, Some, None, Result, Ok, Err, nat_eq, refl, sym, ap, subst, ◌∙◌, arith}
+use Rattle.std.specs.Prelude.{if◌then◌else◌, IsSomeAnd, false, true}
 use Rattle.std.proofs.lemmas.Bool.{eq-eqb}
 use Rattle.std.proofs.lemmas.List.{append-nil, append_assoc, get_or-set_same}
 use Rattle.xa_http.specs.declared.session.Next.{Next}
@@ -17,11 +17,16 @@ use Rattle.xa_server.specs.declared.front_error.FrontError.TheVariants.{Memory, 
 use Rattle.xa_server.specs.declared.lines.Conn.{Conn}
 use Rattle.xa_server.specs.Front.{AnswersAt, IsPlayed, Plays}
 use Rattle.xa_server.specs.Lines.{IsHeld, IsOpen, Lines, line_at, with_line}
+use Rattle.xa_http.specs.Changing.{TellsChange}
+use Rattle.xa_server.specs.Turning.{Handling, TurnsAwayAt, serves, serves_unchanging, turns_away}
 use Rattle.xa_server.proofs.LineLemmas.{line_kept}
-use Rattle.xa_reactor.specs.Step.{Lasts, no_calls}
+use Rattle.xa_server.proofs.TurningLemmas.{beside_same, beside_turned, beside_unchanging}
+use Rattle.xa_reactor.specs.declared.access.Access.{Access}
+use Rattle.xa_reactor.specs.declared.access.Access.TheVariants.{All, Changes}
+use Rattle.xa_reactor.specs.Step.{AreHandledBy, IsHandledBy, Lasts, no_calls}
 use Rattle.xa_reactor.specs.Traffic.{AreAt, HasFailedIn, Traffic, failed, finished, received, received_at, seated, sent, sent_at, vacated}
-use Rattle.xa_reactor.specs.handling.Going.{Asks, Feeds, FeedsBy, answer_of_outcome, held_in}
-use Rattle.xa_reactor.proofs.WorksLemmas.{makes_none, makes_one}
+use Rattle.xa_reactor.specs.handling.Going.{AreAll, Asks, Feeds, FeedsBy, answer_in, answer_of_outcome, held_in}
+use Rattle.xa_reactor.proofs.WorksLemmas.{makes_beside, makes_none, makes_one}
 
 -- ---- what goes over a network
 
@@ -192,7 +197,8 @@ module _ {R : Type 0} (custody : R → Custody) where
     feeds = record {
       read = piece.now;
       dropped = [];
-      calls = record { events = event.Piece conn piece ∷ []; outcomes = outcome.Held (Ok done) ∷ [] };
+      calls = record { hows = serves ∷ []; events = event.Piece conn piece ∷ []; outcomes = outcome.Held (Ok done) ∷ [] };
+      served = (tt, tt);
       all = sym (append-nil piece.now);
       fed = (refl, refl, refl);
       makes = makes_one custody (event.Piece conn piece) (outcome.Held (Ok done)) old new played;
@@ -204,7 +210,8 @@ module _ {R : Type 0} (custody : R → Custody) where
     feeds = record {
       read = [];
       dropped = piece.now;
-      calls = record { events = event.Piece conn piece ∷ []; outcomes = outcome.Held (Err error) ∷ [] };
+      calls = record { hows = serves ∷ []; events = event.Piece conn piece ∷ []; outcomes = outcome.Held (Err error) ∷ [] };
+      served = (tt, tt);
       all = refl;
       fed = (refl, refl, refl);
       makes = makes_one custody (event.Piece conn piece) (outcome.Held (Err error)) old new played;
@@ -216,18 +223,20 @@ module _ {R : Type 0} (custody : R → Custody) where
   fed_piece conn piece (outcome.Answered result) old new played = absurd (never_fed conn piece (outcome.Answered result) played.nexts old.lines new.lines (λ given e. absurd cc) played.plays)
   fed_piece conn piece (outcome.Finished result) old new played = absurd (never_fed conn piece (outcome.Finished result) played.nexts old.lines new.lines (λ given e. absurd cc) played.plays)
 
-  -- an answer was asked for
+  -- an answer was asked for, and whatever its message asked for was served
   pub asked_next : (conn : Conn) (moment : ℤ) (o : Outcome) (old new : Front R)
       → IsPlayed custody old new (event.Answer conn moment ∷ []) (o ∷ [])
-      → Asks custody conn (answer_of_outcome o) old new
+      → Asks custody conn (AreAll serves) (answer_of_outcome o) old new
   asked_next conn moment (outcome.Answered (Ok given)) old new played = record {
-    calls = record { events = event.Answer conn moment ∷ []; outcomes = outcome.Answered (Ok given) ∷ [] };
+    calls = record { hows = serves ∷ []; events = event.Answer conn moment ∷ []; outcomes = outcome.Answered (Ok given) ∷ [] };
+    handled = (refl, tt);
     asked = (refl, refl);
     makes = makes_one custody (event.Answer conn moment) (outcome.Answered (Ok given)) old new played;
     lasts = answer_lasts conn moment (outcome.Answered (Ok given)) played.nexts old.lines new.lines played.plays;
   }
   asked_next conn moment (outcome.Answered (Err error)) old new played = record {
-    calls = record { events = event.Answer conn moment ∷ []; outcomes = outcome.Answered (Err error) ∷ [] };
+    calls = record { hows = serves ∷ []; events = event.Answer conn moment ∷ []; outcomes = outcome.Answered (Err error) ∷ [] };
+    handled = (refl, tt);
     asked = (refl, refl);
     makes = makes_one custody (event.Answer conn moment) (outcome.Answered (Err error)) old new played;
     lasts = answer_lasts conn moment (outcome.Answered (Err error)) played.nexts old.lines new.lines played.plays;
@@ -235,6 +244,35 @@ module _ {R : Type 0} (custody : R → Custody) where
   asked_next conn moment (outcome.Begun result) old new played = absurd (never_asked conn moment (outcome.Begun result) played.nexts old.lines new.lines (λ given e. absurd cc) played.plays)
   asked_next conn moment (outcome.Held result) old new played = absurd (never_asked conn moment (outcome.Held result) played.nexts old.lines new.lines (λ given e. absurd cc) played.plays)
   asked_next conn moment (outcome.Finished result) old new played = absurd (never_asked conn moment (outcome.Finished result) played.nexts old.lines new.lines (λ given e. absurd cc) played.plays)
+
+  -- and its message asked for no change
+  pub asked_unchanging : (conn : Conn) (moment : ℤ) (o : Outcome) (old new : Front R) (stream : Stream) → IsOpen conn old.lines stream → TellsChange stream false
+      → IsPlayed custody old new (event.Answer conn moment ∷ []) (o ∷ [])
+      → Asks custody conn (AreAll serves_unchanging) (answer_of_outcome o) old new
+  asked_unchanging conn moment (outcome.Answered (Ok given)) old new stream opens tells played = record {
+    calls = record { hows = serves_unchanging ∷ []; events = event.Answer conn moment ∷ []; outcomes = outcome.Answered (Ok given) ∷ [] };
+    handled = (refl, tt);
+    asked = (refl, refl);
+    makes =
+        makes_beside custody (record { hows = serves_unchanging ∷ []; events = event.Answer conn moment ∷ []; outcomes = outcome.Answered (Ok given) ∷ [] }) old new
+        (beside_unchanging custody old new conn moment (Ok given) stream opens tells played);
+    lasts = answer_lasts conn moment (outcome.Answered (Ok given)) played.nexts old.lines new.lines played.plays;
+  }
+  asked_unchanging conn moment (outcome.Answered (Err error)) old new stream opens tells played = record {
+    calls = record { hows = serves_unchanging ∷ []; events = event.Answer conn moment ∷ []; outcomes = outcome.Answered (Err error) ∷ [] };
+    handled = (refl, tt);
+    asked = (refl, refl);
+    makes =
+        makes_beside custody (record { hows = serves_unchanging ∷ []; events = event.Answer conn moment ∷ []; outcomes = outcome.Answered (Err error) ∷ [] }) old new
+        (beside_unchanging custody old new conn moment (Err error) stream opens tells played);
+    lasts = answer_lasts conn moment (outcome.Answered (Err error)) played.nexts old.lines new.lines played.plays;
+  }
+  asked_unchanging conn moment (outcome.Begun result) old new stream opens tells played =
+      absurd (never_asked conn moment (outcome.Begun result) played.nexts old.lines new.lines (λ given e. absurd cc) played.plays)
+  asked_unchanging conn moment (outcome.Held result) old new stream opens tells played =
+      absurd (never_asked conn moment (outcome.Held result) played.nexts old.lines new.lines (λ given e. absurd cc) played.plays)
+  asked_unchanging conn moment (outcome.Finished result) old new stream opens tells played =
+      absurd (never_asked conn moment (outcome.Finished result) played.nexts old.lines new.lines (λ given e. absurd cc) played.plays)
 
   -- nothing was handed on, and no answer was asked for, because there was nothing to; or it was dropped
   module _ (is_open : (s : R) → (custody s).sound → IsTrue (custody s).is_open) where
@@ -245,9 +283,71 @@ module _ {R : Type 0} (custody : R → Custody) where
       calls = no_calls;
       all = refl;
       fed = refl;
+      served = tt;
       makes = makes_none custody is_open front;
       lasts = lasts_none conn front.lines;
     }
 
-    pub asked_none : (conn : Conn) (front : Front R) → Asks custody conn None front front
-    asked_none conn front = record { calls = no_calls; asked = refl; makes = makes_none custody is_open front; lasts = lasts_none conn front.lines }
+    pub asked_none : (conn : Conn) (are : List Handling → Type 0) (front : Front R) → are [] → Asks custody conn are None front front
+    asked_none conn are front none = record { calls = no_calls; handled = none; asked = refl; makes = makes_none custody is_open front; lasts = lasts_none conn front.lines }
+
+    -- what is the same in its connections and its server
+    asked_same : (conn : Conn) (are : List Handling → Type 0) (old new : Front R) → are [] → new.lines ≡ old.lines → new.server ≡ old.server → Asks custody conn are None old new
+    asked_same conn are old new none lines server = record {
+      calls = no_calls;
+      handled = none;
+      asked = refl;
+      makes = makes_beside custody no_calls old new (beside_same custody is_open old new lines server);
+      lasts = lasts_same conn old.lines new.lines lines;
+    }
+
+    -- its message, which asks for a change, was turned away; or for want of memory nothing was done
+    pub asked_away : (conn : Conn) (moment : ℤ) (result : Result (Option Answer) FrontError) (old new : Front R) (stream : Stream) → IsOpen conn old.lines stream → TellsChange stream true
+        → TurnsAwayAt conn old.lines result new.lines → new.server ≡ old.server → Asks custody conn (AreAll turns_away) (answer_in result) old new
+    asked_away conn moment (Ok (Some answer)) old new stream opens tells turns server = record {
+      calls = record { hows = turns_away ∷ []; events = event.Answer conn moment ∷ []; outcomes = outcome.Answered (Ok (Some answer)) ∷ [] };
+      handled = (refl, tt);
+      asked = (refl, refl);
+      makes =
+          makes_beside custody (record { hows = turns_away ∷ []; events = event.Answer conn moment ∷ []; outcomes = outcome.Answered (Ok (Some answer)) ∷ [] }) old new
+          (beside_turned custody is_open conn moment old new stream answer opens tells turns server);
+      lasts = lasts_put conn old.lines new.lines turns.1 turns.5;
+    }
+    asked_away conn moment (Ok None) old new stream opens tells (was, there, none, lines) server = asked_same conn (AreAll turns_away) old new tt lines server
+    asked_away conn moment (Err NoSuchConnection) old new stream opens tells (none, lines) server = asked_same conn (AreAll turns_away) old new tt lines server
+    asked_away conn moment (Err Memory) old new stream opens tells (was, there, lines) server = asked_same conn (AreAll turns_away) old new tt lines server
+    asked_away conn moment (Err TooManyConnections) old new stream opens tells none server = absurd none
+    asked_away conn moment (Err Full) old new stream opens tells none server = absurd none
+
+-- what is known of something that is there
+pub some_and : {X : Type 0} (o : Option X) (P : X → Type 0) → IsSomeAnd o P → (x : X) × (o ≡ Some x) × P x
+some_and None P none = absurd none
+some_and (Some x) P it = (x, refl, it)
+
+-- how it was handled, by the address at which its connection came
+pub all_by : (access : Access) (how : Handling) (hows : List Handling) → IsHandledBy access how → AreAll how hows → AreHandledBy access hows
+all_by access how [] by none = tt
+all_by access how (one ∷ hows) by (same, are) = (subst (λ (h : Handling). IsHandledBy access h) (sym same) by, all_by access how hows by are)
+
+-- what is known of how it was handled is so, too
+pub asked_by : {R : Type 0} (custody : R → Custody) (conn : Conn) (are others : List Handling → Type 0) (answer : Option Answer) (old new : Front R)
+    → ((hows : List Handling) → are hows → others hows) → Asks custody conn are answer old new → Asks custody conn others answer old new
+asked_by custody conn are others answer old new so asks =
+    record { calls = asks.calls; handled = so asks.calls.hows asks.handled; asked = asks.asked; makes = asks.makes; lasts = asks.lasts }
+
+-- it was handled by the front as it was before
+pub asked_from : {R : Type 0} (custody : R → Custody) (conn : Conn) (are : List Handling → Type 0) (answer : Option Answer) (old mid new : Front R) → mid ≡ old
+    → Asks custody conn are answer mid new → Asks custody conn are answer old new
+asked_from {R} custody conn are answer old mid new same asks = subst (λ (f : Front R). Asks custody conn are answer f new) same asks
+
+-- what was told of a connection is so of it still
+pub told_so : {R : Type 0} (conn : Conn) (asked now : Front R) (says told : Bool) → now ≡ asked → says ≡ told
+    → IsSomeAnd (line_at conn asked.lines) (λ stream. TellsChange stream says) → IsSomeAnd (line_at conn now.lines) (λ stream. TellsChange stream told)
+told_so {R} conn asked now says told same is tells =
+    subst (λ (f : Front R). IsSomeAnd (line_at conn f.lines) (λ stream. TellsChange stream told)) (sym same)
+    (subst (λ (b : Bool). IsSomeAnd (line_at conn asked.lines) (λ stream. TellsChange stream b)) is tells)
+
+-- at the only address, and at that for changes, what comes is served
+pub serves_by : (access : Access) → (access ≡ All) ⊎ (access ≡ Changes) → IsHandledBy access serves
+serves_by access (inl is) = subst (λ (a : Access). IsHandledBy a serves) (sym is) tt
+serves_by access (inr is) = subst (λ (a : Access). IsHandledBy a serves) (sym is) tt

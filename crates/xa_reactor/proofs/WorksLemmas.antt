@@ -6,7 +6,8 @@ use Rattle.xa_server.specs.declared.event.Outcome.{Outcome}
 use Rattle.xa_server.specs.declared.front.Front.{Front}
 use Rattle.xa_server.specs.Front.{IsPlayed, front_is_sound}
 use Rattle.xa_server.specs.Transfers.{Grows}
-use Rattle.xa_server.proofs.PlayLemmas.{none_played, played_on}
+use Rattle.xa_server.specs.Turning.{IsPlayedBeside, serves}
+use Rattle.xa_server.proofs.TurningLemmas.{beside_none, beside_on, beside_one}
 use Rattle.xa_server.proofs.TransferLemmas.{grows_none, grows_trans}
 use Rattle.xa_reactor.specs.Step.{Calls, Keeps, Works, joined, no_calls}
 use Rattle.xa_reactor.specs.Traffic.{Traffic}
@@ -34,7 +35,7 @@ module _ {R : Type 0} (custody : R → Custody) (is_open : (s : R) → (custody 
   -- it made no call
   pub makes_none : (front : Front R) → Makes custody no_calls front front
   makes_none front = record {
-    played = none_played custody is_open front;
+    played = beside_none custody is_open front;
     keeps = keeps_none custody front;
   }
 
@@ -46,7 +47,7 @@ module _ {R : Type 0} (custody : R → Custody) (is_open : (s : R) → (custody 
   pub makes_more : (old mid new : Front R) (calls more : Calls) → Makes custody calls old mid → Makes custody more mid new → Makes custody (joined calls more) old new
   makes_more old mid new calls more first later = record {
     played =
-        played_on custody is_open old mid new calls.events more.events calls.outcomes more.outcomes first.played later.played;
+        beside_on custody is_open old mid new calls.hows more.hows calls.events more.events calls.outcomes more.outcomes first.played later.played;
     keeps = keeps_more custody old mid new first.keeps later.keeps;
   }
 
@@ -56,7 +57,7 @@ module _ {R : Type 0} (custody : R → Custody) (is_open : (s : R) → (custody 
     -- they did nothing
     pub works_none : (front : Front R) (network : N) → Works custody done no_calls [] front front network network
     works_none front network = record {
-      played = none_played custody is_open front;
+      played = beside_none custody is_open front;
       keeps = keeps_none custody front;
       grows = grows_none (done network);
     }
@@ -67,7 +68,7 @@ module _ {R : Type 0} (custody : R → Custody) (is_open : (s : R) → (custody 
     works_same front_old front_new network_old network_new same unchanged =
         subst (λ (f : Front R). Works custody done no_calls [] front_old f network_old network_new) (sym same)
         (record {
-          played = none_played custody is_open front_old;
+          played = beside_none custody is_open front_old;
           keeps = keeps_none custody front_old;
           grows = grows_same (done network_old) (done network_new) unchanged;
         })
@@ -85,7 +86,7 @@ module _ {R : Type 0} (custody : R → Custody) (is_open : (s : R) → (custody 
         → Works custody done (joined calls more) (traffic ++ later) front_old front_new network_old network_new
     works_more calls more traffic later front_old front_mid front_new network_old network_mid network_new sound first after = record {
       played =
-          played_on custody is_open front_old front_mid front_new calls.events more.events calls.outcomes more.outcomes first.played
+          beside_on custody is_open front_old front_mid front_new calls.hows more.hows calls.events more.events calls.outcomes more.outcomes first.played
           after.played;
       keeps = keeps_more custody front_old front_mid front_new first.keeps after.keeps;
       grows = grows_trans (done network_old) (done network_mid) (done network_new) traffic later first.grows after.grows;
@@ -110,11 +111,15 @@ module _ {R : Type 0} (custody : R → Custody) (is_open : (s : R) → (custody 
       grows = same_then_grows (done network_old) (done network_mid) (done network_new) traffic same works.grows;
     }
 
--- a front made one call, by `Front::step`
-pub makes_one : {R : Type 0} (custody : R → Custody) (e : Event) (o : Outcome) (old new : Front R)
-    → IsPlayed custody old new (e ∷ []) (o ∷ []) → Makes custody (record { events = e ∷ []; outcomes = o ∷ [] }) old new
-makes_one custody e o old new played =
-    let keeper = played.served.keeper in
+-- a front made these calls
+pub makes_beside : {R : Type 0} (custody : R → Custody) (calls : Calls) (old new : Front R) → IsPlayedBeside custody old new calls.hows calls.events calls.outcomes → Makes custody calls old new
+makes_beside custody calls old new beside =
+    let keeper = beside.served.keeper in
     let keeps : Keeps custody old new =
     record { sound = keeper.sound; clean = keeper.clean; was_open = keeper.was_open; stays = keeper.stays } in
-    record { played = played; keeps = keeps }
+    record { played = beside; keeps = keeps }
+
+-- a front made one call, by `Front::step`
+pub makes_one : {R : Type 0} (custody : R → Custody) (e : Event) (o : Outcome) (old new : Front R)
+    → IsPlayed custody old new (e ∷ []) (o ∷ []) → Makes custody (record { hows = serves ∷ []; events = e ∷ []; outcomes = o ∷ [] }) old new
+makes_one custody e o old new played = makes_beside custody (record { hows = serves ∷ []; events = e ∷ []; outcomes = o ∷ [] }) old new (beside_one custody old new e o played)

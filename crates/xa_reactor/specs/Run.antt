@@ -1,6 +1,6 @@
 -- The run of a reactor: turns, one after another; and what they come to for each connection.
 use Rattle.std.specs.Prelude.{◌≡◌, ◌≢◌, ◌⊎◌, ℕ, true, List, [], ◌∷◌, ◌++◌, map, Option, Some, None, if◌then◌else◌}
-use Rattle.std.specs.Prelude.{nat_eq}
+use Rattle.std.specs.Prelude.{Bool, false, nat_eq}
 use Rattle.std.specs.List.{Contains, flat_map}
 use Rattle.std.specs.declared.time.Duration.{Duration}
 use Rattle.xa_http.specs.declared.fault.SessionFault.{SessionFault}
@@ -16,15 +16,15 @@ use Rattle.xa_server.specs.declared.lines.Conn.{Conn}
 use Rattle.xa_server.specs.declared.replies.Reply.{Reply}
 use Rattle.xa_server.specs.declared.replies.Reply.TheVariants.{Sent}
 use Rattle.xa_server.specs.ErrorCode.{code_of_session_fault, error_reply}
-use Rattle.xa_server.specs.Front.{Plays, front_is_sound}
+use Rattle.xa_server.specs.Front.{IsPlayed, Plays, front_is_sound}
 use Rattle.xa_server.specs.FrontLaws.{exchanges_on}
 use Rattle.xa_server.specs.Lines.{IsOpen, Lines}
 use Rattle.xa_reactor.specs.declared.lane.Lane.{Lane}
 use Rattle.xa_reactor.specs.Sending.{answer_bytes}
 use Rattle.xa_reactor.specs.Step.{Calls, Works, joined}
 use Rattle.xa_reactor.specs.Traffic.{Traffic, sent_at}
-use Rattle.xa_reactor.specs.Turn.{AreDone, Deed, IsTurn, Lanes, Turn, calls_of, closes, deeds_in, lane_at, no_lanes}
-use Rattle.xa_reactor.specs.Turn.{opens, steps, traffic_of}
+use Rattle.xa_reactor.specs.Turn.{AreDone, Deed, FitAll, IsTurn, Lanes, Turn, calls_of, closes, deeds_in, lane_at}
+use Rattle.xa_reactor.specs.Turn.{no_lanes, opens, steps, traffic_of}
 
 -- what was done in turns
 abbrev pub deeds_of : List Turn → List Deed
@@ -35,10 +35,11 @@ abbrev pub AreTurns : List Turn → Lanes → Lanes → Type 0
 AreTurns [] old new = new ≡ old
 AreTurns (turn ∷ turns) old new = (mid : Lanes) × IsTurn turn old mid × AreTurns turns mid new
 
--- Connections were served at once, turn after turn; `begun` was done of a turn that was broken off. All of their
--- messages, in the order in which they were cut off, are one run of the server, with its headline beside refusals and
--- its work (`Works`, by `IsPlayed`). Nothing else was read or written at any place.
-pub record IsServedAtOnce {R N : Type 0} (custody : R → Custody) (done : N → Option (List Traffic))
+-- Connections were served at once, turn after turn, which came at one address, or at two; `begun` was done of a turn
+-- that was broken off. All of their messages but those that were turned away, in the order in which they were cut off,
+-- are one run of the server, with its headline beside refusals and its work (`Works`, by `IsPlayedBeside`). Nothing
+-- else was read or written at any place.
+pub record IsServedAtOnce {R N : Type 0} (custody : R → Custody) (done : N → Option (List Traffic)) (split : Bool)
     (front_old front_new : Front R) (network_old network_new : N) : Type 0 where
   pub turns : List Turn
   pub begun : List Deed
@@ -46,8 +47,12 @@ pub record IsServedAtOnce {R N : Type 0} (custody : R → Custody) (done : N →
   pub left : Lanes
   pub are_turns : AreTurns turns no_lanes mid
   pub are_done : AreDone begun mid left
+  pub fit : FitAll split (deeds_of turns ++ begun)
   pub works : Works custody done (calls_of (deeds_of turns ++ begun)) (traffic_of (deeds_of turns ++ begun)) front_old
       front_new network_old network_new
+  -- at one address no message is turned away: all of them are that run
+  pub one : split ≡ false → IsPlayed custody front_old front_new (calls_of (deeds_of turns ++ begun)).events
+      (calls_of (deeds_of turns ++ begun)).outcomes
 
 -- the program was told to end: when a turn began that was known
 abbrev pub AreToldToEnd : List Turn → Type 0
@@ -56,18 +61,22 @@ AreToldToEnd turns = (turn : Turn) × Contains turns turn × (turn.board.end ≡
 -- connections were served at once, turn after turn, until all had ended; and the program was told to end, or had been
 -- before
 pub record IsServedWhole {R N : Type 0} (custody : R → Custody) (done : N → Option (List Traffic))
-    (leaving : Option Duration) (front_old front_new : Front R) (network_old network_new : N) : Type 0 where
+    (split : Bool) (leaving : Option Duration) (front_old front_new : Front R) (network_old network_new : N)
+    : Type 0 where
   pub turns : List Turn
   pub are_turns : AreTurns turns no_lanes no_lanes
   pub told : (leaving ≢ None) ⊎ AreToldToEnd turns
+  pub fit : FitAll split (deeds_of turns)
   pub works : Works custody done (calls_of (deeds_of turns)) (traffic_of (deeds_of turns)) front_old front_new
       network_old network_new
+  pub one : split ≡ false → IsPlayed custody front_old front_new (calls_of (deeds_of turns)).events
+      (calls_of (deeds_of turns)).outcomes
 
 -- ---- sittings
 
 -- a deed neither opens nor closes the connection
 abbrev pub LeavesOpen : Conn → Deed → Type 0
-LeavesOpen conn (opens other) = other.number ≢ conn.number
+LeavesOpen conn (opens other access) = other.number ≢ conn.number
 LeavesOpen conn (closes other reason) = other.number ≢ conn.number
 LeavesOpen conn (steps step) = Unit {0}
 

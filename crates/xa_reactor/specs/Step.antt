@@ -13,9 +13,12 @@ use Rattle.xa_server.specs.declared.event.Outcome.TheVariants as outcome
 use Rattle.xa_server.specs.declared.front.Front.{Front}
 use Rattle.xa_server.specs.declared.holding.Holding.TheVariants as holding
 use Rattle.xa_server.specs.declared.lines.Conn.{Conn}
-use Rattle.xa_server.specs.Front.{IsPlayed, front_is_clean, front_is_open, front_is_sound}
+use Rattle.xa_server.specs.Front.{front_is_clean, front_is_open, front_is_sound}
 use Rattle.xa_server.specs.Lines.{IsOpen, Lines, with_line}
 use Rattle.xa_server.specs.Transfers.{Grows}
+use Rattle.xa_server.specs.Turning.{Handling, IsPlayedBeside, serves, serves_unchanging, turns_away}
+use Rattle.xa_reactor.specs.declared.access.Access.{Access}
+use Rattle.xa_reactor.specs.declared.access.Access.TheVariants.{All, Asks, Changes}
 use Rattle.xa_reactor.specs.declared.lane.Lane.{Lane}
 use Rattle.xa_reactor.specs.declared.lane.Share.{Share}
 use Rattle.xa_reactor.specs.declared.limits.Stage.{Stage}
@@ -27,14 +30,31 @@ use Rattle.xa_reactor.specs.Sending.{AreSent, IsHeldOn, UnderWay, then_under_way
 use Rattle.xa_reactor.specs.Timing.{KeepsMark, KeepsTime}
 use Rattle.xa_reactor.specs.Traffic.{AreAt, HasFailedIn, Traffic, received, received_at, sent_at}
 
--- calls of a front, and what each gave
+-- calls of a front, how each was made, and what it gave. One by which a message is turned away stands among them as an
+-- answer (`IsPlayedBeside`)
 pub record Calls : Type 0 where
+  pub hows : List Handling
   pub events : List Event
   pub outcomes : List Outcome
 
 -- no call
 abbrev pub no_calls : Calls
-no_calls = record { events = []; outcomes = [] }
+no_calls = record { hows = []; events = []; outcomes = [] }
+
+-- a message is handled by the address at which its connection came: at the first of two it is turned away exactly if it
+-- asks for a change; else it is served
+abbrev pub IsHandledBy : Access → Handling → Type 0
+IsHandledBy Asks serves = ⊥
+IsHandledBy Asks serves_unchanging = Unit {0}
+IsHandledBy Asks turns_away = Unit {0}
+IsHandledBy _ serves = Unit {0}
+IsHandledBy _ serves_unchanging = ⊥
+IsHandledBy _ turns_away = ⊥
+
+-- each is
+abbrev pub AreHandledBy : Access → List Handling → Type 0
+AreHandledBy access [] = Unit {0}
+AreHandledBy access (how ∷ hows) = IsHandledBy access how × AreHandledBy access hows
 
 -- bytes came to a connection's stream, by one call, or none did; those for which there was no memory were dropped
 abbrev pub IsFed : Conn → List ℕ → List ℕ → List Event → List Outcome → Type 0
@@ -114,14 +134,18 @@ pub record Keeps {R : Type 0} (custody : R → Custody) (front_old front_new : F
 -- a front made these calls, and a network did these things
 pub record Works {R N : Type 0} (custody : R → Custody) (done : N → Option (List Traffic)) (calls : Calls)
     (traffic : List Traffic) (front_old front_new : Front R) (network_old network_new : N) : Type 0 where
-  pub played : IsPlayed custody front_old front_new calls.events calls.outcomes
+  pub played : IsPlayedBeside custody front_old front_new calls.hows calls.events calls.outcomes
   pub keeps : Keeps custody front_old front_new
   pub grows : Grows (done network_old) (done network_new) traffic
 
 -- calls, and others after them
 abbrev pub joined : Calls → Calls → Calls
 joined first second =
-    record { events = first.events ++ second.events; outcomes = first.outcomes ++ second.outcomes }
+    record {
+      hows = first.hows ++ second.hows;
+      events = first.events ++ second.events;
+      outcomes = first.outcomes ++ second.outcomes;
+    }
 
 -- why a connection is to be closed behind what was read and written at its place, as it is then: its stream has ended
 -- and nothing is under way to its peer, or it was parted with; or a read or a write failed. Want of memory can't be
@@ -163,6 +187,8 @@ pub record IsStep {R N E : Type 0} (custody : R → Custody) (done : N → Optio
   pub parts : step.parts ≡ share.parts
   pub is_step : IsStepOn step old new
   pub room : (step.answer ≡ None) ⊎ (share.has_room ≡ true)
+  pub fed : AreHandledBy All step.fed.hows
+  pub handled : AreHandledBy share.access step.asked.hows
   pub ends : EndsAs step.conn.number step.traffic new result
   pub drops : DropsAs step.dropped new.stage result
   pub works : Works custody done (joined step.fed step.asked) step.traffic front_old front_new network_old network_new

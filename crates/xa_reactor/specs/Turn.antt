@@ -11,6 +11,9 @@ use Rattle.xa_server.specs.declared.event.Outcome.TheVariants as outcome
 use Rattle.xa_server.specs.declared.front.Front.{Front}
 use Rattle.xa_server.specs.declared.lines.Conn.{Conn}
 use Rattle.xa_server.specs.Lines.{Lines}
+use Rattle.xa_server.specs.Turning.{serves}
+use Rattle.xa_reactor.specs.declared.access.Access.{Access}
+use Rattle.xa_reactor.specs.declared.access.Access.TheVariants.{All, Asks, Changes}
 use Rattle.xa_reactor.specs.declared.board.Board.{Board}
 use Rattle.xa_reactor.specs.declared.board.Ready.{Ready}
 use Rattle.xa_reactor.specs.declared.lane.Lane.{Lane}
@@ -20,7 +23,7 @@ use Rattle.xa_reactor.specs.declared.limits.Terms.{Terms}
 use Rattle.xa_reactor.specs.declared.progress.Reason.{Reason}
 use Rattle.xa_reactor.specs.declared.progress.Reason.TheVariants.{Ended, Failed, Idle, Late, DrivenOut, WantOfMemory}
 use Rattle.xa_reactor.specs.Sending.{none_under_way}
-use Rattle.xa_reactor.specs.Step.{Calls, IsStepOn, Step, Works, no_calls, joined}
+use Rattle.xa_reactor.specs.Step.{AreHandledBy, Calls, IsStepOn, Step, Works, no_calls, joined}
 use Rattle.xa_reactor.specs.Timing.{IsFresh, IsLate, IsParted}
 use Rattle.xa_reactor.specs.Traffic.{HasFailedIn, Traffic, received, seated, vacated}
 
@@ -60,6 +63,25 @@ AreOpen [] = Unit {0}
 AreOpen (None ∷ lanes) = ⊥
 AreOpen (Some _ ∷ lanes) = AreOpen lanes
 
+-- how many places are free: one, if nobody is there
+abbrev pub free_at : Option Lane → ℕ
+free_at None = 1
+free_at (Some _) = 0
+
+abbrev pub free_in : Lanes → ℕ
+free_in [] = 0
+free_in (lane ∷ lanes) = free_at lane + free_in lanes
+
+-- a connection is open that came at the address for changes
+abbrev pub IsForChanges : Option Lane → Type 0
+IsForChanges None = ⊥
+IsForChanges (Some lane) = lane.access ≡ Changes
+
+-- one of them is
+abbrev pub HasChanges : Lanes → Type 0
+HasChanges [] = ⊥
+HasChanges (lane ∷ lanes) = IsForChanges lane ⊎ HasChanges lanes
+
 -- a connection is open at a place exactly if that of the front is
 abbrev pub AreAlike : Lanes → Lines → Type 0
 AreAlike [] [] = Unit {0}
@@ -69,17 +91,19 @@ AreAlike _ _ = ⊥
 
 -- ---- deeds
 
--- what is done: a connection is opened, has its share, or is closed
+-- what is done: a connection is opened, which came at that address; it has its share; or it is closed
 pub data Deed : Type 0 where
-  opens : Conn → Deed
+  opens : Conn → Access → Deed
   steps : Step → Deed
   closes : Conn → Reason → Deed
 
 -- the calls of a deed
 abbrev pub calls_in : Deed → Calls
-calls_in (opens conn) = record { events = event.Begin ∷ []; outcomes = outcome.Begun (Ok conn) ∷ [] }
+calls_in (opens conn access) =
+    record { hows = serves ∷ []; events = event.Begin ∷ []; outcomes = outcome.Begun (Ok conn) ∷ [] }
 calls_in (steps step) = joined step.fed step.asked
-calls_in (closes conn reason) = record { events = event.Finish conn ∷ []; outcomes = outcome.Finished (Ok tt) ∷ [] }
+calls_in (closes conn reason) =
+    record { hows = serves ∷ []; events = event.Finish conn ∷ []; outcomes = outcome.Finished (Ok tt) ∷ [] }
 
 -- the calls of deeds, one after another
 abbrev pub calls_of : List Deed → Calls
@@ -88,7 +112,7 @@ calls_of (deed ∷ deeds) = joined (calls_in deed) (calls_of deeds)
 
 -- what went over the network by a deed: who is opened is seated at its place, and who is closed leaves it
 abbrev pub traffic_in : Deed → List Traffic
-traffic_in (opens conn) = seated conn.number ∷ []
+traffic_in (opens conn access) = seated conn.number ∷ []
 traffic_in (steps step) = step.traffic
 traffic_in (closes conn reason) = vacated conn.number reason ∷ []
 
@@ -96,15 +120,36 @@ traffic_in (closes conn reason) = vacated conn.number reason ∷ []
 abbrev pub traffic_of : List Deed → List Traffic
 traffic_of deeds = flat_map traffic_in deeds
 
--- What a deed does to the connections: one is opened where none is; one has its share, in which a message is answered
--- only if at most 32 MiB of replies are held; or one is closed. No other is touched.
+-- a connection may come, by the address at which it does: at that for changes, if no other that came there is open; at
+-- the first of two, if a place is kept for such a one, or it is open
+abbrev pub MayCome : Access → Lanes → Type 0
+MayCome All lanes = Unit {0}
+MayCome Asks lanes = HasChanges lanes ⊎ (2 ≤ free_in lanes)
+MayCome Changes lanes = HasChanges lanes → ⊥
+
+-- a connection is opened, and nothing is under way on it
+pub record OpensAt (access : Access) (lane : Lane) (lanes : Lanes) : Type 0 where
+  pub nothing : lane.outgoing ≡ none_under_way
+  pub came : lane.access ≡ access
+  pub may : MayCome access lanes
+
+-- a message is answered only if at most 32 MiB of replies are held; and by the address at which its connection came,
+-- which stays that
+pub record AnswersAt (step : Step) (was is : Lane) (lanes : Lanes) : Type 0 where
+  pub room : (step.answer ≡ None) ⊎ (under_way lanes ≤ 33_554_432)
+  pub fed : AreHandledBy All step.fed.hows
+  pub handled : AreHandledBy was.access step.asked.hows
+  pub came : is.access ≡ was.access
+
+-- What a deed does to the connections: one is opened where none is; one has its share; or one is closed. No other is
+-- touched.
 abbrev pub IsDone : Deed → Lanes → Lanes → Type 0
-IsDone (opens conn) old new =
-    (lane : Lane) × (lane_at conn.number old ≡ None) × (lane.outgoing ≡ none_under_way)
+IsDone (opens conn access) old new =
+    (lane : Lane) × (lane_at conn.number old ≡ None) × OpensAt access lane old
     × (new ≡ slice_set old conn.number (Some lane))
 IsDone (steps step) old new =
-    (was is : Lane) × (lane_at step.conn.number old ≡ Some was) × IsStepOn step was is
-    × ((step.answer ≡ None) ⊎ (under_way old ≤ 33_554_432)) × (new ≡ slice_set old step.conn.number (Some is))
+    (was is : Lane) × (lane_at step.conn.number old ≡ Some was) × IsStepOn step was is × AnswersAt step was is old
+    × (new ≡ slice_set old step.conn.number (Some is))
 IsDone (closes conn reason) old new =
     (lane : Lane) × (lane_at conn.number old ≡ Some lane) × (new ≡ slice_set old conn.number None)
 
@@ -113,12 +158,24 @@ abbrev pub AreDone : List Deed → Lanes → Lanes → Type 0
 AreDone [] old new = new ≡ old
 AreDone (deed ∷ deeds) old new = (mid : Lanes) × IsDone deed old mid × AreDone deeds mid new
 
+-- at which addresses connections come: at one; or at two
+abbrev pub Fits : Bool → Access → Type 0
+Fits false access = access ≡ All
+Fits true access = access ≢ All
+
+-- all that are opened come at one address, or at two
+abbrev pub FitAll : Bool → List Deed → Type 0
+FitAll split [] = Unit {0}
+FitAll split (opens conn access ∷ deeds) = Fits split access × FitAll split deeds
+FitAll split (_ ∷ deeds) = FitAll split deeds
+
 -- ---- who is taken
 
--- a connection is idle since then: nothing is owed to it, and the first byte of a message is waited for
+-- a connection is idle since then: nothing is owed to it, and the first byte of a message is waited for. One that came
+-- at the address for changes isn't idle in this sense: it is never driven out
 abbrev pub IsIdleSince : Option Lane → ℕ → Type 0
 IsIdleSince None since = ⊥
-IsIdleSince (Some lane) since = IsFresh since lane
+IsIdleSince (Some lane) since = IsFresh since lane × (lane.access ≢ Changes)
 
 -- for what the socket at a place was found ready; for nothing, if there is no such place
 abbrev pub ready_at : Board → ℕ → Ready
@@ -137,23 +194,31 @@ pub record IsIdlest (board : Board) (lanes : Lanes) (place since : ℕ) : Type 0
   pub longest : (other earlier : ℕ) → IsIdleSince (lane_at other lanes) earlier
       → (since ≤ earlier) ⊎ HasCome board other
 
--- a connection may be driven out: all places are taken, it is the one that has been idle for the longest time, by what
--- was known to be ready, and that is a tenth of a second
-pub record MayGo (board : Board) (now place : ℕ) (lanes : Lanes) : Type 0 where
-  pub full : AreOpen lanes
+-- no place is free for another connection, by the address at which it comes: at the first of two none but the one that
+-- is kept. For one that comes at the address for changes none is ever driven out
+abbrev pub IsFullFor : Access → Lanes → Type 0
+IsFullFor All lanes = AreOpen lanes
+IsFullFor Asks lanes = (HasChanges lanes × AreOpen lanes) ⊎ ((HasChanges lanes → ⊥) × (free_in lanes ≡ 1))
+IsFullFor Changes lanes = ⊥
+
+-- a connection may be driven out for another: no place is free for that, it is the one that has been idle for the
+-- longest time, by what was known to be ready, and that is a tenth of a second
+pub record MayGo (board : Board) (now place : ℕ) (access : Access) (lanes : Lanes) : Type 0 where
+  pub full : IsFullFor access lanes
   pub since : ℕ
   pub idlest : IsIdlest board lanes place since
   pub long : 100_000_000 ≤ now - since
 
--- connections were taken: each was opened at a free place, or at that of one that was driven out for it
+-- connections were taken: each was opened at a free place, or one was driven out for it; then it is at the place of
+-- that one, if all were taken
 abbrev pub AreTaken : Board → ℕ → List Deed → Lanes → Lanes → Type 0
 AreTaken board now [] old new = new ≡ old
-AreTaken board now (opens conn ∷ deeds) old new =
+AreTaken board now (opens conn access ∷ deeds) old new =
     (lane : Lane) × (lane_at conn.number old ≡ None) × IsFresh now lane
     × AreTaken board now deeds (slice_set old conn.number (Some lane)) new
-AreTaken board now (closes conn DrivenOut ∷ opens other ∷ deeds) old new =
-    (lane : Lane) × MayGo board now conn.number old × (other ≡ conn) × IsFresh now lane
-    × AreTaken board now deeds (slice_set old conn.number (Some lane)) new
+AreTaken board now (closes conn DrivenOut ∷ opens other access ∷ deeds) old new =
+    (lane : Lane) × MayGo board now conn.number access old × (AreOpen old → other ≡ conn) × IsFresh now lane
+    × AreTaken board now deeds (slice_set (slice_set old conn.number None) other.number (Some lane)) new
 AreTaken board now _ old new = ⊥
 
 -- ---- shares
@@ -254,18 +319,22 @@ pub record AreTerms (terms : Terms) (now : Duration) (set : Limits) (leaving : O
   pub parts : terms.parts ≡ true → HasLeft leaving (as_nanos now)
 
 module _ {R N : Type 0} (custody : R → Custody) (done : N → Option (List Traffic)) where
-  -- a turn was taken that began then, by a front and over a network, of which that was known to be ready
-  pub record TakesTurn (board : Board) (now : Duration) (set : Limits) (leaving : Option Duration) (old new : Lanes)
-      (front_old front_new : Front R) (network_old network_new : N) : Type 0 where
+  -- a turn was taken that began then, by a front and over a network, of which that was known to be ready, and at which
+  -- connections come at one address, or at two
+  pub record TakesTurn (split : Bool) (board : Board) (now : Duration) (set : Limits) (leaving : Option Duration)
+      (old new : Lanes) (front_old front_new : Front R) (network_old network_new : N) : Type 0 where
     pub turn : Turn
     pub told : turn.board ≡ board
     pub terms : AreTerms turn.terms now set leaving
     pub is_turn : IsTurn turn old new
+    pub fit : FitAll split (deeds_in turn)
     pub works : Works custody done (calls_of (deeds_in turn)) (traffic_of (deeds_in turn)) front_old front_new
         network_old network_new
 
   -- a turn was broken off: this was done of it
-  pub record BreaksOff (old new : Lanes) (front_old front_new : Front R) (network_old network_new : N) : Type 0 where
+  pub record BreaksOff (split : Bool) (old new : Lanes) (front_old front_new : Front R) (network_old network_new : N)
+      : Type 0 where
     pub deeds : List Deed
     pub are_done : AreDone deeds old new
+    pub fit : FitAll split deeds
     pub works : Works custody done (calls_of deeds) (traffic_of deeds) front_old front_new network_old network_new

@@ -40,6 +40,8 @@ pub struct Board {
     pub ready: [Ready; PLACES],
     /// A connection may wait to be taken.
     pub door: bool,
+    /// One may wait at the address for changes.
+    pub changes: bool,
     /// The program was told to end.
     pub end: bool,
 }
@@ -50,6 +52,7 @@ impl Board {
         Board {
             ready: [Ready::new(); PLACES],
             door: true,
+            changes: false,
             end: false,
         }
     }

@@ -8,14 +8,17 @@ ghost use Rattle.xa_reactor.specs.Sending.{none_under_way};
 ghost use Rattle.xa_reactor.specs.Step.{IsStep, Lasts, Step};
 ghost use Rattle.xa_reactor.specs.Timing.{IsFresh, IsLate, IsParted};
 ghost use Rattle.xa_reactor.specs.Turn.{EndsBy};
-ghost use Rattle.xa_reactor.specs.handling.Going.{AnswersAndSends, Asks, EndsAlike, IsGoing, SendsAndReads};
-ghost use Rattle.xa_reactor.specs.handling.Going.{TakesAnswer, answer_asked, answer_in, answer_of_outcome};
+ghost use Rattle.xa_reactor.specs.handling.Going.{AnswersAndSends, EndsAlike, IsGoing, SendsAndReads};
+ghost use Rattle.xa_reactor.specs.handling.Going.{TakesAnswer, answer_in};
 
+mod answering;
 mod reading;
 mod writing;
 
+use crate::access::Access;
 use crate::board::Ready;
 use crate::halt::Halt;
+use crate::lane::answering::answer_next;
 use crate::limits::{Limits, Stage, Terms, has_passed, left, slow_limit};
 use crate::network::Network;
 use crate::outgoing::Outgoing;
@@ -23,7 +26,7 @@ use crate::progress::{Progress, Reason};
 use crate::timer::{Timer, time_by};
 use std::time::Duration;
 use xa_records::Records;
-use xa_server::{Answer, Clock, Conn, Event, Front, FrontError, Holding, Outcome};
+use xa_server::{Answer, Clock, Conn, Front, FrontError, Holding};
 
 /// How many bytes are read at once.
 pub const PIECE_BYTES: usize = 65_536;
@@ -39,6 +42,8 @@ pub struct Share {
     pub has_room: bool,
     /// Whether a connection ends with the reply that it is sent.
     pub parts: bool,
+    /// At which address it came.
+    pub access: Access,
 }
 
 impl Share {
@@ -65,30 +70,6 @@ fn has_ended(progress: Progress) -> bool
     }
 }
 
-/// What a step has given, if it was asked for an answer.
-fn answer_of(outcome: Outcome) -> Result<Option<Answer>, FrontError>
-    ensures { answer_in result ≡ answer_of_outcome outcome }
-{
-    match outcome {
-        Outcome::Answered(answered) => answered,
-        Outcome::Begun(_) | Outcome::Held(_) | Outcome::Finished(_) => Err(FrontError::Memory),
-    }
-}
-
-/// Asks for the next answer to a connection, at the clock's moment.
-fn ask<R: Records, C: Clock>(
-    front: &mut Front<R>,
-    clock: &mut C,
-    conn: Conn,
-) -> Result<Result<Option<Answer>, FrontError>, Halt>
-    ensures { Asks R.custody conn (answer_asked result) front.old front.new }
-{
-    let Some(moment) = clock.now() else {
-        return Err(Halt::NoClock);
-    };
-    Ok(answer_of(front.step(&Event::Answer(conn, moment))))
-}
-
 /// A connection that is open.
 #[derive(Drop)]
 pub struct Lane {
@@ -104,12 +85,15 @@ pub struct Lane {
     pub mark: Duration,
     /// How many bytes were: of a reply since then, and behind the last reply in all.
     pub moved: usize,
+    /// At which address it came.
+    pub access: Access,
 }
 
 impl Lane {
     /// A connection of which nothing has come.
-    pub(crate) fn new(now: Duration) -> Lane
+    pub(crate) fn new(now: Duration, access: Access) -> Lane
         ensures fresh { IsFresh (as_nanos now) result }
+        ensures access { result.access ≡ access }
         ensures nothing { result.outgoing ≡ none_under_way }
     {
         Lane {
@@ -119,6 +103,7 @@ impl Lane {
             since: now,
             mark: now,
             moved: 0,
+            access,
         }
     }
 
@@ -268,7 +253,7 @@ impl Lane {
         ensures { AnswersAndSends R.custody N.done share result self.old self.new
             front.old front.new network.old network.new }
     {
-        let given = ask(front, clock, share.conn)?;
+        let given = answer_next(front, clock, share)?;
         let share = share.at(timer);
         let taken = self.take_answer(given, share.now);
         if taken != Progress::Goes {

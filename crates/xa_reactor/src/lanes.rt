@@ -7,6 +7,9 @@ ghost use Rattle.xa_reactor.specs.handling.Taking.{IsBefore, IsFoundOr};
 ghost use Rattle.xa_reactor.specs.Turn.{AreFree, AreOpen, IsIdleSince, IsIdlest, bytes_of, lane_at, no_lanes};
 ghost use Rattle.xa_reactor.specs.Turn.{under_way};
 
+mod keeping;
+
+use crate::access::Access;
 use crate::board::{Board, Ready};
 use crate::lane::Lane;
 use crate::limits::{Limits, Stage, least, left};
@@ -54,7 +57,8 @@ fn bytes_of(lane: &Option<Lane>) -> usize
     }
 }
 
-/// Since when a connection is idle, if one is there and nothing is known to have come on it.
+/// Since when a connection is idle, if one is there that may be driven out, and nothing is known to have come
+/// on it.
 fn idle_since(lane: &Option<Lane>, ready: Ready) -> Option<Duration>
     ensures idle { IfSome result (λ since. IsIdleSince lane.now (as_nanos since) × (ready.readable ≡ false)) }
     ensures other { IfNone result ((since : ℕ) → IsIdleSince lane.now since → ready.readable ≡ true) }
@@ -63,6 +67,9 @@ fn idle_since(lane: &Option<Lane>, ready: Ready) -> Option<Duration>
         return None;
     };
     if lane.stage != Stage::Quiet {
+        return None;
+    }
+    if lane.access == Access::Changes {
         return None;
     }
     if !lane.outgoing.is_empty() {
@@ -135,20 +142,6 @@ impl Lanes {
     {
         for lane in self.lanes.iter() {
             if lane.is_some() {
-                return false;
-            }
-        }
-        true
-    }
-
-    /// Whether all places are taken.
-    pub(crate) fn is_full(&self) -> bool
-        ensures full { result ≡ true → AreOpen self.now }
-        ensures free { result ≡ false
-            → (place : ℕ) × (place < length self.now) × (lane_at place self.now ≡ None) }
-    {
-        for lane in self.lanes.iter() {
-            if lane.is_none() {
                 return false;
             }
         }

@@ -13,6 +13,7 @@
 //! turn later.
 #![tactic(auto)]
 
+mod access;
 mod board;
 mod door;
 mod halt;

@@ -41,6 +41,13 @@ pub trait Network {
     fn accept(&mut self) -> Arrival
         ensures { done self.new ≡ done self.old };
 
+    /// Takes a connection that waits at the address for changes. By default there is none.
+    fn accept_change(&mut self) -> Arrival
+        ensures { done self.new ≡ done self.old }
+    {
+        Arrival::Nobody
+    }
+
     /// Seats the connection that was taken last. What is ready for it is noted at that place from now on.
     fn seat(&mut self, place: usize)
         ensures { Grows (done self.old) (done self.new) (seated place ∷ []) };
@@ -65,7 +72,7 @@ pub trait Network {
     fn leave(&mut self, place: usize, reason: Reason)
         ensures { Grows (done self.old) (done self.new) (vacated place reason ∷ []) };
 
-    /// Takes no connection any more: who comes later is refused at once.
+    /// Takes no connection any more, at any address: who comes later is refused at once.
     fn shut_door(&mut self)
         ensures { done self.new ≡ done self.old };
 

@@ -1,5 +1,5 @@
 //! Turns: in each every connection has its share.
-ghost use Rattle.std.specs.Prelude.{◌≡◌, ◌≢◌, ◌⊎◌, ◌<◌, ◌+◌, ◌%◌, true, IfOk, MatchResult, None, OnOk};
+ghost use Rattle.std.specs.Prelude.{◌≡◌, ◌≢◌, ◌⊎◌, ◌<◌, ◌+◌, ◌%◌, false, true, IfOk, MatchResult, None, OnOk};
 ghost use Rattle.std.specs.Prelude.{length};
 ghost use Rattle.xa_server.specs.Front.{front_is_clean, front_is_open, front_is_sound};
 ghost use Rattle.xa_server.specs.Lines.{none_open};
@@ -7,6 +7,7 @@ ghost use Rattle.xa_reactor.specs.Run.{IsServedAtOnce, IsServedWhole, StreamsOfS
 ghost use Rattle.xa_reactor.specs.Turn.{AreAlike, AreFree, AreTerms, BreaksOff, TakesTurn, no_lanes, rotated};
 ghost use Rattle.xa_reactor.specs.handling.Turning.{Deals, ShareEach};
 
+mod resting;
 mod sharing;
 mod taking;
 
@@ -14,8 +15,8 @@ use crate::board::Board;
 use crate::door::Door;
 use crate::halt::Halt;
 use crate::lane::PIECE_BYTES;
-use crate::lanes::{Lanes, PLACES, grace_left};
-use crate::limits::{Limits, Terms, least, leaving_left};
+use crate::lanes::{Lanes, PLACES};
+use crate::limits::{Limits, Terms, leaving_left};
 use crate::network::Network;
 use crate::timer::{Timer, time_by};
 use std::alloc::{AllocError, Global};
@@ -32,6 +33,10 @@ pub struct Reactor {
     board: Board,
     /// How taking connections goes.
     door: Door,
+    /// How it goes at the address for changes.
+    changes: Door,
+    /// Whether changes have an address of their own.
+    is_split: bool,
     /// The place that comes first in the next turn, or this and a multiple of 64.
     first: u8,
     /// For how long a connection is waited for.
@@ -45,15 +50,29 @@ impl Reactor {
     pub fn new(alloc: Global, limits: Limits) -> Result<Reactor, AllocError>
         ensures nobody { IfOk result (λ reactor. reactor.lanes ≡ no_lanes) }
         ensures stays { IfOk result (λ reactor. reactor.leaving ≡ None) }
+        ensures one { IfOk result (λ reactor. reactor.is_split ≡ false) }
     {
         Ok(Reactor {
             lanes: Lanes::new(alloc)?,
             board: Board::new(),
             door: Door::new(),
+            changes: Door::new(),
+            is_split: false,
             first: 0,
             limits,
             leaving: None,
         })
+    }
+
+    /// The same, and changes have an address of their own. There one connection is served at a time, in the
+    /// order in which they come; a place is kept for it, and it is never driven out. At the other address a
+    /// message is turned away exactly if it asks for a change.
+    pub fn with_changes(mut self) -> Reactor
+        ensures { result ≡ record self { is_split = true; board = result.board } }
+    {
+        self.is_split = true;
+        self.board.changes = true;
+        self
     }
 
     /// What holds for the shares of a turn that began then.
@@ -102,7 +121,7 @@ impl Reactor {
         let Some(since) = self.leaving else {
             return;
         };
-        if !self.door.is_shut && (!self.board.door || leaving_left(since, now).is_zero()) {
+        if !self.door.is_shut && (!self.one_waits() || leaving_left(since, now).is_zero()) {
             network.shut_door();
             self.door.is_shut = true;
         }
@@ -146,50 +165,18 @@ impl Reactor {
         requires { AreAlike self.old.lanes front.old.lines }
         ensures alike { AreAlike self.new.lanes front.new.lines }
         ensures dealt { MatchResult result
-            (λ _. Deals R.custody N.done terms.now self.old.board self.old.lanes self.new.lanes
-            front.old front.new network.old network.new)
-            (λ _. BreaksOff R.custody N.done self.old.lanes self.new.lanes front.old front.new
-            network.old network.new) }
+            (λ _. Deals R.custody N.done self.old.is_split terms.now self.old.board self.old.lanes
+            self.new.lanes front.old front.new network.old network.new)
+            (λ _. BreaksOff R.custody N.done self.old.is_split self.old.lanes self.new.lanes
+            front.old front.new network.old network.new) }
         ensures limits { self.new.limits ≡ self.old.limits }
         ensures leaving { self.new.leaving ≡ self.old.leaving }
+        ensures split { self.new.is_split ≡ self.old.is_split }
     {
         self.take_some(front, network, terms.began)?;
         let first = self.first;
         self.first = first.wrapping_add(1);
         self.share_all(front, network, clock, timer, room, terms, first)
-    }
-
-    /// For how long nothing is to be done for one that waits at the door, all places being taken; none for
-    /// ever.
-    fn rest_of_guest(&self, now: Duration) -> Option<Duration> {
-        let idlest = match self.lanes.idlest(&self.board) {
-            Some((_, since)) => Some(grace_left(since, now)),
-            None => None,
-        };
-        match self.leaving {
-            Some(since) => least(idlest, Some(leaving_left(since, now))),
-            None => idlest,
-        }
-    }
-
-    /// For how long nothing is to be done at the door; none for ever.
-    fn rest_at_door(&self, now: Duration) -> Option<Duration> {
-        if self.door.is_shut || !self.board.door && self.leaving.is_none() {
-            return None;
-        }
-        let pause = self.door.pause_left(now);
-        if self.board.door && !pause.is_zero() {
-            return Some(pause);
-        }
-        if self.board.door && self.lanes.is_full() {
-            return self.rest_of_guest(now);
-        }
-        Some(Duration::ZERO)
-    }
-
-    /// For how long nothing is to be done if nothing comes; none for ever.
-    fn rest(&self, terms: &Terms, now: Duration) -> Option<Duration> {
-        least(self.lanes.rest(&terms.limits, now), self.rest_at_door(now))
     }
 
     /// Waits until something is ready, at most for that time, and notes it.
@@ -221,11 +208,12 @@ impl Reactor {
         requires { AreAlike self.old.lanes front.old.lines }
         ensures alike { OnOk result (AreAlike self.new.lanes front.new.lines) }
         ensures turned { MatchResult result
-            (λ _. TakesTurn R.custody N.done self.old.board now self.old.limits self.new.leaving
-            self.old.lanes self.new.lanes front.old front.new network.old network.new)
-            (λ _. BreaksOff R.custody N.done self.old.lanes self.new.lanes front.old front.new
-            network.old network.new) }
+            (λ _. TakesTurn R.custody N.done self.old.is_split self.old.board now self.old.limits
+            self.new.leaving self.old.lanes self.new.lanes front.old front.new network.old network.new)
+            (λ _. BreaksOff R.custody N.done self.old.is_split self.old.lanes self.new.lanes
+            front.old front.new network.old network.new) }
         ensures limits { self.new.limits ≡ self.old.limits }
+        ensures split { self.new.is_split ≡ self.old.is_split }
         ensures told { self.new.leaving ≢ None
             → (self.old.leaving ≢ None) ⊎ (self.old.board.end ≡ true) }
     {
@@ -250,9 +238,10 @@ impl Reactor {
     ) -> Result<(), Halt>
         requires nobody { self.old.lanes ≡ no_lanes }
         requires closed { front.old.lines ≡ none_open }
-        ensures served { IsServedAtOnce R.custody N.done front.old front.new network.old network.new }
-        ensures whole { OnOk result (IsServedWhole R.custody N.done self.old.leaving front.old front.new
-            network.old network.new) }
+        ensures served { IsServedAtOnce R.custody N.done self.old.is_split front.old front.new
+            network.old network.new }
+        ensures whole { OnOk result (IsServedWhole R.custody N.done self.old.is_split self.old.leaving
+            front.old front.new network.old network.new) }
         ensures closed { OnOk result (front.new.lines ≡ none_open) }
         ensures goes_on { OnOk result
             (front_is_open R.custody front.old → front_is_open R.custody front.new) }
@@ -286,9 +275,10 @@ impl Reactor {
     ) -> Result<(), Halt>
         requires nobody { self.old.lanes ≡ no_lanes }
         requires closed { front.old.lines ≡ none_open }
-        ensures served { IsServedAtOnce R.custody N.done front.old front.new network.old network.new }
-        ensures whole { OnOk result (IsServedWhole R.custody N.done self.old.leaving front.old front.new
-            network.old network.new) }
+        ensures served { IsServedAtOnce R.custody N.done self.old.is_split front.old front.new
+            network.old network.new }
+        ensures whole { OnOk result (IsServedWhole R.custody N.done self.old.is_split self.old.leaving
+            front.old front.new network.old network.new) }
         ensures closed { OnOk result (front.new.lines ≡ none_open) }
         ensures goes_on { OnOk result
             (front_is_open R.custody front.old → front_is_open R.custody front.new) }

@@ -33,8 +33,8 @@ impl Calls {
 pub struct Memory {
     /// The peers, in the order in which they come.
     pub peers: Vec<Peer>,
-    /// How many of them have been taken.
-    taken: usize,
+    /// The one that was taken last, unless it is seated.
+    guest: Option<usize>,
     /// Which of them sits at each place.
     seats: [Option<usize>; PLACES],
     /// Reads.
@@ -70,7 +70,7 @@ impl Memory {
     pub fn new(alloc: Global) -> Memory {
         Memory {
             peers: Vec::new(alloc),
-            taken: 0,
+            guest: None,
             seats: [None; PLACES],
             reads: Calls::new(),
             writes: Calls::new(),
@@ -82,9 +82,9 @@ impl Memory {
         }
     }
 
-    /// One more peer comes to the door.
-    pub fn arrive(&mut self, alloc: Global) -> Result<(), AllocError> {
-        match self.peers.push(Peer::new(alloc)) {
+    /// One more peer comes to a door.
+    pub fn arrive(&mut self, alloc: Global, at_changes: bool) -> Result<(), AllocError> {
+        match self.peers.push(Peer::new(alloc, at_changes)) {
             Ok(()) => Ok(()),
             Err(_) => Err(AllocError),
         }
@@ -110,6 +110,31 @@ impl Memory {
         }
     }
 
+    /// The first peer that waits at a door, if one does.
+    fn first_at(&self, changes: bool) -> Option<usize> {
+        self.peers
+            .iter()
+            .position(|peer| !peer.is_taken && peer.is_at_changes == changes)
+    }
+
+    /// Takes the first that waits at a door.
+    fn take_at(&mut self, changes: bool) -> Arrival {
+        let Some(number) = self.first_at(changes) else {
+            return Arrival::Nobody;
+        };
+        if self.is_shut {
+            return Arrival::Nobody;
+        }
+        if self.accepts.next_fails() {
+            return Arrival::Passed;
+        }
+        if let Some(peer) = self.peers.get_mut(number) {
+            peer.is_taken = true;
+        }
+        self.guest = Some(number);
+        Arrival::Came
+    }
+
     /// Notes that something was done.
     fn note(&mut self, place: usize, what: &str, count: usize) {
         let _ = write!(self.done, " {place}{what}{count}");
@@ -125,26 +150,24 @@ impl Network for Memory {
             };
             board.note(place, ready);
         }
-        board.door |= self.taken < self.peers.len();
+        board.door |= self.first_at(false).is_some();
+        board.changes |= self.first_at(true).is_some();
         board.end |= self.end;
         self.told = None;
         Ok(())
     }
 
     fn accept(&mut self) -> Arrival {
-        if self.is_shut || self.taken >= self.peers.len() {
-            return Arrival::Nobody;
-        }
-        if self.accepts.next_fails() {
-            return Arrival::Passed;
-        }
-        self.taken += 1;
-        Arrival::Came
+        self.take_at(false)
+    }
+
+    fn accept_change(&mut self) -> Arrival {
+        self.take_at(true)
     }
 
     fn seat(&mut self, place: usize) {
         if let Some(seat) = self.seats.get_mut(place) {
-            *seat = self.taken.checked_sub(1);
+            *seat = self.guest.take();
         }
         let _ = write!(self.done, " {place}+");
     }

@@ -17,17 +17,23 @@ pub struct Peer {
     pub takes: usize,
     /// What it has got.
     pub got: Vec<u8>,
+    /// Whether it came to the door for changes.
+    pub is_at_changes: bool,
+    /// Whether it was taken.
+    pub is_taken: bool,
 }
 
 impl Peer {
-    /// A peer that sends nothing yet, and takes everything.
-    pub fn new(alloc: Global) -> Peer {
+    /// A peer at one of the doors that sends nothing yet, and takes everything.
+    pub fn new(alloc: Global, is_at_changes: bool) -> Peer {
         Peer {
             sends: Vec::new(alloc),
             read: 0,
             has_ended: false,
             takes: usize::MAX,
             got: Vec::new(alloc),
+            is_at_changes,
+            is_taken: false,
         }
     }
 

@@ -1,7 +1,7 @@
 //! A row: what its fields do, and what they answer.
 ghost use Rattle.std.specs.Prelude.{◌≡◌, true, IfOk, OnOk};
 ghost use Rattle.xa_server.specs.Lines.{none_open};
-ghost use Rattle.xa_reactor.specs.Turn.{AreAlike};
+ghost use Rattle.xa_reactor.specs.Turn.{AreAlike, no_lanes};
 
 use crate::bytes::push_bytes;
 use crate::no_answer::NoAnswer;
@@ -28,6 +28,8 @@ pub struct Row {
     front: Front<PlainRecords>,
     /// What is tried.
     reactor: Reactor,
+    /// Whether changes have an address of their own.
+    is_split: bool,
     /// The peers, the clock and the time.
     world: World,
 }
@@ -38,6 +40,17 @@ fn new_front(alloc: Global) -> Result<Front<PlainRecords>, NoAnswer>
 {
     let server = Server::new(alloc, PlainRecords::new(alloc), Digest::of(OPERATOR))?;
     Ok(Front::new(alloc, server)?)
+}
+
+/// A reactor at which nobody is, with one address or with two.
+fn new_reactor(alloc: Global, limits: Limits, is_split: bool) -> Result<Reactor, NoAnswer>
+    ensures { IfOk result (λ reactor. reactor.lanes ≡ no_lanes) }
+{
+    let reactor = Reactor::new(alloc, limits)?;
+    if is_split {
+        return Ok(reactor.with_changes());
+    }
+    Ok(reactor)
 }
 
 impl Row {
@@ -53,7 +66,8 @@ impl Row {
         Ok(Row {
             alloc,
             front: new_front(alloc)?,
-            reactor: Reactor::new(alloc, limits)?,
+            reactor: new_reactor(alloc, limits, false)?,
+            is_split: false,
             world: World::new(alloc),
         })
     }
@@ -86,6 +100,11 @@ impl Row {
                 self.limits(text)?;
                 Ok(true)
             }
+            "split" => {
+                self.is_split = true;
+                self.limits("30000:10000")?;
+                Ok(true)
+            }
             "got" => {
                 self.shows(text, answer)?;
                 Ok(true)
@@ -104,7 +123,7 @@ impl Row {
     {
         let limits = limits_of(text)?;
         self.front = new_front(self.alloc)?;
-        self.reactor = Reactor::new(self.alloc, limits)?;
+        self.reactor = new_reactor(self.alloc, limits, self.is_split)?;
         Ok(())
     }
 

@@ -107,16 +107,17 @@ impl World {
             "end" => self.network.end = true,
             "ready" => self.ready(text)?,
             "fails" => self.fails(text)?,
-            "arrive" => self.arrive(alloc, text)?,
+            "arrive" => self.arrive(alloc, text, false)?,
+            "arrive-changes" => self.arrive(alloc, text, true)?,
             _ => self.peer(alloc, word, text)?,
         }
         Ok(())
     }
 
-    /// So many peers come to the door.
-    fn arrive(&mut self, alloc: Global, text: &str) -> Result<(), NoAnswer> {
+    /// So many peers come to a door.
+    fn arrive(&mut self, alloc: Global, text: &str, at_changes: bool) -> Result<(), NoAnswer> {
         for _ in 0..number_of(text)? {
-            self.network.arrive(alloc)?;
+            self.network.arrive(alloc, at_changes)?;
         }
         Ok(())
     }

@@ -29,3 +29,6 @@ pub mod FrontLawLemmas
 pub mod InterruptionLemmas
 pub mod ServingLemmas
 pub mod StepLemmas
+pub mod PeerLemmas
+pub mod TurningLemmas
+pub mod UnchangingLemmas

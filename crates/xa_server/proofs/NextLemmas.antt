@@ -10,8 +10,7 @@ use Rattle.xa_http.specs.Messages.{IsCut, IsFirst, IsLook, IsNext}
 use Rattle.xa_http.specs.Stream.{Stream}
 use Rattle.xa_http.proofs.LawLemmas.{answers_messages}
 use Rattle.xa_records.specs.Keeper.{Custody}
-use Rattle.xa_server.specs.Connection.{AnswersNext, AnswersNow, EndsBy, IsGiven, ServesNext, TellsFor, answer_of}
-use Rattle.xa_server.specs.Connection.{reply_of}
+use Rattle.xa_server.specs.Connection.{AnswersNext, AnswersNow, EndsBy, answer_of}
 use Rattle.xa_server.specs.declared.connection.Answered.{Answered}
 use Rattle.xa_server.specs.declared.connection.Answered.TheVariants as answered
 use Rattle.xa_server.specs.declared.event.Answer.{Answer}
@@ -67,13 +66,7 @@ module _ {R : Type 0} (custody : R → Custody) (moment : ℤ) (old : ServerMode
         → Grows told told_new (Some moment ∷ []) → AnswersNext custody moment old s (Ok answered) new t
         → AnswersNow custody told told_new old s (Ok answered) new t
     message_now new answered stands tells (given, is, gives, serves) =
-        (moment, given, is, gives, serves, rw (only_message s t given stands is).1 tells)
-
-    -- anything else, at any moment
-    pub other_now : (given : Next) (answered : Answered) → IsNext s given t → IsGiven given t answered
-        → ServesNext custody moment old (Some given) (reply_of answered) old → TellsFor given moment told told_new
-        → AnswersNow custody told told_new old s (Ok answered) old t
-    other_now given answered is gives serves tells = (moment, given, is, gives, serves, tells)
+        (moment, (given, is, gives, serves), rw (only_message s t given stands is).1 tells)
 
 -- ---- what a connection of a front is answered
 

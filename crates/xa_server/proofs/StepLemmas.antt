@@ -1,6 +1,6 @@
--- Steps of a server, one after another, and a crash inside the next.
+-- Steps of a server or of a front, one after another, and a crash inside the next.
 use Rattle.std.proofs.Common.{◌≡◌, ◌≤◌, ℤ, List, [], ◌∷◌, ◌++◌, length, Option, Some, None, IsTrue, Bool, true, refl}
-use Rattle.std.proofs.Common.{arith, subst, sym}
+use Rattle.std.proofs.Common.{arith, length-append, subst, sym}
 use Rattle.std.proofs.lemmas.List.{append-nil}
 use Rattle.xa_http.specs.declared.session.Next.{Next}
 use Rattle.xa_http.specs.declared.session.Next.TheVariants as next
@@ -9,13 +9,16 @@ use Rattle.xa_records.specs.Keeper.{Custody}
 use Rattle.xa_records.specs.Kept.{Kept}
 use Rattle.xa_server.specs.Alone.{Event}
 use Rattle.xa_server.specs.Connection.{ServesNext}
+use Rattle.xa_server.specs.declared.event.Event.{Event as FrontEvent}
+use Rattle.xa_server.specs.declared.event.Event.TheVariants as event
 use Rattle.xa_server.specs.declared.replies.Reply.{Reply}
 use Rattle.xa_server.specs.declared.replies.Reply.TheVariants.{Sent, Refused}
+use Rattle.xa_server.specs.Front.{message_cut, messages_cut, replies_given}
 use Rattle.xa_server.specs.Interruption.{LeavesFirst, Serves, ServesAll}
 use Rattle.xa_server.specs.Isolation.{answered_events}
 use Rattle.xa_server.specs.Served.{may_go_on}
 use Rattle.xa_server.specs.Serving.{AreServed, HaveServed, ServesEach}
-use Rattle.xa_server.specs.Steps.{StepsAreKept, events_of, replies_of}
+use Rattle.xa_server.specs.Steps.{PlaysAreKept, StepsAreKept, events_of, replies_of}
 use Rattle.xa_server.specs.World.{ServerModel}
 use Rattle.xa_server.proofs.InterruptionLemmas.{keeps_answered, leaves_those}
 use Rattle.xa_server.proofs.ServingLemmas.{are_served, keeper_each, none_served, served_on}
@@ -25,6 +28,15 @@ goes_on : (reply : Reply) (is_open : Bool) → IsTrue is_open → may_go_on repl
 goes_on (Refused Store) is_open on = on
 goes_on (Refused Memory) is_open on = refl
 goes_on (Sent bytes) is_open on = refl
+
+-- an event cuts off one message at most
+cut_one : (e : FrontEvent) (given : Option Next) → length (message_cut e given) ≤ 1
+cut_one (event.Answer conn moment) (Some (next.Message message)) = omega arith
+cut_one _ _ = omega arith
+
+step_cuts : (e : FrontEvent) (nexts : List (Option Next)) → length (messages_cut (e ∷ []) nexts) ≤ 1
+step_cuts e [] = omega arith
+step_cuts e (given ∷ nexts) = omega (arith, cut_one e given, length-append (message_cut e given) [])
 
 module _ {R : Type 0} (custody : R → Custody) where
   -- if the keeper can go on after the last message, it could after each
@@ -105,4 +117,14 @@ module _ {R : Type 0} (custody : R → Custody) where
         on = joined;
         crash = λ old mid new events last replies rest sound before on after few clean.
             crash_in old mid new events last replies rest after.servers sound before on after.each few clean;
+      }
+
+      pub plays_are_kept : PlaysAreKept custody
+      plays_are_kept = record {
+        one = λ old new event outcome is. step_cuts event is.nexts;
+        crash = λ old mid new events outcomes event outcome sound before on last clean.
+            crash_in old.server mid.server new.server (messages_cut events before.nexts)
+            (messages_cut (event ∷ []) last.nexts) (replies_given before.nexts outcomes)
+            (replies_given last.nexts (outcome ∷ [])) last.served.servers sound before.served on last.served.each
+            (step_cuts event last.nexts) clean;
       }

@@ -107,8 +107,8 @@ TellsFor _ moment old new = new ≡ old
 abbrev pub AnswersNow : {R : Type 0} → (R → Custody) → Option (List (Option ℤ)) → Option (List (Option ℤ))
     → ServerModel R → Stream → Result Answered DriveEnd → ServerModel R → Stream → Type 0
 AnswersNow custody told told_new old stream (Ok answered) new after =
-    (moment : ℤ) × (given : Next) × IsNext stream given after × IsGiven given after answered
-    × ServesNext custody moment old (Some given) (reply_of answered) new × TellsFor given moment told told_new
+    (moment : ℤ) × (is : AnswersNext custody moment old stream (Ok answered) new after)
+    × TellsFor is.0 moment told told_new
 AnswersNow custody told told_new old stream (Err NoClock) new after =
     IsLook stream look.Message × Grows told told_new (None ∷ []) × (new ≡ old) × (after ≡ stream)
 AnswersNow custody told told_new old stream (Err end.Memory) new after =

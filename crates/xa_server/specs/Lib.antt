@@ -24,4 +24,6 @@ pub mod Steps
 pub mod FrontLaws
 pub mod Transfers
 pub mod Driven
+pub mod Peers
 pub mod handling
+pub mod Turning

@@ -1,11 +1,16 @@
--- Steps of a server, one after another, and a crash inside the next: what is found when the server begins again.
+-- Steps of a server or of a front, one after another, and a crash inside the next: what is found when the server
+-- begins again.
 use Rattle.std.specs.Prelude.{◌≤◌, ℤ, List, [], ◌∷◌, ◌++◌, length, Option, Some, IsTrue}
 use Rattle.xa_http.specs.declared.session.Next.{Next}
 use Rattle.xa_http.specs.declared.session.Next.TheVariants as next
 use Rattle.xa_records.specs.Keeper.{Custody}
 use Rattle.xa_server.specs.Alone.{Event}
 use Rattle.xa_server.specs.Connection.{ServesNext}
+use Rattle.xa_server.specs.declared.event.Event.{Event as FrontEvent}
+use Rattle.xa_server.specs.declared.event.Outcome.{Outcome}
+use Rattle.xa_server.specs.declared.front.Front.{Front}
 use Rattle.xa_server.specs.declared.replies.Reply.{Reply}
+use Rattle.xa_server.specs.Front.{IsPlayed, front_is_clean, front_is_open, front_is_sound, messages_cut, replies_given}
 use Rattle.xa_server.specs.Interruption.{LeavesFirst}
 use Rattle.xa_server.specs.Isolation.{answered_events}
 use Rattle.xa_server.specs.Serving.{AreServed}
@@ -37,3 +42,18 @@ pub record StepsAreKept {R : Type 0} (custody : R → Custody) : Type 0 where
       → AreServed custody mid new last rest → length last ≤ 1 → (custody new.records).clean
       → LeavesFirst custody old new (answered_events events replies ++ last)
       (length (answered_events (events ++ last) (replies ++ rest)))
+
+-- The law of a front: a step cuts off one message at most, whatever its event. And from a sound keeper any number of
+-- steps, after which it can go on, and then a crash inside the next, or after it, leave the states after the first k of
+-- the messages that they cut off
+pub record PlaysAreKept {R : Type 0} (custody : R → Custody) : Type 0 where
+  pub one : (old new : Front R) (event : FrontEvent) (outcome : Outcome)
+      → (is : IsPlayed custody old new (event ∷ []) (outcome ∷ [])) → length (messages_cut (event ∷ []) is.nexts) ≤ 1
+  pub crash : (old mid new : Front R) (events : List FrontEvent) (outcomes : List Outcome) (event : FrontEvent)
+      (outcome : Outcome) → front_is_sound custody old → (before : IsPlayed custody old mid events outcomes)
+      → front_is_open custody mid → (last : IsPlayed custody mid new (event ∷ []) (outcome ∷ []))
+      → front_is_clean custody new → LeavesFirst custody old.server new.server
+      (answered_events (messages_cut events before.nexts) (replies_given before.nexts outcomes)
+      ++ messages_cut (event ∷ []) last.nexts)
+      (length (answered_events (messages_cut events before.nexts ++ messages_cut (event ∷ []) last.nexts)
+      (replies_given before.nexts outcomes ++ replies_given last.nexts (outcome ∷ []))))

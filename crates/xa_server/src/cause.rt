@@ -15,11 +15,22 @@ pub enum Cause {
     OverLimit(OverLimit),
 }
 
-/// A message that was refused.
+/// Why a message gets the fixed 503.
+#[derive(Clone, Copy, Debug, Error)]
+pub enum Unanswered {
+    /// The server refused it.
+    #[error(transparent)]
+    Refused(Cause),
+    /// It asks for a change where none is taken (`Front::turn_away`). The server wasn't asked.
+    #[error("it asks for a change, and changes are taken at another address")]
+    TurnedAway,
+}
+
+/// A message that was refused, or turned away.
 #[derive(Debug, Drop)]
 pub struct RefusedMessage {
     /// Why.
-    pub cause: Cause,
+    pub cause: Unanswered,
     /// The domain that its path names; none if it names none, or if that couldn't be told for want of memory.
     pub domain: Option<Text>,
     /// How many others were refused since the last one that was taken (`Server::take_refused`).

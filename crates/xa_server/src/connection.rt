@@ -8,6 +8,8 @@ ghost use Rattle.xa_server.specs.Connection.{AnswersNext, EndsBy, IsHolding, Tak
 ghost use Rattle.xa_server.specs.Connection.{answer_of, empty_stream};
 ghost use Rattle.xa_server.specs.Interruption.{ServesMessage};
 
+mod turning;
+
 use crate::error_code::fault_reply;
 use crate::event::Answer;
 use crate::front_error::FrontError;

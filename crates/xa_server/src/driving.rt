@@ -149,7 +149,7 @@ fn read_piece<I: Reader>(
 
 /// Answers the messages of a connection until it ends: first those that it holds, then those that are read.
 /// How it has ended.
-fn drive_open<R: Records, I: Reader, W: Writer, C: Clock>(
+pub(crate) fn drive_open<R: Records, I: Reader, W: Writer, C: Clock>(
     server: &mut Server<R>,
     connection: &mut Connection,
     reader: &mut I,

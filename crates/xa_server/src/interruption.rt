@@ -1,7 +1,8 @@
 //! What a crash leaves of a list of messages.
 ghost use Rattle.xa_server.specs.Interruption.{KeepsAnswered};
-ghost use Rattle.xa_server.specs.Steps.{StepsAreKept};
+ghost use Rattle.xa_server.specs.Steps.{PlaysAreKept, StepsAreKept};
 
+use crate::front::Front;
 use crate::server::Server;
 use xa_records::Records;
 
@@ -21,5 +22,15 @@ impl<R: Records> Server<R> {
     /// `keeps_what_was_answered` says. What `run`, `play` and `drive` say was served are steps.
     pub fn steps_are_kept()
         ensures { StepsAreKept R.custody }
+    {}
+}
+
+impl<R: Records> Front<R> {
+    /// Law: a step (`Front::step`) cuts off one message at most, and so one step is all that is done between
+    /// two messages. Any number of steps, on whatever connections, after which the keeper can go on, and then
+    /// a crash inside the next, or after it, leave the states after the first k of the messages that they cut
+    /// off, as `keeps_what_was_answered` says.
+    pub fn plays_are_kept()
+        ensures { PlaysAreKept R.custody }
     {}
 }

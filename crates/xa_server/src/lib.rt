@@ -12,12 +12,13 @@
 //! Files of connections: a `connection` cuts its messages from its own bytes, and has a server answer them. A
 //! `front` is a server beside its connections, the `lines`. Its calls are values of `event`, its refusals are
 //! `front_error`. `driving` reads a connection from a `reader` until it ends as `drive_end` says, asks the
-//! `clock`, and sends each reply by `sending` to a `writer`. `interruption` has the law of a crash at any
-//! moment.
+//! `clock`, and sends each reply by `sending` to a `writer`. `peers` give connections, or an `accept_error`.
+//! `interruption` has the law of a crash at any moment.
 //!
 //! In a file of functions each stands after those that it calls. In a file of a type its methods come first.
 #![tactic(auto)]
 
+mod accept_error;
 mod admission;
 mod asks;
 mod authorization;
@@ -43,6 +44,7 @@ mod interruption;
 mod limits;
 mod lines;
 mod oversized;
+mod peers;
 mod reader;
 mod readings;
 mod received_message;
@@ -55,17 +57,19 @@ mod view;
 mod views;
 mod writer;
 
-pub use cause::{Cause, RefusedMessage};
+pub use accept_error::AcceptError;
+pub use cause::{Cause, RefusedMessage, Unanswered};
 pub use clock::Clock;
 pub use connection::{Answered, Connection};
 pub use drive_end::DriveEnd;
 pub use driving::drive;
 pub use error_code::{ErrorCode, fault_reply};
 pub use event::{Answer, Event, Outcome};
-pub use front::{Front, lines_are_streams};
+pub use front::{Front, lines_are_streams, unchanging_messages_leave_the_state};
 pub use front_error::FrontError;
 pub use holding::Holding;
 pub use lines::{Conn, Lines};
+pub use peers::{Peers, drive_next};
 pub use reader::Reader;
 pub use replies::Reply;
 pub use server::{Server, two_worlds_agree};

@@ -44,6 +44,13 @@ fn unavailable_reply() -> &'static [u8]
     UNAVAILABLE
 }
 
+/// The reply of a message that is turned away: the fixed 503, too. It is sent, and no refusal.
+pub(crate) fn turned_away_reply(alloc: Global) -> Result<Items<u8>, AllocError>
+    ensures { IfOk result (λ bytes. bytes ≡ unavailable_reply) }
+{
+    Ok(Items::from_vec(Vec::from_slice(alloc, unavailable_reply())?))
+}
+
 /// The bytes of a reply of that status, with that media type, extra field and body.
 pub(crate) fn items_of_reply(
     alloc: Global,

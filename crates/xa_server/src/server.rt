@@ -5,7 +5,7 @@ ghost use Rattle.xa_server.specs.Isolation.{TwoWorldsAgree, TwoWorldsAgreeBeside
 ghost use Rattle.xa_server.specs.declared.replies.Reply.TheVariants.{Refused};
 ghost use Rattle.xa_server.specs.handling.Replying.{IsReplyOf};
 
-use crate::cause::{Cause, RefusedMessage};
+use crate::cause::{Cause, RefusedMessage, Unanswered};
 use crate::dispatch::{domain_of, reply_to_message};
 use crate::handling_error::HandlingError;
 use crate::received_message::ReceivedMessage;
@@ -22,7 +22,7 @@ use xa_value::{Items, Moment};
 #[derive(Drop)]
 pub struct Server<R: Records> {
     /// Where memory comes from.
-    alloc: Global,
+    pub(crate) alloc: Global,
     /// The routes of the messages.
     routes: Routes,
     /// The digest of the operator's token.
@@ -206,6 +206,18 @@ impl<R: Records> Server<R> {
         self.refused.take()
     }
 
+    /// The routes of the messages.
+    pub(crate) fn routes(&self) -> &Routes {
+        &self.routes
+    }
+
+    /// Notes that a message was turned away.
+    pub(crate) fn note_turned_away(&mut self, message: &Message)
+        ensures { self.new ≡ self.old }
+    {
+        note_turned_away(self.alloc, &self.routes, &mut self.refused, message);
+    }
+
     /// The same server, which from now on refuses each message whose decision asks for more than `units` of
     /// work; with none it may ask for any. A unit is a byte of a text or of a value that is made, copied or
     /// compared; a step, such as an expression or a match, is 32, and a rule that is looked at 80. Work is
@@ -321,6 +333,17 @@ fn note_refused(
         Some(over) => Cause::OverLimit(over),
         None => Cause::Wanting(*failure),
     };
+    note(alloc, routes, refused, Unanswered::Refused(cause), message);
+}
+
+/// Notes the message as the last one that was refused, for that cause.
+fn note(
+    alloc: Global,
+    routes: &Routes,
+    refused: &mut Option<RefusedMessage>,
+    cause: Unanswered,
+    message: &Message,
+) {
     let others = match refused {
         Some(before) => before.others.saturating_add(1),
         None => 0,
@@ -331,6 +354,23 @@ fn note_refused(
         domain,
         others,
     });
+}
+
+/// Notes a message that was turned away. If another is noted that was refused, it is one of the others: who
+/// sends what is turned away hides no want of memory or storage.
+fn note_turned_away(
+    alloc: Global,
+    routes: &Routes,
+    refused: &mut Option<RefusedMessage>,
+    message: &Message,
+) {
+    if let Some(before) = refused {
+        if matches!(before.cause, Unanswered::Refused(_)) {
+            before.others = before.others.saturating_add(1);
+            return;
+        }
+    }
+    note(alloc, routes, refused, Unanswered::TurnedAway, message);
 }
 
 /// The headline in two worlds: two runs with one operator, one beginning state of a domain and the same

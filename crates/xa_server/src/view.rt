@@ -1,5 +1,5 @@
 //! The view of a domain, made of what the keeper has for it.
-ghost use Rattle.std.specs.Prelude.{◌≡◌, ◌+◌, false, map, true, IfOk};
+ghost use Rattle.std.specs.Prelude.{◌≡◌, ◌+◌, ◌≤◌, false, map, true, IfOk};
 ghost use Rattle.xa_shelf.specs.Allowance.{IsBeyond};
 ghost use Rattle.xa_decide.specs.declared.limits.OverLimit.TheVariants.{Reading};
 ghost use Rattle.xa_decide.specs.Limits.{IfOver};
@@ -50,6 +50,7 @@ pub(crate) fn view_of_kept(
     ensures value { AreKeyed kept.texts → IfOk result (λ view. view ≡ viewed kept) }
     ensures read { AreKeyed kept.texts
         → IfOk result (λ view. IsNotTooLarge view.tree → reader.old.left ≡ reader.new.left + read_for kept) }
+    ensures within { AreKeyed kept.texts → IfOk result (λ _. read_for kept ≤ reader.old.left) }
     ensures refused { AreKeyed kept.texts → reader.old.is_spent ≡ false → reader.new.is_spent ≡ true
         → IsBeyond reader.old (read_for kept) }
     ensures over { IfOver result (λ over. (over ≡ Reading) × (reader.new.is_spent ≡ true)) }

@@ -7,7 +7,8 @@ use std::alloc::Global;
 use xa_http::Message;
 use xa_records::Records;
 use xa_server::{
-    Answer, Clock, Conn, DriveEnd, Event, Front, Outcome, Reader, Reply, Server, Writer, drive,
+    AcceptError, Answer, Clock, Conn, DriveEnd, Event, Front, Outcome, Peers, Reader, Reply,
+    Server, Writer, drive, drive_next,
 };
 use xa_value::Moment;
 
@@ -55,6 +56,14 @@ pub trait FrontCalls {
         writer: &mut W,
         clock: &mut C,
     ) -> DriveEnd;
+
+    /// Takes the next connection, and drives it. How that has ended.
+    fn drive_next<P: Peers, C: Clock>(
+        &mut self,
+        peers: &mut P,
+        clock: &mut C,
+        is_last: bool,
+    ) -> Result<DriveEnd, AcceptError>;
 }
 
 impl<R: Records> FrontCalls for Front<R> {
@@ -86,6 +95,15 @@ impl<R: Records> FrontCalls for Front<R> {
         clock: &mut C,
     ) -> DriveEnd {
         drive(self, conn, reader, writer, clock)
+    }
+
+    fn drive_next<P: Peers, C: Clock>(
+        &mut self,
+        peers: &mut P,
+        clock: &mut C,
+        is_last: bool,
+    ) -> Result<DriveEnd, AcceptError> {
+        drive_next(&mut self.server, peers, clock, is_last)
     }
 }
 

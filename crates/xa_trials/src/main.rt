@@ -44,6 +44,7 @@ mod versions;
 mod calls;
 mod clock;
 mod connections;
+mod door;
 mod files;
 mod front_calls;
 mod keeper_rows;

@@ -1,4 +1,4 @@
-"""Random rows of a keeper of records: changes and readings of a few domains, near to one another, so that they are
+"""Random rows of a repository of records: changes and readings of a few domains, near to one another, so that they are
 made, refused and empty by turns."""
 from drafts import written
 from identifiers import SHORTHANDS

@@ -1,5 +1,5 @@
 """Random stores of both schemas, as SQL: what a random server's domains hold, now and then damaged or beside a further
-table; and messages to a server whose keeper is opened over one."""
+table; and messages to a server whose repository is opened over one."""
 from rows import encoded
 from servers import TurnedAway, set_up
 from tables import MAKING_OF, as_first, rows_of_domains

@@ -72,7 +72,7 @@ ADVICE = {**pdp_client.ADVICE,
           "SameVersionOtherText": "other text is kept there under this kind, id and version",
           "StillActive": "it is active",
           "Absent": "it isn't there",
-          "Unavailable": "the server is short of memory, or its storage failed"}
+          "Unavailable": "the server is short of memory, its storage failed, or it takes changes at another address"}
 
 
 class Client:

@@ -117,6 +117,9 @@ class Packed(DeployTest):
                        capture_output=True, env={**os.environ, "DESTDIR": str(self.room / "there")})
         installed = self.room / "there" / "usr" / "lib" / "pdpd" / "policy.pyz"
         self.assertEqual((installed.read_bytes() == held, os.access(installed, os.X_OK)), (True, True))
+        for page in ("README.md", "CHANGELOG.md", "SECURITY.md"):
+            for folder in (self.room / "unpacked" / name, self.room / "there" / "usr" / "share" / "doc" / "pdpd"):
+                self.assertEqual((folder / page).read_bytes(), (TOP / page).read_bytes(), folder)
 
     def test_a_script_in_place_of_the_program(self) -> None:
         """What `make run` leaves without a proof, or nothing at all, isn't packed, and a line says what to name."""
@@ -130,6 +133,14 @@ class Packed(DeployTest):
                 self.assertEqual((packs.returncode, packs.stderr.count("\n")), (1, 1), packs.stderr)
                 self.assertIn(told, packs.stderr)
                 self.assertFalse((self.room / "refused").exists())
+
+    def test_without_a_proof(self) -> None:
+        """Where nothing is proved and no program is named, a line says how one is."""
+        code = ("import sys; sys.path.insert(0, 'deploy'); import dist\n"
+                "dist.programs.proved_program = lambda name: None\ndist.program_of(None)")
+        packs = subprocess.run([sys.executable, "-c", code], cwd=TOP, capture_output=True, text=True, check=False)
+        self.assertEqual((packs.returncode, packs.stderr.count("\n")), (1, 1), packs.stderr)
+        self.assertIn("`make dist PROGRAM=PATH`", packs.stderr)
 
     def test_the_version(self) -> None:
         """It is that of pdpd."""

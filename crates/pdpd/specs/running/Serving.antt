@@ -4,13 +4,12 @@ use Rattle.xa_records.specs.Keeper.{Custody}
 use Rattle.xa_server.specs.declared.front.Front.{Front}
 use Rattle.xa_server.specs.declared.replies.Reply.{Reply as ServerReply}
 use Rattle.xa_server.specs.Alone.{Event}
-use Rattle.xa_server.specs.Driven.{Known}
+use Rattle.xa_server.specs.Peers.{HasVisits, Peer, Visit}
 use Rattle.pdpd.specs.declared.fault.Fault.{Fault}
 use Rattle.pdpd.specs.declared.serve.setting.Setting.TheVariants.{Work, Reply, Reading, Views, Idle, Sums}
-use Rattle.pdpd.specs.Connections.{AreIsolated, Clocked, ServesOne, ServesVisit}
+use Rattle.pdpd.specs.Connections.{AreIsolated, Clocked, ServesVisit}
 use Rattle.pdpd.specs.Fault.{IsOfSetting}
 use Rattle.pdpd.specs.OneRun.{AreOneRun}
-use Rattle.pdpd.specs.Peers.{HasVisits, Peer, Visit}
 
 -- a fault of one of the settings
 abbrev pub IsOfSettings : Fault → Type 0
@@ -19,21 +18,7 @@ IsOfSettings fault =
     ⊎ (IsOfSetting Reply fault
     ⊎ (IsOfSetting Reading fault ⊎ (IsOfSetting Views fault ⊎ (IsOfSetting Idle fault ⊎ IsOfSetting Sums fault))))
 
--- the fault by which the program ends, if it does
-abbrev pub fault_in : Result (Unit {0}) Fault → Option Fault
-fault_in (Ok _) = None
-fault_in (Err fault) = Some fault
-
--- a connection was served, and the next is; or the program ends by the fault. `known_old` and `known_new` are what is
--- known of its reader, its writer and the clock
-unfoldable pub ServesConnection : {R : Type 0} → (R → Custody) → Result (Unit {0}) Fault → Front R → Front R → Known
-    → Known → Type 0
-ServesConnection custody result old new known_old known_new =
-    (events : List Event) × (replies : List ServerReply)
-    × ServesOne custody (fault_in result) old new known_old known_new events replies
-    × AreOneRun custody old.server new.server events replies
-
--- that connection was served so
+-- a connection was served, and the program ends by the fault, or goes on
 abbrev pub ServesAny : {R : Type 0} → (R → Custody) → Option Fault → Clocked R → Clocked R → Visit → Type 0
 ServesAny custody fault old new visit =
     (events : List Event) × (replies : List ServerReply) × ServesVisit custody fault old new events replies visit

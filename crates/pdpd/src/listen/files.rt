@@ -1,5 +1,5 @@
 //! From the files of a store to its files, by connections that are served at once.
-ghost use Rattle.std.specs.Prelude.{◌≡◌};
+ghost use Rattle.std.specs.Prelude.{◌≡◌, is_some};
 ghost use Rattle.sqlite.specs.WalFiles.{image_at};
 ghost use Rattle.pdpd.specs.Beginning.{known_text};
 ghost use Rattle.pdpd.specs.declared.fault.Fault.TheVariants.{Place};
@@ -25,8 +25,8 @@ pub fn listen_and_close<S: Start, F: OpenFile + Read + Drop, C: Clock>(
     start: S,
     clock: &mut C,
 ) -> Ended<FileFrom<S>, FileRecords<S>>
-    ensures served { HasServedAtOnce (image_at S.Start) (known_text F.remaining token) (C.told clock.old)
-        (C.told clock.new) result }
+    ensures served { HasServedAtOnce (image_at S.Start) (known_text F.remaining token)
+        (is_some listening.now.changes) (C.told clock.old) (C.told clock.new) result }
     ensures place { IsNoPlace listening.now.address → result ≡ Unbegun Place }
 {
     let left = match listen(rt, listening, token, start, clock) {

@@ -23,6 +23,9 @@ const DOOR: usize = PLACES;
 /// The token of standard input.
 const INPUT: usize = PLACES + 1;
 
+/// The token of the door for changes.
+const CHANGES: usize = PLACES + 2;
+
 /// The sockets of the system.
 #[derive(Drop)]
 pub struct Sockets<'a> {
@@ -32,6 +35,8 @@ pub struct Sockets<'a> {
     events: Events,
     /// Where connections are taken, unless no more are.
     door: Option<Door>,
+    /// Where those for changes are, if that is an address of their own, unless no more are.
+    changes: Option<Door>,
     /// The connection that was taken last, unless it is seated.
     guest: Option<Stream>,
     /// The connections that are seated, by their places.
@@ -57,6 +62,7 @@ fn free_seats(rt: &HostRuntime) -> Result<Vec<Option<Stream>>, Fault> {
 fn note(board: &mut Board, event: &Event, input: &Input, poll: &Poll) {
     match event.token().0 {
         DOOR => board.door = true,
+        CHANGES => board.changes = true,
         INPUT => board.end |= input.has_ended(poll.registry(), event),
         place => board.note(
             place,
@@ -89,11 +95,37 @@ fn nobody() -> io::Error {
     io::Error::from(ErrorKind::NotConnected)
 }
 
+/// Takes a connection that waits at a door, if there is one.
+fn take_at(door: &Option<Door>, guest: &mut Option<Stream>) -> Arrival {
+    let Some(door) = door else {
+        return Arrival::Nobody;
+    };
+    match door.accept() {
+        Ok(stream) => {
+            *guest = Some(stream);
+            Arrival::Came
+        }
+        Err(error) => arrival_after(error.kind(), number_of(&error)),
+    }
+}
+
+/// Has the readiness of the door for changes told, if there is one.
+fn watch_changes(poll: &Poll, changes: &mut Option<Door>) -> Result<(), Fault> {
+    match changes {
+        Some(door) => door
+            .register(poll.registry(), Token(CHANGES))
+            .map_err(|_| Fault::Waiting),
+        None => Ok(()),
+    }
+}
+
 impl<'a> Sockets<'a> {
-    /// Takes connections at the door. If `ends_with_input`, the end of standard input is told, too.
+    /// Takes connections at the door, and at that for changes, if there is one. If `ends_with_input`, the end
+    /// of standard input is told, too.
     pub fn new(
         rt: &HostRuntime,
         mut door: Door,
+        mut changes: Option<Door>,
         ends_with_input: bool,
         telling: Telling<'a>,
     ) -> Result<Sockets<'a>, Fault> {
@@ -103,14 +135,16 @@ impl<'a> Sockets<'a> {
         if door.register(poll.registry(), Token(DOOR)).is_err() {
             return Err(Fault::Waiting);
         }
+        watch_changes(&poll, &mut changes)?;
         let input = Input::new(rt);
         if ends_with_input && input.watch(poll.registry(), Token(INPUT)).is_err() {
             return Err(Fault::Input);
         }
         Ok(Sockets {
             poll,
-            events: Events::with_capacity(rt.alloc(), PLACES + 2)?,
+            events: Events::with_capacity(rt.alloc(), PLACES + 3)?,
             door: Some(door),
+            changes,
             guest: None,
             seats: free_seats(rt)?,
             input,
@@ -142,16 +176,11 @@ impl Network for Sockets<'_> {
     }
 
     fn accept(&mut self) -> Arrival {
-        let Some(door) = &self.door else {
-            return Arrival::Nobody;
-        };
-        match door.accept() {
-            Ok(stream) => {
-                self.guest = Some(stream);
-                Arrival::Came
-            }
-            Err(error) => arrival_after(error.kind(), number_of(&error)),
-        }
+        take_at(&self.door, &mut self.guest)
+    }
+
+    fn accept_change(&mut self) -> Arrival {
+        take_at(&self.changes, &mut self.guest)
     }
 
     fn seat(&mut self, place: usize) {
@@ -200,6 +229,7 @@ impl Network for Sockets<'_> {
 
     fn shut_door(&mut self) {
         self.door = None;
+        self.changes = None;
     }
 
     fn tell_of_refused(&mut self, refused: &RefusedMessage) {

@@ -1,11 +1,9 @@
 //! Taking connections: one that fails is passed over, unless the listener failed.
 ghost use Rattle.std.specs.Prelude.{◌≡◌, IfErr, IsFalse, IsTrue, MatchResult};
-ghost use Rattle.pdpd.specs.declared.fault.Fault.TheVariants.{Connection, Memory};
+ghost use Rattle.xa_server.specs.declared.accept_error.AcceptError.TheVariants.{Failed, Memory};
 ghost use Rattle.pdpd.specs.Fault.{goes_on_after, is_of_network, is_passing, is_want_of_room};
 
-use crate::fault::Fault;
 use crate::serve::parting::part_with;
-use crate::serve::peers::Peers;
 use std::alloc::Global;
 use std::io::{self, ErrorKind, Read, Write};
 use std::net::{TcpListener, TcpStream};
@@ -13,6 +11,7 @@ use std::rc::Rc;
 use std::rt::HostRuntime;
 use std::thread;
 use std::time::Duration;
+use xa_server::{AcceptError, Peers};
 
 /// How often in a row taking a connection may fail. Peers that close first end the program only if so
 /// many do in a row.
@@ -73,11 +72,11 @@ impl Listening {
     }
 
     /// Takes the next connection, and prepares it.
-    fn next_connection(&self) -> Result<TcpStream, Fault>
-        ensures { IfErr result (λ fault. fault ≡ Connection) }
+    fn next_connection(&self) -> Result<TcpStream, AcceptError>
+        ensures { IfErr result (λ error. error ≡ Failed) }
     {
         let Some(listener) = &self.listener else {
-            return Err(Fault::Connection);
+            return Err(AcceptError::Failed);
         };
         for _ in 0..MAX_FAILURES {
             match listener.accept() {
@@ -88,7 +87,7 @@ impl Listening {
                 Err(error) => pass_over(&self.rt, error.kind(), number_of(&error))?,
             }
         }
-        Err(Fault::Connection)
+        Err(AcceptError::Failed)
     }
 }
 
@@ -125,14 +124,14 @@ impl Write for SharedStream {
 }
 
 /// The connection, to be read from and to be written to.
-fn shared(alloc: Global, stream: TcpStream) -> Result<(SharedStream, SharedStream), Fault>
-    ensures { IfErr result (λ fault. fault ≡ Memory) }
+fn shared(alloc: Global, stream: TcpStream) -> Result<(SharedStream, SharedStream), AcceptError>
+    ensures { IfErr result (λ error. error ≡ Memory) }
 {
     let Ok(input) = Rc::new(alloc, stream) else {
-        return Err(Fault::Memory);
+        return Err(AcceptError::Memory);
     };
     let Ok(output) = input.clone() else {
-        return Err(Fault::Memory);
+        return Err(AcceptError::Memory);
     };
     Ok((
         SharedStream {
@@ -151,7 +150,7 @@ impl Peers for Listening {
 
     type Output = SharedStream;
 
-    fn next(&mut self, is_last: bool) -> Result<(SharedStream, SharedStream), Fault> {
+    fn next(&mut self, is_last: bool) -> Result<(SharedStream, SharedStream), AcceptError> {
         let stream = self.next_connection()?;
         if is_last {
             self.listener = None;
@@ -212,10 +211,10 @@ pub(crate) fn goes_on_after(kind: ErrorKind, number: u32) -> bool
     is_want_of_room(number) || is_passing(kind) || is_of_network(number)
 }
 
-/// Passes over that failure, after a pause if there was no room; or it is a fault.
-fn pass_over(rt: &HostRuntime, kind: ErrorKind, number: u32) -> Result<(), Fault>
+/// Passes over that failure, after a pause if there was no room; or none is taken any more.
+fn pass_over(rt: &HostRuntime, kind: ErrorKind, number: u32) -> Result<(), AcceptError>
     ensures { MatchResult result (λ _. IsTrue (goes_on_after kind number))
-        (λ fault. (fault ≡ Connection) × IsFalse (goes_on_after kind number)) }
+        (λ error. (error ≡ Failed) × IsFalse (goes_on_after kind number)) }
 {
     if is_want_of_room(number) {
         thread::sleep(rt, Duration::from_millis(PAUSE_MILLISECONDS));
@@ -224,7 +223,7 @@ fn pass_over(rt: &HostRuntime, kind: ErrorKind, number: u32) -> Result<(), Fault
     if is_passing(kind) || is_of_network(number) {
         return Ok(());
     }
-    Err(Fault::Connection)
+    Err(AcceptError::Failed)
 }
 
 /// Lets replies go out at once, without Nagle's algorithm (RFC 9293, section 3.7.4). Sets for how many

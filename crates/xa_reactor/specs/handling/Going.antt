@@ -9,8 +9,10 @@ use Rattle.xa_server.specs.declared.event.Outcome.TheVariants as outcome
 use Rattle.xa_server.specs.declared.front.Front.{Front}
 use Rattle.xa_server.specs.declared.front_error.FrontError.{FrontError}
 use Rattle.xa_server.specs.declared.lines.Conn.{Conn}
-use Rattle.xa_server.specs.Front.{IsPlayed}
 use Rattle.xa_server.specs.Transfers.{Grows}
+use Rattle.xa_server.specs.Turning.{Handling, IsPlayedBeside}
+use Rattle.xa_reactor.specs.declared.access.Access.{Access}
+use Rattle.xa_reactor.specs.declared.access.Access.TheVariants.{All}
 use Rattle.xa_reactor.specs.declared.halt.Halt.{Halt}
 use Rattle.xa_reactor.specs.declared.lane.Lane.{Lane}
 use Rattle.xa_reactor.specs.declared.lane.Share.{Share}
@@ -20,7 +22,7 @@ use Rattle.xa_reactor.specs.declared.outgoing.Sending.{Sending}
 use Rattle.xa_reactor.specs.declared.progress.Progress.{Progress}
 use Rattle.xa_reactor.specs.declared.progress.Progress.TheVariants.{Ends, Goes, Waits}
 use Rattle.xa_reactor.specs.Sending.{IsHeldOn, IsSentOf, answer_bytes, count_of, is_last, under_way_of}
-use Rattle.xa_reactor.specs.Step.{Calls, DropsBy, EndsAs, IsAsked, IsEnd, IsFed, Keeps, Lasts, PartsFor}
+use Rattle.xa_reactor.specs.Step.{AreHandledBy, Calls, DropsBy, EndsAs, IsAsked, IsEnd, IsFed, Keeps, Lasts, PartsFor}
 use Rattle.xa_reactor.specs.Timing.{KeepsTime, MarksAt}
 use Rattle.xa_reactor.specs.Traffic.{AreAt, Traffic, finished, received_at, sent_at}
 
@@ -98,7 +100,7 @@ TakesAnswer (Some answer) at progress old new =
 
 -- a front made these calls
 pub record Makes {R : Type 0} (custody : R → Custody) (calls : Calls) (front_old front_new : Front R) : Type 0 where
-  pub played : IsPlayed custody front_old front_new calls.events calls.outcomes
+  pub played : IsPlayedBeside custody front_old front_new calls.hows calls.events calls.outcomes
   pub keeps : Keeps custody front_old front_new
 
 -- a piece came to a connection's stream; or it was dropped, behind the last reply or for want of memory
@@ -109,6 +111,7 @@ pub record Feeds {R : Type 0} (custody : R → Custody) (conn : Conn) (piece : L
   pub calls : Calls
   pub all : piece ≡ read ++ dropped
   pub fed : IsFed conn read dropped calls.events calls.outcomes
+  pub served : AreHandledBy All calls.hows
   pub makes : Makes custody calls front_old front_new
   pub lasts : Lasts conn front_old.lines front_new.lines
 
@@ -138,10 +141,16 @@ abbrev pub answer_of_outcome : Outcome → Option Answer
 answer_of_outcome (outcome.Answered result) = answer_in result
 answer_of_outcome _ = None
 
--- the next of a connection was answered; or it wasn't, and maybe wasn't asked for
-pub record Asks {R : Type 0} (custody : R → Custody) (conn : Conn) (answer : Option Answer)
-    (front_old front_new : Front R) : Type 0 where
+-- these are all of one handling
+abbrev pub AreAll : Handling → List Handling → Type 0
+AreAll how [] = Unit {0}
+AreAll how (one ∷ hows) = (one ≡ how) × AreAll how hows
+
+-- the next of a connection was answered, and handled so; or it wasn't, and maybe wasn't asked for
+pub record Asks {R : Type 0} (custody : R → Custody) (conn : Conn) (are : List Handling → Type 0)
+    (answer : Option Answer) (front_old front_new : Front R) : Type 0 where
   pub calls : Calls
+  pub handled : are calls.hows
   pub asked : IsAsked conn answer calls.events calls.outcomes
   pub makes : Makes custody calls front_old front_new
   pub lasts : Lasts conn front_old.lines front_new.lines
@@ -231,7 +240,7 @@ pub record AnswersAndSends {R N : Type 0} (custody : R → Custody) (done : N �
   pub at : ℕ
   pub later : as_nanos share.now ≤ at
   pub answer : Option Answer
-  pub asks : Asks custody share.conn answer front_old front_new
+  pub asks : Asks custody share.conn (AreHandledBy share.access) answer front_old front_new
   pub traffic : List Traffic
   pub there : AreAt share.conn.number traffic
   pub nothing_read : received_at share.conn.number traffic ≡ []

@@ -62,6 +62,7 @@ impl Reactor {
             now: terms.began,
             has_room: self.has_room(lane, place),
             parts: terms.parts,
+            access: lane.access,
         })
     }
 
@@ -91,6 +92,8 @@ impl Reactor {
         let went = lane.go(front, network, clock, timer, &mut ready, room, share);
         self.board.put(place, ready);
         let progress = unless_late(went, &lane, terms);
+        // It is what it was; no clause of `go` says so.
+        lane.access = share.access;
         self.lanes.put(place, Some(lane));
         progress
     }

@@ -1,14 +1,18 @@
 //! Who is taken, and who has to go for it.
-ghost use Rattle.std.specs.Prelude.{◌≡◌, ◌≢◌, None, IfSome, Some};
+ghost use Rattle.std.specs.Prelude.{◌≡◌, ◌≢◌, true, None, IfSome, Some};
 ghost use Rattle.std.specs.Duration.{as_nanos};
 ghost use Rattle.xa_server.specs.Connection.{empty_stream};
 ghost use Rattle.xa_server.specs.Lines.{first_free, line_at, with_line};
+ghost use Rattle.xa_reactor.specs.declared.access.Access.{Access};
+ghost use Rattle.xa_reactor.specs.declared.access.Access.TheVariants.{Changes};
 ghost use Rattle.xa_reactor.specs.declared.board.Board.{Board};
 ghost use Rattle.xa_reactor.specs.handling.Going.{Makes};
 ghost use Rattle.xa_reactor.specs.handling.Taking.{Follows, IsRoom, Opens, TakesOn};
 ghost use Rattle.xa_reactor.specs.handling.Turning.{Closes, TakesSome};
-ghost use Rattle.xa_reactor.specs.Turn.{AreAlike, AreOpen, MayGo, calls_in, closes, lane_at, opens};
+ghost use Rattle.xa_reactor.specs.Turn.{AreAlike, Fits, IsFullFor, MayCome, MayGo, calls_in, closes, lane_at};
+ghost use Rattle.xa_reactor.specs.Turn.{opens};
 
+use crate::access::Access;
 use crate::board::Ready;
 use crate::halt::Halt;
 use crate::lane::Lane;
@@ -21,11 +25,12 @@ use xa_records::Records;
 use xa_server::{Conn, Event, Front, Outcome};
 
 /// Opens a connection of the front, the least that is free.
+#[tactic(auto, using(crate::proofs::TakingLemmas::begun_makes))]
 fn begin<R: Records>(front: &mut Front<R>) -> Conn
     requires { first_free front.old.lines ≢ None }
     ensures first { first_free front.old.lines ≡ Some result.number }
     ensures lines { front.new.lines ≡ with_line result (Some empty_stream) front.old.lines }
-    ensures makes { Makes R.custody (calls_in (opens result)) front.old front.new }
+    ensures makes { (access : Access) → Makes R.custody (calls_in (opens result access)) front.old front.new }
 {
     let Outcome::Begun(Ok(conn)) = front.step(&Event::Begin) else {
         unreachable!()
@@ -34,6 +39,7 @@ fn begin<R: Records>(front: &mut Front<R>) -> Conn
 }
 
 /// Closes a connection of the front.
+#[tactic(auto, using(crate::proofs::TakingLemmas::finished_makes))]
 fn finish<R: Records>(front: &mut Front<R>, conn: Conn)
     requires { line_at conn front.old.lines ≢ None }
     ensures lines { front.new.lines ≡ with_line conn None front.old.lines }
@@ -45,9 +51,9 @@ fn finish<R: Records>(front: &mut Front<R>, conn: Conn)
 impl Reactor {
     /// The connection that may be driven out for another, if there is one.
     #[tactic(auto, using(crate::proofs::TakingLemmas::may_go))]
-    fn to_drive_out(&self, now: Duration) -> Option<usize>
-        requires { AreOpen self.now.lanes }
-        ensures { IfSome result (λ place. MayGo self.now.board (as_nanos now) place self.now.lanes) }
+    fn to_drive_out(&self, access: Access, now: Duration) -> Option<usize>
+        requires { IsFullFor access self.now.lanes }
+        ensures { IfSome result (λ place. MayGo self.now.board (as_nanos now) place access self.now.lanes) }
     {
         match self.lanes.idlest(&self.board) {
             Some((place, since)) if grace_left(since, now).is_zero() => Some(place),
@@ -57,14 +63,17 @@ impl Reactor {
 
     /// Whether there is a place for another connection: a free one, or that of the one that is driven out
     /// for it.
-    fn room_for_one(&self, now: Duration) -> Option<Option<usize>>
+    fn room_for_one(&self, access: Access, now: Duration) -> Option<Option<usize>>
         ensures { IfSome result
-            (λ driven_out. IsRoom self.now.board (as_nanos now) driven_out self.now.lanes) }
+            (λ driven_out. IsRoom self.now.board (as_nanos now) driven_out access self.now.lanes) }
     {
-        if !self.lanes.is_full() {
+        if self.lanes.has_place(access) {
             return Some(None);
         }
-        match self.to_drive_out(now) {
+        if !self.lanes.is_full_for(access) {
+            return None;
+        }
+        match self.to_drive_out(access, now) {
             Some(place) => Some(Some(place)),
             None => None,
         }
@@ -90,11 +99,18 @@ impl Reactor {
         finish(front, Conn { number: place });
     }
 
-    /// Opens the connection that has come, at the least place that is free.
-    fn open<R: Records, N: Network>(&mut self, front: &mut Front<R>, network: &mut N, now: Duration)
+    /// Opens the connection that has come at that address, at the least place that is free.
+    fn open<R: Records, N: Network>(
+        &mut self,
+        front: &mut Front<R>,
+        network: &mut N,
+        access: Access,
+        now: Duration,
+    )
         requires alike { AreAlike self.old.lanes front.old.lines }
         requires free { first_free front.old.lines ≢ None }
-        ensures opens { Opens R.custody N.done (as_nanos now) self.old.lanes self.new.lanes
+        requires may { MayCome access self.old.lanes }
+        ensures opens { Opens R.custody N.done access (as_nanos now) self.old.lanes self.new.lanes
             front.old front.new network.old network.new }
         ensures alike { AreAlike self.new.lanes front.new.lines }
         ensures follows { (first : Board) → Follows first self.old.board (as_nanos now) self.old.lanes
@@ -104,26 +120,28 @@ impl Reactor {
         let conn = begin(front);
         network.seat(conn.number);
         self.board.put(conn.number, Ready::new());
-        self.lanes.put(conn.number, Some(Lane::new(now)));
+        self.lanes.put(conn.number, Some(Lane::new(now, access)));
     }
 
-    /// Drives one out, and opens the connection that has come at its place.
+    /// Drives one out, and opens the connection that has come, at its place if no other is free.
     fn replace<R: Records, N: Network>(
         &mut self,
         front: &mut Front<R>,
         network: &mut N,
         place: usize,
+        access: Access,
         now: Duration,
     )
         requires alike { AreAlike self.old.lanes front.old.lines }
-        requires goes { MayGo self.old.board (as_nanos now) place self.old.lanes }
-        ensures taken { TakesOn R.custody N.done (as_nanos now) self.old.board self.new.board
-            self.old.lanes self.new.lanes front.old front.new network.old network.new }
+        requires fits { Fits self.old.is_split access }
+        requires goes { MayGo self.old.board (as_nanos now) place access self.old.lanes }
+        ensures taken { TakesOn R.custody N.done self.old.is_split (as_nanos now) self.old.board
+            self.new.board self.old.lanes self.new.lanes front.old front.new network.old network.new }
         ensures alike { AreAlike self.new.lanes front.new.lines }
         ensures same { self.new ≡ record self.old { lanes = self.new.lanes; board = self.new.board } }
     {
         self.close(front, network, place, Reason::DrivenOut);
-        self.open(front, network, now);
+        self.open(front, network, access, now);
     }
 
     /// Seats the connection that has come, at a free place or at that of one that is driven out for it.
@@ -132,24 +150,25 @@ impl Reactor {
         front: &mut Front<R>,
         network: &mut N,
         driven_out: Option<usize>,
+        access: Access,
         now: Duration,
     )
         requires alike { AreAlike self.old.lanes front.old.lines }
-        requires room { IsRoom self.old.board (as_nanos now) driven_out self.old.lanes }
-        ensures taken { TakesOn R.custody N.done (as_nanos now) self.old.board self.new.board
-            self.old.lanes self.new.lanes front.old front.new network.old network.new }
+        requires fits { Fits self.old.is_split access }
+        requires room { IsRoom self.old.board (as_nanos now) driven_out access self.old.lanes }
+        ensures taken { TakesOn R.custody N.done self.old.is_split (as_nanos now) self.old.board
+            self.new.board self.old.lanes self.new.lanes front.old front.new network.old network.new }
         ensures alike { AreAlike self.new.lanes front.new.lines }
-        ensures same { self.new
-            ≡ record self.old { lanes = self.new.lanes; board = self.new.board; door = self.new.door } }
+        ensures same { self.new ≡ record self.old { lanes = self.new.lanes; board = self.new.board } }
     {
-        self.door.succeed();
         match driven_out {
-            Some(place) => self.replace(front, network, place, now),
-            None => self.open(front, network, now),
+            Some(place) => self.replace(front, network, place, access, now),
+            None => self.open(front, network, access, now),
         }
     }
 
-    /// Takes one connection, if one waits and there is a place for it. Whether another may be tried.
+    /// Takes one connection at the first door, if one waits and there is a place for it. Whether another may
+    /// be tried.
     fn take_one<R: Records, N: Network>(
         &mut self,
         front: &mut Front<R>,
@@ -157,18 +176,20 @@ impl Reactor {
         now: Duration,
     ) -> Result<bool, Halt>
         requires { AreAlike self.old.lanes front.old.lines }
-        ensures taken { TakesOn R.custody N.done (as_nanos now) self.old.board self.new.board
-            self.old.lanes self.new.lanes front.old front.new network.old network.new }
+        ensures taken { TakesOn R.custody N.done self.old.is_split (as_nanos now) self.old.board
+            self.new.board self.old.lanes self.new.lanes front.old front.new network.old network.new }
         ensures alike { AreAlike self.new.lanes front.new.lines }
         ensures same { self.new
             ≡ record self.old { lanes = self.new.lanes; board = self.new.board; door = self.new.door } }
     {
-        let Some(driven_out) = self.room_for_one(now) else {
+        let access = self.access();
+        let Some(driven_out) = self.room_for_one(access, now) else {
             return Ok(false);
         };
         match network.accept() {
             Arrival::Came => {
-                self.welcome(front, network, driven_out, now);
+                self.door.succeed();
+                self.welcome(front, network, driven_out, access, now);
                 Ok(true)
             }
             Arrival::Nobody => {
@@ -187,21 +208,21 @@ impl Reactor {
         }
     }
 
-    /// Takes connections, as far as some wait and there are places for them.
-    pub(super) fn take_some<R: Records, N: Network>(
+    /// Takes connections at the first door, as far as some wait and there are places for them.
+    fn take_at_door<R: Records, N: Network>(
         &mut self,
         front: &mut Front<R>,
         network: &mut N,
         now: Duration,
     ) -> Result<(), Halt>
         requires { AreAlike self.old.lanes front.old.lines }
-        ensures taken { TakesSome R.custody N.done self.old.board (as_nanos now)
-            self.old.lanes self.new.lanes front.old front.new network.old network.new }
+        ensures taken { TakesOn R.custody N.done self.old.is_split (as_nanos now) self.old.board
+            self.new.board self.old.lanes self.new.lanes front.old front.new network.old network.new }
         ensures alike { AreAlike self.new.lanes front.new.lines }
         ensures same { self.new
             ≡ record self.old { lanes = self.new.lanes; board = self.new.board; door = self.new.door } }
     {
-        if self.door.is_shut || !self.door.pause_left(now).is_zero() {
+        if !self.door.pause_left(now).is_zero() {
             return Ok(());
         }
         for _ in 0..PLACES {
@@ -213,5 +234,79 @@ impl Reactor {
             }
         }
         Ok(())
+    }
+
+    /// Whether a connection may be taken at the address for changes: one may wait there, no other that came
+    /// there is open, and a place is free.
+    fn may_take_change(&self, now: Duration) -> bool
+        ensures split { result ≡ true → self.now.is_split ≡ true }
+        ensures room { result ≡ true → IsRoom self.now.board (as_nanos now) None Changes self.now.lanes }
+    {
+        if !self.is_split || !self.board.changes {
+            return false;
+        }
+        if !self.changes.pause_left(now).is_zero() {
+            return false;
+        }
+        self.lanes.has_place(Access::Changes)
+    }
+
+    /// Takes a connection at the address for changes, if one waits there and the last has gone.
+    #[tactic(auto, using(crate::proofs::KeepingLemmas::fits_changes))]
+    fn take_change<R: Records, N: Network>(
+        &mut self,
+        front: &mut Front<R>,
+        network: &mut N,
+        now: Duration,
+    ) -> Result<(), Halt>
+        requires { AreAlike self.old.lanes front.old.lines }
+        ensures taken { TakesOn R.custody N.done self.old.is_split (as_nanos now) self.old.board
+            self.new.board self.old.lanes self.new.lanes front.old front.new network.old network.new }
+        ensures alike { AreAlike self.new.lanes front.new.lines }
+        ensures same { self.new
+            ≡ record self.old { lanes = self.new.lanes; board = self.new.board; changes = self.new.changes } }
+    {
+        if !self.may_take_change(now) {
+            return Ok(());
+        }
+        match network.accept_change() {
+            Arrival::Came => {
+                self.changes.succeed();
+                self.welcome(front, network, None, Access::Changes, now);
+                Ok(())
+            }
+            Arrival::Nobody => {
+                self.board.changes = false;
+                Ok(())
+            }
+            Arrival::Passed => self.changes.pass_over(),
+            Arrival::NoRoom => self.changes.wait(self.lanes.is_empty(), now),
+            Arrival::Failed => Err(Halt::Door),
+        }
+    }
+
+    /// Takes connections: one that asks for changes, if it may be, and others.
+    pub(super) fn take_some<R: Records, N: Network>(
+        &mut self,
+        front: &mut Front<R>,
+        network: &mut N,
+        now: Duration,
+    ) -> Result<(), Halt>
+        requires { AreAlike self.old.lanes front.old.lines }
+        ensures taken { TakesSome R.custody N.done self.old.is_split self.old.board (as_nanos now)
+            self.old.lanes self.new.lanes front.old front.new network.old network.new }
+        ensures alike { AreAlike self.new.lanes front.new.lines }
+        ensures same { self.new ≡ record self.old {
+          lanes = self.new.lanes;
+          board = self.new.board;
+          door = self.new.door;
+          changes = self.new.changes;
+        } }
+    {
+        if self.door.is_shut {
+            return Ok(());
+        }
+        self.take_change(front, network, now)?;
+        self.take_at_door(front, network, now)
     }
 }

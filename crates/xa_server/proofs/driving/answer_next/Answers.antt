@@ -1,23 +1,27 @@
-use Rattle.xa_server.proofs.EndLemmas.{ended_next, holds_less, reply_next, unanswered, waits_next}
+use Rattle.std.proofs.Common.{Ok, Err, false, refl}
+use Rattle.xa_server.specs.declared.connection.Answered.TheVariants as answered
+use Rattle.xa_server.specs.declared.drive_end.DriveEnd.TheVariants.{Ended}
+use Rattle.xa_server.proofs.EndLemmas.{holds_less, next_answered}
 use Rattle.xa_server.proofs.driving.answer_next.Goals as goal
 
 pub returns-in-Err-clause-answered : goal.returns-in-Err-clause-answered
 returns-in-Err-clause-answered g c = λ left reads.
-    unanswered g.R.Records.custody _ _ _ _ c.in-Err.end (rw c.in-Err.is at c.answer_now.ensures)
+    next_answered g.R.Records.custody _ _ _ _ _ _ (Err c.in-Err.end) (Err c.in-Err.end)
+    (rw c.in-Err.is at c.answer_now.ensures) (refl, refl, refl)
 
 pub returns-in-Ok-Waits-clause-answered : goal.returns-in-Ok-Waits-clause-answered
 returns-in-Ok-Waits-clause-answered g c = λ left reads.
-    waits_next g.R.Records.custody _ _ _ _
-    (rw (c.in-Ok-Waits.is, c.in-Ok-Waits.field-0-is) at c.answer_now.ensures)
+    next_answered g.R.Records.custody _ _ _ _ _ _ (Ok answered.Waits) (Ok false)
+    (rw (c.in-Ok-Waits.is, c.in-Ok-Waits.field-0-is) at c.answer_now.ensures) (refl, refl, refl)
 
 pub returns-in-Ok-Ended-clause-answered : goal.returns-in-Ok-Ended-clause-answered
 returns-in-Ok-Ended-clause-answered g c = λ left reads.
-    ended_next g.R.Records.custody _ _ _ _
-    (rw (c.in-Ok-Ended.is, c.in-Ok-Ended.field-0-is) at c.answer_now.ensures)
+    next_answered g.R.Records.custody _ _ _ _ _ _ (Ok answered.Ended) (Err Ended)
+    (rw (c.in-Ok-Ended.is, c.in-Ok-Ended.field-0-is) at c.answer_now.ensures) (refl, refl, refl)
 
 pub returns-in-Ok-Reply-clause-answered : goal.returns-in-Ok-Reply-clause-answered
 returns-in-Ok-Reply-clause-answered g c = λ left reads.
-    reply_next g.R.Records.custody _ _ _ _ c.in-Ok-Reply.answer c.send_answer.result _ _
+    next_answered g.R.Records.custody _ _ _ _ _ _ (Ok (answered.Reply c.in-Ok-Reply.answer)) c.send_answer.result
     (rw (c.in-Ok-Reply.is, c.in-Ok-Reply.field-0-is) at c.answer_now.ensures) c.send_answer.ensures
 
 pub returns-in-Ok-Reply-clause-fewer : goal.returns-in-Ok-Reply-clause-fewer

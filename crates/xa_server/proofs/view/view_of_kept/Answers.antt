@@ -1,5 +1,5 @@
 -- The active documents by their keys are those that the texts are.
-use Rattle.std.proofs.Common.{◌≡◌, ◌+◌, false, sym, subst, true, ◌∙◌}
+use Rattle.std.proofs.Common.{◌≡◌, ◌+◌, ◌≤◌, false, sym, subst, true, ◌∙◌}
 use Rattle.std.specs.Prelude.{IfOk}
 use Rattle.xa_decide.specs.Decision.{view_by}
 use Rattle.xa_decide.specs.Reading.{IsNotTooLarge, reading_for}
@@ -22,3 +22,8 @@ pub returns-clause-refused : goal.returns-clause-refused
 returns-clause-refused c = λ keyed.
     let all : c.as_slice.result.now ≡ active_of c.args.kept.texts = c.as_slice.ensures ∙ c.in_ok-active.ensures ∙ sym (active_are c.args.kept.texts keyed) in
     subst (λ active. c.args.reader.now.is_spent ≡ false → c.new.new.reader.is_spent ≡ true → IsBeyond c.args.reader.now (reading_for active c.args.kept.root)) all c.new.ensures.refused
+
+pub returns-clause-within : goal.returns-clause-within
+returns-clause-within c = λ keyed.
+    let all : c.as_slice.result.now ≡ active_of c.args.kept.texts = c.as_slice.ensures ∙ c.in_ok-active.ensures ∙ sym (active_are c.args.kept.texts keyed) in
+    subst (λ active. IfOk c.new.result (λ _. reading_for active c.args.kept.root ≤ c.args.reader.now.left)) all c.new.ensures.within

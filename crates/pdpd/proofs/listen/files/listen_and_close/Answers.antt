@@ -1,4 +1,5 @@
 use Rattle.std.proofs.Common.{rules, ◌≡◌, ◌∙◌, ap, Err, Ok}
+use Rattle.std.specs.Prelude.{is_some}
 use Rattle.sqlite.specs.WalFiles.{image_at}
 use Rattle.pdpd.proofs.ListeningLemmas.{serves_at_once_as, serves_files_at_once}
 use Rattle.pdpd.specs.Beginning.{known_text}
@@ -10,7 +11,7 @@ returns-in-Err-clause-served g c = (c.in-Err.ensures.before, ap g.C.Clock.told c
 
 pub returns-in-Err-result-clause-served : goal.returns-in-Err-result-clause-served
 returns-in-Err-result-clause-served g c =
-    serves_at_once_as (image_at g.S.Start) (known_text g.F.Read.remaining c.args.token) c.in-Ok.left.result (Err c.in-Err-result.fault) c.in-Ok.left.front c.in-Err-result.is
+    serves_at_once_as (image_at g.S.Start) (known_text g.F.Read.remaining c.args.token) (is_some c.args.listening.now.changes) c.in-Ok.left.result (Err c.in-Err-result.fault) c.in-Ok.left.front c.in-Err-result.is
     c.in-Ok.ensures.served
 
 pub returns-in-Err-result-clause-place : goal.returns-in-Err-result-clause-place
@@ -21,9 +22,9 @@ returns-in-Err-result-clause-place g c none =
 
 pub returns-in-Ok-close_records-clause-served : goal.returns-in-Ok-close_records-clause-served
 returns-in-Ok-close_records-clause-served g c =
-    serves_files_at_once (image_at g.S.Start) (known_text g.F.Read.remaining c.args.token) c.in-Ok.left.front c.into_records.result (Ok c.in-Ok-close_records.closed)
+    serves_files_at_once (image_at g.S.Start) (known_text g.F.Read.remaining c.args.token) (is_some c.args.listening.now.changes) c.in-Ok.left.front c.into_records.result (Ok c.in-Ok-close_records.closed)
     (c.into_records.ensures ∙ ap (λ s. s.records) c.into_server.ensures)
-    (serves_at_once_as (image_at g.S.Start) (known_text g.F.Read.remaining c.args.token) c.in-Ok.left.result (Ok tt) c.in-Ok.left.front c.in_default.is c.in-Ok.ensures.served)
+    (serves_at_once_as (image_at g.S.Start) (known_text g.F.Read.remaining c.args.token) (is_some c.args.listening.now.changes) c.in-Ok.left.result (Ok tt) c.in-Ok.left.front c.in_default.is c.in-Ok.ensures.served)
     c.in-Ok-close_records.ensures.closed
 
 pub returns-in-Ok-close_records-clause-place : goal.returns-in-Ok-close_records-clause-place
@@ -37,7 +38,7 @@ returns-in-Err-close_records-clause-served g c = (
   c.in-Err-close_records.ensures.err,
   (
     c.in-Ok.left.front,
-    serves_at_once_as (image_at g.S.Start) (known_text g.F.Read.remaining c.args.token) c.in-Ok.left.result (Ok tt) c.in-Ok.left.front c.in_default.is c.in-Ok.ensures.served,
+    serves_at_once_as (image_at g.S.Start) (known_text g.F.Read.remaining c.args.token) (is_some c.args.listening.now.changes) c.in-Ok.left.result (Ok tt) c.in-Ok.left.front c.in_default.is c.in-Ok.ensures.served,
   ),
 )
 

@@ -4,7 +4,7 @@ use Rattle.std.proofs.lemmas.Result.{err_from_is_err_and}
 use Rattle.xa_reactor.specs.declared.reactor.Reactor.{Reactor}
 use Rattle.xa_reactor.specs.Turn.{AreShared, rotated}
 use Rattle.xa_reactor.specs.handling.Turning.{Does}
-use Rattle.xa_reactor.proofs.TurnLemmas.{broken_after, each_more, each_none, rotated_more, rotated_none}
+use Rattle.xa_reactor.proofs.TurnLemmas.{broken_after, each_more, each_none, rotated_more, rotated_none, shares_open_none}
 use Rattle.xa_reactor.proofs.reactor.Reactor.share_all.Goals as goal
 
 -- nothing but places and what is ready has changed
@@ -43,6 +43,7 @@ returns-in_err-goes-clause-shared g c =
     (broken_after g.R.Records.custody g.N.Network.done g.met.R.Records.open_if_sound
     (λ deeds. AreShared c.args.terms.now (rotated c.args.first c.loop-offset.offset) deeds c.args.self.now.lanes c.loop-offset.self.lanes) c.args.self.now.lanes
     c.loop-offset.self.lanes c.share.new.self.lanes c.args.front.now c.loop-offset.front c.share.new.front c.args.network.now c.loop-offset.network c.share.new.network
+    (λ deeds are. shares_open_none c.args.terms.now (rotated c.args.first c.loop-offset.offset) deeds c.args.self.now.lanes c.loop-offset.self.lanes are)
     c.loop-offset.invariant.shared c.in_err-goes.ensures.shared)
 
 pub returns-clause-shared : goal.returns-clause-shared

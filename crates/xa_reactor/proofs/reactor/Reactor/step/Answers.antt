@@ -13,4 +13,4 @@ returns-clause-steps g c =
 pub returns-clause-alike : goal.returns-clause-alike
 returns-clause-alike g c =
     rw (c.put-3.ensures.after, c.put.ensures.after)
-    (alike_kept c.args.self.now.lanes c.args.front.now.lines c.go-went.new.front.lines c.args.share.conn c.go-went.new.self c.requires.alike c.requires.share.there c.go-went.ensures.lasts)
+    (alike_kept c.args.self.now.lanes c.args.front.now.lines c.go-went.new.front.lines c.args.share.conn (record c.go-went.new.self { access = c.args.share.access }) c.requires.alike c.requires.share.there c.go-went.ensures.lasts)

@@ -1,43 +1,19 @@
 use Rattle.std.proofs.Common.{refl, ap, ◌∙◌}
 use Rattle.std.specs.Duration.{as_nanos}
 use Rattle.xa_reactor.specs.declared.reactor.Reactor.{Reactor}
-use Rattle.xa_reactor.proofs.TakingLemmas.{from_first, on_more, on_none, takes_none}
+use Rattle.xa_reactor.proofs.TakingLemmas.{from_first, on_more, takes_none}
 use Rattle.xa_reactor.proofs.reactor.Reactor.take_some.Goals as goal
 
 pub returns-then-self-clause-taken : goal.returns-then-self-clause-taken
 returns-then-self-clause-taken g c =
-    takes_none g.R.Records.custody g.N.Network.done g.met.R.Records.open_if_sound c.args.self.now.board (as_nanos c.args.now) _ _ _ _ _ _ refl refl refl
+    takes_none g.R.Records.custody g.N.Network.done g.met.R.Records.open_if_sound c.args.self.now.is_split c.args.self.now.board (as_nanos c.args.now) _ _ _ _ _ _ refl refl refl
 
-pub loop-init : goal.loop-init
-loop-init g c = record {
-  taken = on_none g.R.Records.custody g.N.Network.done g.met.R.Records.open_if_sound (as_nanos c.args.now) _ _ _ _ _ _ _ _ refl refl refl refl;
-  alike = c.requires;
-  same = refl;
-}
-
-pub returns-then-not-self-clause-taken : goal.returns-then-not-self-clause-taken
-returns-then-not-self-clause-taken g c =
-    from_first g.R.Records.custody g.N.Network.done g.met.R.Records.open_if_sound (as_nanos c.args.now) _ _ _ _ _ _ _ _ c.loop.invariant.taken
-
-pub returns-in_err-take_one-clause-taken : goal.returns-in_err-take_one-clause-taken
-returns-in_err-take_one-clause-taken g c =
-    from_first g.R.Records.custody g.N.Network.done g.met.R.Records.open_if_sound (as_nanos c.args.now) _ _ _ _ _ _ _ _
-    (on_more g.R.Records.custody g.N.Network.done g.met.R.Records.open_if_sound (as_nanos c.args.now) _ _ _ _ _ _ _ _ _ _ _ _ c.loop.invariant.taken c.take_one.ensures.taken)
-
-pub returns-then-not-branch-clause-taken : goal.returns-then-not-branch-clause-taken
-returns-then-not-branch-clause-taken g c =
-    from_first g.R.Records.custody g.N.Network.done g.met.R.Records.open_if_sound (as_nanos c.args.now) _ _ _ _ _ _ _ _
-    (on_more g.R.Records.custody g.N.Network.done g.met.R.Records.open_if_sound (as_nanos c.args.now) _ _ _ _ _ _ _ _ _ _ _ _ c.loop.invariant.taken c.take_one.ensures.taken)
-
-pub loop-preserved : goal.loop-preserved
-loop-preserved g c = record {
-  taken = on_more g.R.Records.custody g.N.Network.done g.met.R.Records.open_if_sound (as_nanos c.args.now) _ _ _ _ _ _ _ _ _ _ _ _ c.loop.invariant.taken c.take_one.ensures.taken;
-  alike = c.take_one.ensures.alike;
-  same =
-      c.take_one.ensures.same
-      ∙ ap (λ (r : Reactor). record r { lanes = c.take_one.new.self.lanes; board = c.take_one.new.self.board; door = c.take_one.new.self.door }) c.loop.invariant.same;
-}
+pub returns-in_err-take_change-clause-taken : goal.returns-in_err-take_change-clause-taken
+returns-in_err-take_change-clause-taken g c =
+    from_first g.R.Records.custody g.N.Network.done g.met.R.Records.open_if_sound c.args.self.now.is_split (as_nanos c.args.now) _ _ _ _ _ _ _ _ c.take_change.ensures.taken
 
 pub returns-clause-taken : goal.returns-clause-taken
 returns-clause-taken g c =
-    from_first g.R.Records.custody g.N.Network.done g.met.R.Records.open_if_sound (as_nanos c.args.now) _ _ _ _ _ _ _ _ c.loop.invariant.taken
+    from_first g.R.Records.custody g.N.Network.done g.met.R.Records.open_if_sound c.args.self.now.is_split (as_nanos c.args.now) _ _ _ _ _ _ _ _
+    (on_more g.R.Records.custody g.N.Network.done g.met.R.Records.open_if_sound c.args.self.now.is_split (as_nanos c.args.now) _ _ _ _ _ _ _ _ _ _ _ _ c.take_change.ensures.taken
+    (rw (ap (λ (r : Reactor). r.is_split) c.take_change.ensures.same) at c.take_at_door.ensures.taken))

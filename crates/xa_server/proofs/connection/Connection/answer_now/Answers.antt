@@ -3,7 +3,7 @@ use Rattle.std.specs.Prelude.{pos}
 use Rattle.xa_http.specs.declared.session.Next.TheVariants as next
 use Rattle.xa_server.specs.declared.connection.Answered.TheVariants as answered
 use Rattle.xa_server.specs.declared.drive_end.DriveEnd.TheVariants.{Memory}
-use Rattle.xa_server.proofs.NextLemmas.{message_now, other_now}
+use Rattle.xa_server.proofs.NextLemmas.{message_now}
 use Rattle.xa_server.proofs.connection.Connection.answer_now.Goals as goal
 
 pub returns-in_err-look : goal.returns-in_err-look
@@ -19,11 +19,8 @@ pub returns-in_err-answer-in-Message : goal.returns-in_err-answer-in-Message
 returns-in_err-answer-in-Message g c =
     let failed : c.from_residual-in_err-answer-in-Message.result ≡ Err Memory = search rules in
     let none = c.in_err-answer-in-Message.ensures in
-    rw failed (
-      none.1,
-      none.2 ∙ c.look.ensures.same,
-      inr (c.in-Some.moment, rw (c.in-Message.is) at c.in_ok-look.ensures.look, c.in-Some.ensures),
-    )
+    let stands = rw (c.in-Message.is) at c.in_ok-look.ensures.look in
+    rw failed (none.1, none.2 ∙ c.look.ensures.same, inr (c.in-Some.moment, stands, c.in-Some.ensures))
 
 pub returns-in_ok-answer-in-Message : goal.returns-in_ok-answer-in-Message
 returns-in_ok-answer-in-Message g c =
@@ -39,17 +36,14 @@ returns-in_err-end_by-in-Fault g c =
 pub returns-in_ok-end_by-in-Fault : goal.returns-in_ok-end_by-in-Fault
 returns-in_ok-end_by-in-Fault g c =
     let ends = rw c.look.ensures.same at c.in_ok-end_by-in-Fault.ensures in
-    other_now g.R.Records.custody (pos 0) _ c.args.self.now c.end_by.new.self _ _ (next.Fault c.in-Fault.fault) _ ends.0
-    (ap (λ a. answered.Reply a) ends.1) refl refl
+    (pos 0, (next.Fault c.in-Fault.fault, ends.0, ap (λ a. answered.Reply a) ends.1, refl), refl)
 
 pub returns-in-More : goal.returns-in-More
 returns-in-More g c =
     let stands = rw (c.in-More.is) at c.in_ok-look.ensures.look in
-    other_now g.R.Records.custody (pos 0) _ c.args.self.now c.look.new.self _ _ next.More answered.Waits
-    (stands.0, stands.1, c.look.ensures.same) refl refl refl
+    (pos 0, (next.More, (stands.0, stands.1, c.look.ensures.same), refl, refl), refl)
 
 pub returns-in-Ended : goal.returns-in-Ended
 returns-in-Ended g c =
     let over = rw (c.in-Ended.is) at c.in_ok-look.ensures.look in
-    other_now g.R.Records.custody (pos 0) _ c.args.self.now c.look.new.self _ _ next.Ended answered.Ended
-    (over, c.look.ensures.same) refl refl refl
+    (pos 0, (next.Ended, (over, c.look.ensures.same), refl, refl), refl)

@@ -1,0 +1,83 @@
+//! How the next of a connection is answered, or its message is turned away.
+ghost use Rattle.std.specs.Prelude.{◌≡◌, false, true, IfOk, IsSomeAnd};
+ghost use Rattle.xa_http.specs.Changing.{TellsChange};
+ghost use Rattle.xa_server.specs.Lines.{line_at};
+ghost use Rattle.xa_server.specs.Turning.{serves, serves_unchanging, turns_away};
+ghost use Rattle.xa_reactor.specs.declared.access.Access.TheVariants as access;
+ghost use Rattle.xa_reactor.specs.Step.{AreHandledBy};
+ghost use Rattle.xa_reactor.specs.handling.Going.{AreAll, Asks, answer_asked, answer_in, answer_of_outcome};
+
+use crate::access::Access;
+use crate::halt::Halt;
+use crate::lane::Share;
+use xa_records::Records;
+use xa_server::{Answer, Clock, Conn, Event, Front, FrontError, Outcome};
+
+/// What a step has given, if it was asked for an answer.
+fn answer_of(outcome: Outcome) -> Result<Option<Answer>, FrontError>
+    ensures { answer_in result ≡ answer_of_outcome outcome }
+{
+    match outcome {
+        Outcome::Answered(answered) => answered,
+        Outcome::Begun(_) | Outcome::Held(_) | Outcome::Finished(_) => Err(FrontError::Memory),
+    }
+}
+
+/// Asks for the next answer to a connection, at the clock's moment.
+fn ask<R: Records, C: Clock>(
+    front: &mut Front<R>,
+    clock: &mut C,
+    conn: Conn,
+) -> Result<Result<Option<Answer>, FrontError>, Halt>
+    ensures serves { Asks R.custody conn (AreAll serves) (answer_asked result) front.old front.new }
+    ensures unchanging { IsSomeAnd (line_at conn front.old.lines) (λ stream. TellsChange stream false)
+        → Asks R.custody conn (AreAll serves_unchanging) (answer_asked result) front.old front.new }
+{
+    let Some(moment) = clock.now() else {
+        return Err(Halt::NoClock);
+    };
+    Ok(answer_of(front.step(&Event::Answer(conn, moment))))
+}
+
+/// Turns away the next message of a connection, which asks for a change.
+fn turn_away<R: Records>(front: &mut Front<R>, conn: Conn) -> Result<Option<Answer>, FrontError>
+    requires { IsSomeAnd (line_at conn front.old.lines) (λ stream. TellsChange stream true) }
+    ensures { Asks R.custody conn (AreAll turns_away) (answer_in result) front.old front.new }
+{
+    front.turn_away(conn)
+}
+
+/// Answers the next of a connection that came at the first of two addresses: its message is turned away
+/// exactly if it asks for a change.
+fn answer_unchanging<R: Records, C: Clock>(
+    front: &mut Front<R>,
+    clock: &mut C,
+    conn: Conn,
+) -> Result<Result<Option<Answer>, FrontError>, Halt>
+    ensures { Asks R.custody conn (AreHandledBy access.Asks) (answer_asked result) front.old front.new }
+{
+    let asks = match front.asks_for_change(conn) {
+        Ok(asks) => asks,
+        Err(error) => return Ok(Err(error)),
+    };
+    if asks {
+        return Ok(turn_away(front, conn));
+    }
+    ask(front, clock, conn)
+}
+
+/// Answers the next of a connection, at the clock's moment; or turns its message away, if no change may be
+/// asked for at the address where it came.
+pub(super) fn answer_next<R: Records, C: Clock>(
+    front: &mut Front<R>,
+    clock: &mut C,
+    share: Share,
+) -> Result<Result<Option<Answer>, FrontError>, Halt>
+    ensures { Asks R.custody share.conn (AreHandledBy share.access) (answer_asked result)
+        front.old front.new }
+{
+    match share.access {
+        Access::Asks => answer_unchanging(front, clock, share.conn),
+        Access::All | Access::Changes => ask(front, clock, share.conn),
+    }
+}
