@@ -77,8 +77,9 @@ def audit(machine, checks):
         wait_until(lambda: found[200] > seen + 5, "the tenant isn't let in")
     checks.expect("what the tenant gets all the time", set(found), {200})
     wait_until(lambda: sent("PUT", "/operator/domains/behind", operator)[0] in (201, 409), "no change is taken")
+    logged = decisions_in_logs()
     decided = decided_of_ward(operator, DECISIONS, checks)
-    in_logs_of_proxy(checks)
+    in_logs_of_proxy(logged, checks)
     backs_up()
     looked_at(checks)
     folder = machine.folder / "audit"
@@ -136,10 +137,15 @@ def looked_at(checks):
     wait_until(lambda: "no change" not in sh("pdpd-shards status || true"), "the daemon isn't there again")
 
 
-def has_line(folder, words):
-    """Whether a log of HAProxy has a line."""
+def lines_with(folder, words):
+    """How many such lines a log of HAProxy has."""
     files = [*(LOGS / folder).glob("current"), *(LOGS / folder).glob("@*")]
-    return any(re.search(words, path.read_text(errors="replace")) for path in files)
+    return sum(len(re.findall(words, path.read_text(errors="replace"))) for path in files)
+
+
+def decisions_in_logs():
+    """How many lines the logs of HAProxy have of decisions of the domain, by their names."""
+    return {name: lines_with(name, '"/domains/ward/pdp" 200 ') for name in ("changes", "haproxy", "decisions")}
 
 
 def ask_ward(token):
@@ -147,14 +153,14 @@ def ask_ward(token):
     return sent("POST", "/domains/ward/pdp", token, (WARD / "request-alice.json").read_text())[0]
 
 
-def in_logs_of_proxy(checks):
+def in_logs_of_proxy(logged, checks):
     """HAProxy's own logs have their kinds of lines beside. A decision that was given is in its own log alone, and with
     LOG_DECISIONS=0 it is there, too."""
     checks.expect("a token that isn't the domain's", ask_ward("ward-nobody"), 401)
     refused = r'(?m) refused .* POST "/domains/ward/pdp" 401 '
-    wait_until(lambda: has_line("refused", refused), "what was refused isn't logged")
+    wait_until(lambda: lines_with("refused", refused), "what was refused isn't logged")
     change = r'(?m) change .* changes\d+/?\S* PUT "/domains/ward/pip" 200 '
-    wait_until(lambda: has_line("changes", change), "the change isn't logged")
+    wait_until(lambda: lines_with("changes", change), "the change isn't logged")
     before, text = count_of_decisions(), SETTINGS.read_text()
     SETTINGS.write_text(re.sub(r"(?m)^LOG_DECISIONS=.*$", "LOG_DECISIONS=0", text))
     for words in (("config", "--write"), ("reload",)):
@@ -164,7 +170,7 @@ def in_logs_of_proxy(checks):
     SETTINGS.write_text(text)
     for words in (("config", "--write"), ("reload",)):
         shards(*words)
-    given = [name for name in ("changes", "haproxy", "decisions") if has_line(name, '"/domains/ward/pdp" 200 ')]
+    given = [name for name, count in decisions_in_logs().items() if count > logged[name]]
     checks.expect("logs of HAProxy that have a decision", given, [])
 
 
