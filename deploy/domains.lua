@@ -80,16 +80,17 @@ local function is_there(shard)
     return number ~= 2
 end
 
--- since when each shard's is away, and whether for so long that another machine is asked in its place (GONE)
+-- since when each shard's is away, and whether for over a second: then another machine is asked in its place (GONE)
 local since, is_gone = {}, {}
 
+-- whether a shard's is away
 local function look_for_socket(shard)
     local is_away = not is_there(shard)
     since[shard] = is_away and (since[shard] or seconds()) or nil
-    local now = is_away and seconds() > since[shard] + 1
-    if now and not is_gone[shard] then core.set_map(file_of_map, "GONE" .. shard, "1") end
-    if is_gone[shard] and not now then core.del_map(file_of_map, "GONE" .. shard) end
-    is_gone[shard] = now
+    local was_gone = is_gone[shard]
+    is_gone[shard] = is_away and seconds() > since[shard] + 1
+    if is_gone[shard] and not was_gone then core.set_map(file_of_map, "GONE" .. shard, "1") end
+    if was_gone and not is_gone[shard] then core.del_map(file_of_map, "GONE" .. shard) end
     return is_away
 end
 

@@ -38,6 +38,10 @@ class NoRoom(Exception):
     """Nothing was written, since the disk took no more."""
 
 
+class Removed(Exception):
+    """Nothing was written, since the last file was removed: only the open one would have it, until the daemon ends."""
+
+
 def read_from(path: pathlib.Path, offset: int, length: int | None = None) -> bytes:
     """The bytes of a regular file from a place on. (Whoever owns the folder may have put anything else there.)"""
     file = os.open(path, os.O_RDONLY | os.O_NOFOLLOW | os.O_NONBLOCK | os.O_CLOEXEC)
@@ -161,6 +165,11 @@ class Archive:
     def now(self) -> float:
         """The moment of a record: the clock's, or the last record's if the clock was set back."""
         return max(self.at, round(self.clock(), 6))
+
+    def refuse_removed(self) -> None:
+        """A Removed where the last file has no name any more, as one that was packed."""
+        if self.file >= 0 and not os.fstat(self.file).st_nlink:
+            raise Removed(f"the last file in {self.folder} was removed: pdpd-shards status tells how it is saved")
 
     def add_entry(self, head: dict, body: bytes) -> Record:
         """Appends an entry; it is on the disk then."""

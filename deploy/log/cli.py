@@ -36,6 +36,8 @@ from .sealing import Sealing
 
 # where the archives of the shards are
 ARCHIVES = os.environ.get("PDPD_ARCHIVES", "/var/lib/pdpd-replica")
+# where pdpd-shards notes which there are
+NOTES = pathlib.Path(os.environ.get("PDPD_SETTINGS", "/etc/pdpd/shards.conf")).parent / "applied"
 
 
 def folders_of(given: argparse.Namespace) -> list[pathlib.Path]:
@@ -44,6 +46,13 @@ def folders_of(given: argparse.Namespace) -> list[pathlib.Path]:
     if not named:
         raise Unknown(f"--archive FOLDER is wanted: there is none in {ARCHIVES}")
     return named
+
+
+def lost_in(given: argparse.Namespace) -> list[pathlib.Path]:
+    """The folders of archives that were there, as pdpd-shards has noted it, and have none, if no folder is named."""
+    notes = [] if given.archive else sorted(NOTES.glob("*.archive"))
+    folders = [pathlib.Path(ARCHIVES) / note.stem for note in notes]
+    return [folder for folder in folders if not any(folder.glob("*.log*"))]
 
 
 def harmless(text: str) -> str:
@@ -97,7 +106,10 @@ def diff(given: argparse.Namespace) -> int:
 
 
 def check(given: argparse.Namespace) -> int:
-    is_wrong = False
+    lost = lost_in(given)
+    for folder in lost:
+        print(f"{folder}: the archive that was there isn't: bring its files back, or name them by --archive")
+    is_wrong = bool(lost)
     for segments in by_archive(folders_of(given)):
         found = checking.check(segments)
         print(f"{segments[0].home}: {found.count} changes, {len(found.wrong)} replies that replay gives otherwise, "
@@ -160,6 +172,18 @@ def token(given: argparse.Namespace) -> int:
     return 0
 
 
+def add_of_decisions(verifies: argparse.ArgumentParser, receives: argparse.ArgumentParser) -> None:
+    """Adds the words of the two commands that are about lines of decisions."""
+    verifies.add_argument("--hours", type=float, metavar="N", help="the lines of the last hours alone")
+    verifies.add_argument("--note", type=pathlib.Path, metavar="FILE", help="writes the counts into a file, as JSON")
+    verifies.add_argument("decisions", type=pathlib.Path, metavar="DECISIONS")
+    receives.add_argument("--listen", required=True, metavar="unix:PATH")
+    receives.add_argument("--group", default="", metavar="NAME")
+    receives.add_argument("--bytes", type=int, required=True, metavar="N")
+    receives.add_argument("--days", type=int, required=True, metavar="N")
+    receives.add_argument("folder", type=pathlib.Path, metavar="FOLDER")
+
+
 def words_in(words: list[str]) -> argparse.Namespace:
     parser = argparse.ArgumentParser(prog="pdpd-log", description=__doc__,
                                      formatter_class=argparse.RawDescriptionHelpFormatter)
@@ -191,16 +215,7 @@ def words_in(words: list[str]) -> argparse.Namespace:
     made.add_argument("--requests", type=pathlib.Path, metavar="FILE", help="requests, for the desk's `diff`")
     made.add_argument("--random", type=int, metavar="N", help="has it make N requests")
     command(check, every)
-    made = command(verify, every)
-    made.add_argument("--hours", type=float, metavar="N", help="the lines of the last hours alone")
-    made.add_argument("--note", type=pathlib.Path, metavar="FILE", help="writes the counts into a file, as JSON")
-    made.add_argument("decisions", type=pathlib.Path, metavar="DECISIONS")
-    made = command(receive, every)
-    made.add_argument("--listen", required=True, metavar="unix:PATH")
-    made.add_argument("--group", default="", metavar="NAME")
-    made.add_argument("--bytes", type=int, required=True, metavar="N")
-    made.add_argument("--days", type=int, required=True, metavar="N")
-    made.add_argument("folder", type=pathlib.Path, metavar="FOLDER")
+    add_of_decisions(command(verify, every), command(receive, every))
     command(token, every)
     command(forget, of_one)
     return parser.parse_args(words)

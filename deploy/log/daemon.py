@@ -10,8 +10,7 @@ import threading
 import time
 from collections.abc import Callable
 
-from .abandoned import connections_at
-from .archive import Archive, Broken, NoRoom, segments_in
+from .archive import Archive, Broken, NoRoom, Removed, segments_in
 from .domains import Forgotten
 from .history import Change
 from .keeping import Keeping
@@ -78,7 +77,8 @@ class Daemon:
 
     def __init__(self, archive: Archive, pdpd: str, token_file: pathlib.Path, room: int,
                  end: Callable[[int], None] = os._exit, user: int | None = None):
-        """`user` is whose program takes connections at pdpd's port; anybody's, if none is given."""
+        """`pdpd` is its address for changes, and `user` whose program takes connections there; anybody's, if none is
+        given."""
         self.archive, self.pdpd, self.token_file, self.room, self.end = archive, pdpd, token_file, room, end
         self.user = user
         self.other: int | None = None
@@ -115,17 +115,6 @@ class Daemon:
 
     def refuse_program(self) -> None:
         """A NotSent where the program isn't the one that it has to be. (One machine alone may have any.)"""
-
-    def settle(self) -> bool:
-        """Waits until no message is under way at pdpd whose sender has gone: one of this daemon's, or of one before it,
-        would be made behind those that are sent later. pdpd takes connections in order, so once a question that is sent
-        now is answered it has taken all that came before. False where it answers none for a while."""
-        if not self.asked(bytes_of("GET", "/", [], b"", is_last=True), 1):
-            return False
-        before = connections_at(self.pdpd, self.user)
-        while before & connections_at(self.pdpd, self.user):
-            time.sleep(0.01)
-        return True
 
     # ---- who may make a change
 
@@ -211,20 +200,20 @@ class Daemon:
     def sent(self, head: dict, body: bytes, is_again: bool) -> tuple[Reply, bool]:
         """pdpd's reply to an entry, and whether it may have been applied before that; 503 for one that is skipped.
         pdpd's own 503 is none: nothing changed, or, once pdpd is started again, all. Nor is 401 for the operator, whose
-        token was compared: pdpd was started with another one than is tried here."""
-        tries, is_lost = 0, is_again
+        token was compared: pdpd was started with another one than is tried here. What was sent before on another
+        connection, by this daemon or by one before it, isn't waited for: pdpd takes changes of one connection after
+        another, as they come, so it is made before."""
+        tries = 0
         while True:
             if (tries or is_again) and self.is_skipped(head["n"]):
                 return Reply(503, UNAVAILABLE), False
-            is_lost = is_lost and not self.settle()
-            tokens = self.operators() if head["who"] == "operator" else [""]
-            for token in [] if is_lost else tokens:
+            for token in self.operators() if head["who"] == "operator" else [""]:
                 try:
                     (found,) = self.replies(bytes_of_entry(head, body, token, is_last=True), 1)
                 except NotSent:
                     break
                 except Lost:
-                    is_again = is_lost = True
+                    is_again = True
                     break
                 if found.status != 503 and (found.status != 401 or head["who"] != "operator"):
                     return found, is_again
@@ -245,9 +234,10 @@ class Daemon:
             change.end(UNAVAILABLE)
             return
         try:
+            self.archive.refuse_removed()
             more, data = self.keeping.as_kept(change.head["domain"], self.archive.position + 1, change.body)
             entry = self.archive.add_entry({**change.head, **more}, data)
-        except (NoRoom, OSError, Forgotten) as fault:
+        except (NoRoom, Removed, OSError, Forgotten) as fault:
             self.say(f"no change is taken: {fault}")
             change.end(UNAVAILABLE)
             return

@@ -116,9 +116,11 @@ def messages_of(past: Past, state: State, changes: list[Change], asked: list[Dec
         yield from ((0, message) for message in made)
         for moment, ones in sorted(behind.get(place, {}).items()):
             for one in ones:
-                wanted[count] = one
-                count += 1
-                yield moment, ask(past.domain, ASKER, one.request)
+                # (a dear one that waited long among changes would be worked out for hours)
+                if not one.is_same:
+                    wanted[count] = one
+                    count += 1
+                    yield moment, ask(past.domain, ASKER, one.request)
 
 
 def verify(archives: list[list[Segment]], lines: Iterable[str]) -> Iterator[tuple[str, str]]:

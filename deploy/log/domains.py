@@ -33,7 +33,7 @@ class Forgotten(Exception):
 
 class Place(NamedTuple):
     """Where a change is: its number, the file that begins with entry `first`, the first byte in it, how long its body
-    is, when it was answered (microseconds), of which key its body is, and whether it removed the domain."""
+    is at the most, when it was answered (microseconds), of which key its body is, and whether it removed the domain."""
     number: int
     first: int
     offset: int

@@ -82,7 +82,9 @@ class Keeping:
         """The same of an entry with that body, and the body as the archive has it."""
         more, key = self.before(domain, number)
         short = deflated(body)
-        return (more, sealed(key, body)) if short is None else ({**more, "coding": "deflate"}, sealed(key, short))
+        if short is None:
+            return more, sealed(key, body)
+        return {**more, "coding": "deflate", "size": len(body)}, sealed(key, short)
 
     def behind(self, entry: Record, reply: Record) -> None:
         """Notes the place of a change that is answered."""
@@ -110,6 +112,7 @@ class Keeping:
 
 
 def place_of(change: Change, first: int) -> Place:
-    """The place of a change in the file that begins with that entry."""
-    return Place(change.number(), first, change.entry.start, len(change.entry.body), micros(change.ended()),
-                 change.entry.head["key"], int(change.removes()))
+    """The place of a change in the file that begins with that entry. (A replay takes the whole of a deflated body.)"""
+    head = change.entry.head
+    return Place(change.number(), first, change.entry.start, head.get("size", len(change.entry.body)),
+                 micros(change.ended()), head["key"], int(change.removes()))

@@ -7,6 +7,7 @@ from collections.abc import Callable
 from dataclasses import dataclass
 
 from operating.listener import at_port, peer_at_port, peer_of
+from operating.listener import connection_to as connection_to_socket
 
 # how long a port's connection may wait to be taken, in seconds
 TAKEN = 10.0
@@ -58,10 +59,7 @@ def first_reply(data: bytes) -> Reply | None:
 def connection_to(address: str, seconds: float) -> socket.socket:
     """A connection to HOST:PORT, or to the Unix socket unix:PATH."""
     if address.startswith("unix:"):
-        made = socket.socket(socket.AF_UNIX)
-        made.settimeout(seconds)
-        made.connect(address.removeprefix("unix:"))
-        return made
+        return connection_to_socket(address.removeprefix("unix:"), seconds)
     host, _, port = address.rpartition(":")
     made = socket.create_connection((host.strip("[]"), int(port)), timeout=seconds)
     made.setsockopt(socket.IPPROTO_TCP, socket.TCP_NODELAY, 1)

@@ -61,13 +61,24 @@ class Log:
             now = self.clock()
             if self.file < 0 or self.size + len(data) > self.most_bytes or now // DAY != self.began // DAY:
                 self.begin(now)
-            os.write(self.file, data)
-            self.size += len(data)
+            self.write(data)
+
+    def write(self, data: bytes) -> None:
+        """Writes a line, whole or not at all: the next one would be taken for its end."""
+        left = memoryview(data)
+        try:
+            while left:
+                left = left[os.write(self.file, left):]
+        except OSError:
+            os.ftruncate(self.file, self.size)
+            raise
+        self.size += len(data)
 
     def begin(self, now: float) -> None:
         """Begins a file, and removes those that are too old."""
         if self.file >= 0:
-            os.close(self.file)
+            before, self.file = self.file, -1  # (once it is closed its number is another one's)
+            os.close(before)
         name = time.strftime("%Y%m%dT%H%M%S", time.gmtime(now)) + f".{int(now % 1 * 1e6):06d}Z"
         path = self.folder / f"decisions.{name}.log"
         self.file = os.open(path, os.O_WRONLY | os.O_CREAT | os.O_APPEND | os.O_NOFOLLOW | os.O_CLOEXEC, 0o640)

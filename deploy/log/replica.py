@@ -7,6 +7,7 @@
        [--proxy SOCKET --leases MAP] [--groups NAME=HOST,HOST.. --group NAME --led FOLDER]]
 
 HAProxy sends it each change (PUT, POST and DELETE, but for requests for decisions). ADDRESS is HOST:PORT or unix:PATH.
+That of pdpd is the one at which it takes changes (CHANGES-ADDRESS of pdpd listen).
 FILE's lines are the operator's tokens. No change is taken while the disk has fewer than BYTES left (64,000,000).
 NAME is the user of pdpd: nothing is sent to another one's program in its place.
 With --replicas the log is in the etcd of these machines, of which this one has that name, and FILE is the program pdpd
@@ -24,7 +25,6 @@ import sys
 
 from replica import options
 
-from .abandoned import connections_at
 from .archive import Archive
 from .daemon import Daemon
 from .record import Damaged
@@ -51,7 +51,6 @@ def main(words: list[str]) -> int:
     try:
         archive = Archive(given.archive)
         user = pwd.getpwnam(given.user).pw_uid if given.user else None
-        connections_at(given.pdpd)  # (where the kernel doesn't tell of them it can't begin)
         if given.replicas:
             daemon = options.replica_of(given, archive, user)
         else:

@@ -16,7 +16,8 @@ MOST_MESSAGES, MOST_BODY, MOST_HEAD = 32, 524_288, 20_000
 # how long a client may give nothing or take nothing, in seconds: HAProxy sends a message once it has all of it
 PATIENCE = 5.0
 LINE = re.compile(r"([A-Z]{1,20}) ([\x21-\x7e]{1,17000}) HTTP/1\.1")
-FIELD = re.compile(r"([!#$%&'*+.^_`|~0-9A-Za-z-]+):[ \t]*(.*?)[ \t]*", re.S)
+# (blanks around the value are taken away behind it: an expression that looks for them takes seconds for thousands)
+FIELD = re.compile(r"([!#$%&'*+.^_`|~0-9A-Za-z-]+):(.*)", re.S)
 REASONS = {400: "Bad Request", 404: "Not Found", 413: "Payload Too Large", 501: "Not Implemented",
            503: "Service Unavailable", 504: "Gateway Timeout"}
 
@@ -38,7 +39,7 @@ def message_in_head(head: str) -> tuple[Message, int]:
     found, fields = LINE.fullmatch(line), [FIELD.fullmatch(one) for one in rest]
     if not found or not all(fields) or re.search(r"[\0\r\n]", "".join(rest)):
         raise BadMessage(400, "BadHead")
-    held = [(one[1].lower(), one[2]) for one in fields if one]
+    held = [(one[1].lower(), one[2].strip(" \t")) for one in fields if one]
     if any(name == "transfer-encoding" for name, _ in held):
         raise BadMessage(501, "TransferCoding")
     lengths = {value for name, value in held if name == "content-length"} or {"0"}

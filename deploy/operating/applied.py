@@ -15,7 +15,7 @@ from .settings import FILE, Settings, Wrong, read, text_of, words_of, write_whol
 
 FOLDER = FILE.parent / "applied"
 # the settings of a shard's program
-OF_SHARD = ("PROGRAM", "SOCKETS", "FIRST_PORT", "DATA", "TOKEN", "WORK", "READING")
+OF_SHARD = ("PROGRAM", "SOCKETS", "FIRST_PORT", "DATA", "TOKEN", "WORK", "READING", "AUDIT")
 # and of what logs changes and decisions, which goes by what was applied to HAProxy
 OF_LOGS = ("AUDIT_RUN", "ARCHIVES", "ROOM", "DECISION_LOG", "DECISION_BYTES", "DECISION_DAYS", "REPLICAS", "SELF",
            "ETCD_CERTIFICATES", "LEASE", "ACK", "WITHOUT_QUORUM", "LOG_TAIL", "GROUP", "ALL_GROUPS")

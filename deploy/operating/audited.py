@@ -14,8 +14,7 @@ def token_rules(settings):
     if not settings.audit:
         return ""
     shows_one = f"of_tenant is_bearer has_one_token{but(settings)}"
-    return rf"""    acl is_bearer req.fhdr(authorization) -m reg -i ^bearer\ +[!-~]+$
-    http-request set-var(txn.token) req.fhdr(authorization),regsub(^bearer\ +,,i) if {shows_one}
+    return rf"""    http-request set-var(txn.token) req.fhdr(authorization),regsub(^bearer\ +,,i) if {shows_one}
     http-request del-header authorization if of_tenant{but(settings)}
     acl has_bearer var(txn.token) -m found
     http-request set-header authorization "Bearer %[var(txn.token),sha2(256),ub64enc]" if has_bearer

@@ -15,7 +15,7 @@ import subprocess
 import sys
 import time
 
-from . import applied, listener, supervisor
+from . import applied, listener, supervisor, talk
 from .owned import Folder, run, sum_of
 from .standing import user_of_shards
 from .settings import Wrong, alone, harmless, put_off_signals, words_of
@@ -56,9 +56,9 @@ def pause_process(pid):
     """The process stands still meanwhile; an error where it was killed or went on."""
     os.kill(pid, signal.SIGSTOP)
     try:
-        end = time.time() + 2
+        end = time.monotonic() + 2
         while (before := state_of(pid)) is None or before[0] != "T":
-            if before is None or time.time() > end:
+            if before is None or time.monotonic() > end:
                 raise Wrong("the process doesn't stop")
             time.sleep(0.001)
         yield
@@ -122,8 +122,38 @@ def make_lost_folder(settings, shard):
         os.chown(folder, *user)
 
 
+class Lacking(Wrong):
+    """A copy lacks what the program answers."""
+
+
+def names_answered(settings, shard):
+    """The domains that a shard's program has; none where it doesn't tell."""
+    with contextlib.suppress(Wrong, OSError):
+        return {*talk.domains_of(settings, shard)}
+    return set()
+
+
+def refuse_lacking(settings, shard, before, domains):
+    """An error where the copy lacks domains that the program had before it was made, and has. (The program goes by what
+    it holds in memory: a file that was written over under it is told by nothing else.)"""
+    lacks = sorted((before - {*domains}) & names_answered(settings, shard)) if before - {*domains} else []
+    if lacks:
+        raise Lacking(f"the copy lacks {', '.join(lacks[:5])}{' ..' if lacks[5:] else ''}, {len(lacks)} of the domains "
+                      f"that the program of shard {shard} answers: another program wrote over its files, as a copy by "
+                      "hand. What was changed since then is in its memory alone, and is lost once it ends: restart "
+                      f"nothing, note what the API gives of these, give pdpd-shards put-back {shard} BACKUP, and make "
+                      "it again")
+
+
 def backup(settings, shard):
     """Makes a backup of a shard, and gives its folder, its domains, and how long the shard stood still."""
+    with contextlib.suppress(Lacking):  # (a domain may be removed and made anew meanwhile)
+        return try_backup(settings, shard)
+    return try_backup(settings, shard)
+
+
+def try_backup(settings, shard):
+    """The same, which may lack what came and went meanwhile."""
     settings.refuse_unfinished_put_back(shard)
     listener.refuse_another(settings, shard)
     pid = supervisor.of(settings).pid(shard)
@@ -131,7 +161,7 @@ def backup(settings, shard):
         raise Wrong(f"shard {shard} doesn't run: start it, or copy its files, which nobody changes, yourself")
     make_lost_folder(settings, shard)
     refuse_moved(settings.folder(shard), pid)
-    name = name_of_moment()
+    name, answered = name_of_moment(), names_answered(settings, shard)
     path = pathlib.Path(settings.backups) / str(shard)
     path.parent.mkdir(mode=0o711, exist_ok=True)
     path.mkdir(mode=0o700, exist_ok=True)
@@ -143,6 +173,7 @@ def backup(settings, shard):
             with folders.new_folder(f".{name}") as unfinished:
                 took = fill_backup(settings, shard, pid, unfinished)
                 domains = domains_in_backup(settings, shard, path / f".{name}")
+                refuse_lacking(settings, shard, answered, domains)
                 before, _ = counts_of_newest(settings, shard)
                 unfinished.write(COUNTS, f"{len(domains)}\n{before} in the backup before\n")
                 unfinished.write(SUMS, sums_of(unfinished))
@@ -162,7 +193,11 @@ def copy_away(settings, shard, path):
     if not settings.backup_hook:
         return
     what = f"no copy of {path} is elsewhere: {settings.backup_hook}"
-    status, said = run(what, [settings.backup_hook, shard, path], HOOK)
+    # (no pipe, whose end would be waited for: a connection that ssh keeps for later has it open)
+    with os.fdopen(os.memfd_create("said"), "w+", errors="replace") as file:
+        status, _ = run(what, [settings.backup_hook, shard, path], HOOK, stdout=file)
+        file.seek(max(0, file.seek(0, os.SEEK_END) - TOLD))
+        said = file.read().strip()
     if status != 0:
         raise Wrong(f"{what} ends with {status}{': ' if said else ''}{said}")
     with Folder(path) as made:

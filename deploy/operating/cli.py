@@ -31,8 +31,8 @@ import subprocess
 import sys
 
 from . import (
-    applied, backups, figures, front, installed, listener, metrics, moving, proxy, replicated, restoring, room, status,
-    supervisor, talk, watchdog, written)
+    applied, backups, figures, front, installed, listener, metrics, moving, proxy, replicas, replicated, restoring,
+    room, status, supervisor, talk, watchdog, written)
 from .settings import DOMAIN, ENDS, FILE, Wrong, alone, errors_of, harmless, number_in_word, read, words_of
 
 
@@ -91,7 +91,8 @@ def services(settings, words):
                         "again, or give pdpd-shards config --write, restart, and then reload")
     applied.apply_where_none(settings, range(settings.shards))
     # (what logs goes by it, and with runit HAProxy)
-    has_other_logs = applied.logs_go_otherwise(settings)
+    if has_other_logs := applied.logs_go_otherwise(settings):
+        replicas.refuse_removed(settings, range(settings.shards), are_all=True)
     applied.apply(settings, applied.PROXY)
     by.set_up(range(settings.shards))
     if has_other_logs:
@@ -112,15 +113,20 @@ def services(settings, words):
 
 def reload(settings, words):
     talk.check(f"{settings.haproxy_etc}/haproxy.cfg")
-    # (HAProxy takes any text for a map)
-    talk.map_in_file(settings)
+    # (HAProxy takes any text for a map, and any configuration)
+    if found := front.led_beyond(settings):
+        tell_warning(found)
+    if talk.shards_in_configuration(settings) is None:
+        raise Wrong(f"{settings.haproxy_etc}/haproxy.cfg isn't of this deployment, as that of HAProxy's package: give "
+                    "pdpd-shards config --write before")
     if written.leads_elsewhere(settings):
         raise Wrong(f"{settings.haproxy_etc}/haproxy.cfg leads where the shards aren't yet: give pdpd-shards restart, "
                     "and then reload")
     # a process that begins while another tool holds messages back would know nothing of it
-    by, before = supervisor.of(settings), front.names_shown(settings)
+    by, before, count = supervisor.of(settings), front.names_shown(settings), front.certificates_shown(settings)
     with alone():
-        has_other_logs = applied.logs_go_otherwise(settings)
+        if has_other_logs := applied.logs_go_otherwise(settings):
+            replicas.refuse_removed(settings, range(settings.shards), are_all=True)
         talk.reload(settings, by)
         if has_other_logs:
             by.restart_logs(range(settings.shards))
@@ -129,12 +135,18 @@ def reload(settings, words):
     if now and (lost := sorted(before - now)):
         tell_warning(f"the certificate isn't valid for {', '.join(lost)} any more, as the one before was, but for "
                      f"{', '.join(sorted(now))}: clients that ask for another name refuse it")
+    if 0 < (left := front.certificates_shown(settings)) < count:
+        tell_warning(f"clients are shown {left} of certificates, and were shown {count}: if those between don't stand "
+                     f"behind the first one in {settings.certificate} any more, clients that haven't them refuse it")
 
 
 def restart(settings, words):
     if not words:
         talk.refuse_other_count(settings)
     if talk.asks_elsewhere(settings):
+        if words:
+            raise Wrong(f"{FILE} has the shards at other places than they are, and all have to restart for that: give "
+                        "pdpd-shards restart, or write the places of before again")
         with alone():
             moving.restart_elsewhere(settings)
         return say("all shards are restarted, where the settings say, and HAProxy asks them there")
@@ -161,6 +173,7 @@ def upgrade(settings, words):
     by = supervisor.of(settings)
     talk.refuse_other_count(settings)
     talk.refuse_lost_map(settings)
+    replicas.refuse_removed(settings, range(settings.shards), are_all=True)
     settings.operator()
     try_program(settings)
     written.write_configuration(settings)
@@ -170,6 +183,7 @@ def upgrade(settings, words):
     # (a program of an earlier version takes one connection at a time, and HAProxy keeps them once it has its new file)
     restart(settings, [])
     with alone():
+        by.restart_logs(range(settings.shards))
         talk.reload(settings, by)
     installed.note(is_upgrade=True)
     say("HAProxy, the watchdog and the backups run what is installed")
@@ -262,7 +276,12 @@ def grow(settings, words):
         raise Wrong("a number of shards is wanted")
     with alone():
         count = moving.grow(settings, shards)
-    keep_room(read())
+    keep_room(larger := read())
+    for shard in range(settings.shards, shards):
+        try:
+            backups.copy_away(larger, shard, make_backup(larger, shard))
+        except (Wrong, OSError) as fault:
+            tell_warning(words_of(fault))
     say(f"there are {shards} shards; {count} domains stay where they were")
 
 

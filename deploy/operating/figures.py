@@ -183,7 +183,7 @@ class Server(socketserver.ThreadingUnixStreamServer):
 def serve():
     """Looks at all shards, and answers, for ever."""
     settings = settings_now()
-    SOCKET.parent.mkdir(mode=0o711, exist_ok=True)
+    setting.make_locks_folder()
     SOCKET.unlink(missing_ok=True)
     before = os.umask(0o117)
     server = Server(str(SOCKET), Answer)

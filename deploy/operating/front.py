@@ -59,11 +59,16 @@ def look_at_map(settings, findings: Findings) -> None:
     if names:
         findings.add(f"HAProxy leads {len(names)} domains otherwise than {settings.map} says ({first_of(names)}): if "
                      "no tool is at work, pdpd-shards remap makes both anew, of where the domains are")
+    if found := led_beyond(settings):
+        findings.add(found)
+
+
+def led_beyond(settings) -> str:
+    """What is told where the map's file leads to shards that there aren't; empty where it doesn't."""
     beyond = [name for name, place in talk.map_in_file(settings).items() if place.isdecimal()
               and int(place) >= max(settings.shards, talk.shards_in_configuration(settings) or 0)]
-    if beyond:
-        findings.add(f"{settings.map} leads to shards that there aren't: {first_of(sorted(beyond))}: pdpd-shards "
-                     "remap")
+    return (f"{settings.map} leads to shards that there aren't: {first_of(sorted(beyond))}: pdpd-shards remap"
+            if beyond else "")
 
 
 def first_of(names: list[str]) -> str:
@@ -250,6 +255,17 @@ def names_shown(settings) -> set[str]:
     return set()
 
 
+def certificates_shown(settings) -> int:
+    """How many certificates clients are shown, with those between; 0 where that can't be found out."""
+    with contextlib.suppress(OSError, ValueError, subprocess.SubprocessError):
+        if address := address_of(settings.tls_bind) if settings.tls_bind.strip() else None:
+            host, port = f"[{address[0]}]" if ":" in address[0] else address[0], address[1]
+            words = ["openssl", "s_client", "-showcerts", "-connect", f"{host}:{port}"]
+            ran = subprocess.run(words, input="", capture_output=True, text=True, check=False, timeout=PATIENCE)
+            return len(CERTIFICATE.findall(ran.stdout))
+    return 0
+
+
 def ends_soon(text: str) -> bool:
     """Whether a certificate's time is over in so many days."""
     words = ["openssl", "x509", "-noout", "-checkend", str(DAYS * 86_400)]
@@ -292,8 +308,10 @@ def look_as_client(settings, findings: Findings) -> Certificate | None:
             if shown:
                 said = look_at_certificate(settings, address, shown, findings)
         except (*talk.NO_REPLY, ValueError) as fault:
+            more = ", or a firewall or the network (ip link show lo) keeps clients away" \
+                if isinstance(fault, TimeoutError) else ""
             findings.add(f"a client's question at {name} ({bind}) isn't answered ({words_of(fault)}): HAProxy doesn't "
-                         "run with these settings, or its log says why")
+                         f"run with these settings, or its log says why{more}")
     if not settings.tls_bind.strip() and not settings.plain_bind.strip():
         findings.add("TLS_BIND and PLAIN_BIND are empty: no client can connect")
     return said

@@ -12,14 +12,15 @@ import pwd
 from replica.groups import MAP, MOVED, parts_of
 
 from . import passing
+from .binding import bind
 from .settings import Wrong, text_of, write_whole
 
 # the field by which the other machine knows whose message it is
 SOURCE = "x-pdpd-source"
 # certificate and key of a machine, in one file
 PEM = "haproxy.pem"
-# what isn't done for a message to another machine
-BUT = " !is_elsewhere"
+# what isn't done for a message to another machine, and to the machines that are known
+BUT, BUT_MACHINES = " !is_elsewhere", " !is_machine"
 ELSEWHERE = "    acl is_elsewhere var(txn.elsewhere) -m found\n"
 
 
@@ -153,12 +154,21 @@ def again_rules(settings, refusal):
     return place_rules(settings, refusal) + refused
 
 
-def first_rules(settings):
-    """Where other machines come in, which say whose message it is."""
+def hosts(settings):
+    """The addresses of all machines."""
+    every = [settings.machines, *settings.groups.values()]
+    return " ".join(sorted({host for machines in every for host, _ in machines.values()}))
+
+
+def first_rules(settings, source_rules):
+    """Where other machines come in, which say whose message it is. (Whoever shows no certificate has so long for that.)
+    """
     return f"""\
-    bind {own_host(settings)}:{settings.group_port} ssl crt {settings.etcd_certificates}/{PEM} ca-file \
+    {bind(f"{own_host(settings)}:{settings.group_port}")} ssl crt {settings.etcd_certificates}/{PEM} ca-file \
 {settings.etcd_certificates}/ca.crt verify required alpn http/1.1
     maxconn {settings.clients}
+    acl is_machine src {hosts(settings)}
+{source_rules}\
     # the other machine ends what is idle, long before: a message on a connection that ends would be lost
     timeout client 60s
     timeout http-keep-alive 60s

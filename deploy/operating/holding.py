@@ -19,9 +19,9 @@ SETTLES = 3.0
 
 def wait_for_turn(settings, shard):
     """Waits until all messages that are in the shard's queue now have come to it, or have left the queue."""
-    end = time.time() + 2 * talk.LONGEST
-    while time.time() < end:
-        began = time.time()
+    end = time.monotonic() + 2 * talk.LONGEST
+    while time.monotonic() < end:
+        began = time.monotonic()
         try:
             status, _ = talk.shard_reply(settings, shard, "GET", "/operator/domains", "-", in_turn=True)
         except talk.NO_REPLY:
@@ -31,7 +31,7 @@ def wait_for_turn(settings, shard):
         if status == 503:
             # It is down, and nothing is under way; or the question has waited as long as any message may, and
             # what is being answered has its own time.
-            time.sleep(talk.SERVER if time.time() - began > talk.QUEUE - 1 else 0)
+            time.sleep(talk.SERVER if time.monotonic() - began > talk.QUEUE - 1 else 0)
             return
         time.sleep(0.1)
     raise Wrong(f"shard {shard} doesn't answer: nothing was changed")

@@ -320,6 +320,12 @@ def is_unlinked(settings, shard: int) -> bool:
     return False
 
 
+def refuse_unlinked(settings, shard: int) -> None:
+    """An error where a shard's program has lost its socket: it makes none again."""
+    if settings.port(shard) is None and is_unlinked(settings, shard):
+        raise Wrong(f"shard {shard} takes no connections: {why_away(settings, shard)}")
+
+
 def why_away(settings, shard: int) -> str:
     """Why nobody takes a shard's connections, and what heals it."""
     by = supervisor.of(settings)

@@ -34,6 +34,8 @@ def kind_rules():
     acl was_led var(txn.led) -m found
     acl was_replied var(txn.replied) -m found
     http-after-response set-var(txn.kind) str(lost) if { status 400:499 } was_led !was_replied
+    # (what HAProxy itself answers to who isn't known: he may have it written as often as he wants)
+    http-after-response set-var(txn.kind) str(refused) if { status 500:599 } !was_led !{ var(txn.accepted) -m found }
 """
 
 

@@ -1,4 +1,5 @@
 """The rules of HAProxy with METRICS: figures in the text format of Prometheus, and whether decisions are answered."""
+from .binding import bind
 
 # how often each kind of figures is given in a second: HAProxy works them out in its only thread
 MOST = 10
@@ -13,7 +14,7 @@ def frontend(settings):
 # For who looks after all this: no client needs to reach it.
 frontend metrics
     option dontlog-normal
-    bind {settings.metrics}
+    {bind(settings.metrics)}
     maxconn 50
     stick-table type string len 16 size 2 expire 60s store gpc0_rate(1s)
     acl is_figures path /metrics /shards

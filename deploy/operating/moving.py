@@ -16,9 +16,10 @@ from .settings import DOMAIN, FILE, NUMBERS, Wrong, errors_of, put_off_signals, 
 # How long is waited for shards after an error, in seconds: as long as HAProxy tries one that is down. A
 # question that is under way then may take five, and messages wait for a tool for ten.
 SOON = 3.0
-# For how long since messages are held back is waited for what logs changes, in seconds: a busy machine may take some to
-# start it, and a message is held for ten.
+# For how long since shards were to be stopped is waited for what logs their changes, in seconds: a busy machine may
+# take some to start it, and a message is held for ten.
 HELD = 8.0
+
 
 class NotBegun(Wrong):
     """Why a move isn't made: nothing was changed."""
@@ -51,12 +52,12 @@ def stop_shards(settings, shards):
 
 def wait_until_up(settings, shards, began, seconds=30.0):
     """Waits until the shards answer, for so long at the most, where the settings say that they are now; and for what
-    logs their changes, whose messages are held back since `began`."""
-    end = time.time() + seconds
+    logs their changes, until HELD behind `began`."""
+    end = time.monotonic() + seconds
     for shard in shards:
         talk.lead(settings, shard)
     for shard in shards:
-        talk.wait_until_up(settings, shard, end - time.time())
+        talk.wait_until_up(settings, shard, end - time.monotonic())
     replicas.wait_until_there(settings, shards, max(replicas.PENDING, began + HELD - time.monotonic()))
     applied.note_kept(settings, shards)
 
@@ -71,6 +72,7 @@ def restart_shards(settings, *shards, are_replaced=False):
     """
     settings.operator()
     standing.refuse_unrunnable(settings)
+    replicas.refuse_removed(settings, shards)
     for shard in shards if not are_replaced else ():
         standing.refuse_unstartable(applied.where_it_starts(settings, shard), shard)
     if talk.asks_elsewhere(settings):
@@ -100,6 +102,7 @@ def restart_elsewhere(settings):
     standing.refuse_unrunnable(settings)
     written.write_configuration(settings)
     shards = range(settings.shards)
+    replicas.refuse_removed(settings, shards)
     for shard in shards:
         standing.refuse_unstartable(applied.where_it_starts(settings, shard), shard)
     with holding.hold_messages(settings, *shards):
@@ -163,7 +166,7 @@ def move(settings, domain, one, other):
     before = talk.map_in_file(settings).get(domain)
     refuse_absent(settings, domain, one, other)
     talk.settle(settings)
-    began = time.time()
+    began = time.monotonic()
     with holding.hold_messages(settings, one, other):
         # what is left where this is cut: nobody asks either shard for it
         talk.set_in_map(settings, {domain: "moving"})
@@ -176,7 +179,7 @@ def move(settings, domain, one, other):
             if is_unchanged and before != "moving":
                 talk.set_in_map(settings, {domain: before})
             raise
-    return time.time() - began
+    return time.monotonic() - began
 
 
 @contextlib.contextmanager

@@ -115,10 +115,20 @@ class Folder:
             os.close(file)
 
     @contextlib.contextmanager
+    def naming(self, name: str) -> Iterator[None]:
+        """An error has the whole path of what is made."""
+        try:
+            yield
+        except OSError as fault:
+            fault.filename = str(self.path / name)
+            raise
+
+    @contextlib.contextmanager
     def making(self, name: str, user: User | None = None) -> Iterator[int]:
         """The descriptor of a new file, which is given to the user."""
         how = os.O_WRONLY | os.O_CREAT | os.O_EXCL | os.O_NOFOLLOW | os.O_CLOEXEC
-        file = os.open(name, how, 0o600, dir_fd=self.fd)
+        with self.naming(name):
+            file = os.open(name, how, 0o600, dir_fd=self.fd)
         try:
             os.fchmod(file, 0o600)
             if user:
@@ -144,7 +154,8 @@ class Folder:
     def new_folder(self, name: str) -> Folder:
         """A new folder into which nobody else can put anything, whoever owns this one."""
         try:
-            os.mkdir(name, 0o700, dir_fd=self.fd)
+            with self.naming(name):
+                os.mkdir(name, 0o700, dir_fd=self.fd)
         except FileExistsError:
             raise Wrong(f"{self.path / name} is there again: {PLANTED}") from None
         return self.closed_folder(name)
@@ -215,7 +226,7 @@ def run(what: str, words: Sequence[object], seconds: float = PATIENCE, **how: An
     seconds more.
     """
     pipes = {"stdin": subprocess.DEVNULL, "stdout": subprocess.PIPE, "stderr": subprocess.STDOUT}
-    with subprocess.Popen([*map(str, words)], text=True, errors="replace", **pipes, **how) as child:
+    with subprocess.Popen([*map(str, words)], text=True, errors="replace", **{**pipes, **how}) as child:
         try:
             said = result_of(child, what, seconds)
         except BaseException:
@@ -223,7 +234,7 @@ def run(what: str, words: Sequence[object], seconds: float = PATIENCE, **how: An
             raise
     if child.returncode < 0:
         raise Wrong(f"{what} was ended by signal {-child.returncode}")
-    return child.returncode, said.strip()
+    return child.returncode, (said or "").strip()
 
 
 def sum_of(file: BinaryIO, what: str, seconds: float = PATIENCE) -> str:

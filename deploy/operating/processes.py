@@ -36,6 +36,16 @@ def parent_of(process):
     return 0
 
 
+def open_files(process):
+    """The paths of the files that a process has open, as the system tells them."""
+    found = []
+    with contextlib.suppress(FileNotFoundError, ProcessLookupError):
+        for place in pathlib.Path(f"/proc/{process}/fd").iterdir() if process else ():
+            with contextlib.suppress(FileNotFoundError):
+                found.append(os.readlink(place))
+    return found
+
+
 def removed_files(process):
     """The files that a process has open for writing and that were removed, each with its place in /proc."""
     found = {}

@@ -7,12 +7,15 @@ ends here. So does what one client could take away from all others: connections,
 import hashlib
 import pathlib
 
-from . import again, audited, grouped, logged, monitored, passing, replicated
+from . import again, audited, grouped, known, logged, monitored, passing, replicated
 from . import settings as setting
+from .binding import bind
 
 JSON = "content-type application/json string"
 # Which bytes no field may have; pdpd would close the connection (RFC 9110, section 5.5).
 CONTROLS = r"[\x00-\x08\x0b\x0c\x0e-\x1f\x7f]"
+# which no target has; the same (RFC 9112, section 3.2)
+NO_TARGET = r"[^\x21-\x7e]"
 # The longest message (16,384 bytes more) and the longest reply that a client gets each fit into a buffer. So pdpd gets
 # no message before its last byte is here, and is rid of its reply whether the client takes it or not.
 MOST_BODY, MOST_REPLY, BUFFER = 524_288, 1_000_000, 1_048_576
@@ -116,16 +119,16 @@ defaults
 
 def binds(settings):
     """Where clients come in, and how many may."""
-    lines = f"    bind {settings.plain_bind}\n" if settings.plain_bind else ""
+    lines = f"    {bind(settings.plain_bind)}\n" if settings.plain_bind else ""
     if settings.tls_bind:
-        lines += f"    bind {settings.tls_bind} ssl crt {settings.certificate} alpn h2,http/1.1\n"
+        lines += f"    {bind(settings.tls_bind)} ssl crt {settings.certificate} alpn h2,http/1.1\n"
     return f"{lines}    maxconn {settings.clients}\n"
 
 
-def source_rules(settings):
-    """How many connections one client may have at a time."""
+def source_rules(settings, but=""):
+    """How many connections one client may have at a time; `but` is the end of the condition."""
     most = settings.of_source
-    connections_end = f"    tcp-request connection reject if {{ sc0_conn_cur gt {most} }}\n" if most else ""
+    connections_end = f"    tcp-request connection reject if {{ sc0_conn_cur gt {most} }}{but}\n" if most else ""
     return f"""\
     tcp-request connection track-sc0 {SOURCE} table connections_of_source
 {connections_end}"""
@@ -146,68 +149,21 @@ def head_rules():
     http-request set-var(txn.head) req.hdrs,length
     http-request set-var(txn.line) url,length
     http-request set-var(txn.head) var(txn.head),add(txn.line)
+    http-request set-var(txn.line) method,length
+    http-request set-var(txn.head) var(txn.head),add(txn.line)
     http-request {answers(431, "HeadTooLarge")} if {{ var(txn.head) -m int gt 16200 }}
     # (one of the 64 that pdpd takes is HAProxy's own)
     http-request {answers(431, "HeadTooLarge")} if {{ req.fhdr_cnt gt 63 }}
     http-request {answers(400, "BadHead")} if {{ req.hdrs -m reg '{CONTROLS}' }}
+    # (over HTTP/2 a target may have any byte, and CONNECT with :protocol comes as GET with a field Upgrade)
+    http-request {answers(400, "BadHead")} if {{ url -m reg '{NO_TARGET}' }}
+    http-request {answers(405, "BadMethod")} if {{ req.ver 2.0 }} {{ req.fhdr(upgrade) -m found }}
     # pdpd decodes the domain's part once it has found the route, and no domain's name needs a percent
     http-request {answers(400, "BadDomain")} if {{ var(txn.domain) -m sub % }}
-    # The list of all domains is asked of all shards: who shows no token asks none of them.
+    # The list of all domains is asked of all shards: who shows no token, or several, asks none of them. (With 62 of
+    # them there would be more fields than pdpd takes.)
     acl is_list path /operator/domains
-    acl has_token req.hdr(authorization) -m found
-    http-request {answers(401, "Unauthorized", " hdr www-authenticate Bearer")} if is_list METH_GET !has_token
-"""
-
-
-def token_rules(settings):
-    """What a token may ask that was accepted lately, and what is left to those without one.
-
-    The digest of a token and of its domain (of none, if it is the operator's) is kept once a reply was success
-    (`accepts`). So nobody uses up what is another's. A message has the counters 1 and 2: 0 is its connection's, and is
-    tracked for that alone. 1 counts by token, if that was accepted, and else by source; 2 counts all messages.
-    """
-    refuses, rate, of_source = "", "", ""
-    if settings.of_source:
-        of_source = f"""\
-    http-request {answers(429, "TooMany")} if !is_accepted {{ sc1_conn_cur gt {settings.of_source} }}
-"""
-    if settings.refusals:
-        refuses = f"""\
-    http-request {answers(429, "TooMany", how="tarpit")} if !is_accepted {{ sc1_gpc0_rate gt {settings.refusals} }}
-    # (who sends more and ends each at once would push other lines out of the log)
-    http-request set-log-level silent if !is_accepted {{ sc1_gpc1_rate gt {10 * settings.refusals} }}
-    http-request {answers(429, "TooMany", how="tarpit")} if !is_accepted {{ sc1_gpc1_rate gt {10 * settings.refusals} }}
-"""
-    if settings.rate:
-        rate = f"""\
-    http-request {answers(429, "TooMany")} if is_accepted of_tenant {{ sc1_http_req_rate gt {settings.rate} }}
-"""
-    return f"""\
-    acl of_tenant path_beg /domains/
-    http-request set-var(txn.tenant) path,field(3,/) if of_tenant
-    acl has_one_token req.fhdr_cnt(authorization) eq 1
-    http-request set-var(txn.who) "req.fhdr(authorization),word(-1,' '),concat(/,txn.tenant),sha2(256)" if has_one_token
-    acl was_accepted var(txn.who),in_table(accepted) -m bool
-    acl was_refused_since var(txn.who),table_gpt0(accepted) eq 1
-    http-request set-var(txn.accepted) int(1) if has_one_token was_accepted !was_refused_since
-    acl is_accepted var(txn.accepted) -m found
-    http-request track-sc1 var(txn.who) table accepted if is_accepted
-    http-request track-sc1 {SOURCE} table messages_of_source if !is_accepted
-{of_source}\
-    http-request sc-inc-gpc1(1) if !is_accepted
-    http-request track-sc2 int(0) table messages_under_way
-    http-request {answers(503, "Unavailable")} if {{ sc2_conn_cur gt {settings.under_way} }}
-    http-request {answers(503, "Unavailable")} if !is_accepted {{ sc2_conn_cur gt {settings.under_way // 2} }}
-{refuses}{rate}\
-    http-response sc-set-gpt0(1) 1 if is_accepted {{ status 401 }}
-    http-response sc-inc-gpc0(1) if {{ status 400:499 }} !is_accepted
-"""
-
-
-# in a backend: keeps that a token was accepted, unless it was refused since. (No counter is left that would.)
-ACCEPTS = """\
-    acl was_refused_since var(txn.who),table_gpt0(accepted) eq 1
-    stick store-response var(txn.who) table accepted if { status 200:299 } { var(txn.who) -m found } !was_refused_since
+    http-request {answers(401, "Unauthorized", " hdr www-authenticate Bearer")} if is_list METH_GET !has_one_token
 """
 
 
@@ -292,13 +248,14 @@ def frontends(settings):
     first = f"\nfrontend pdp\n{binds(settings)}{log}{source_rules(settings)}{rules}"
     if not grouped.has_others(settings):
         return first + second
-    return f"{first}\nfrontend machines\n{log}{grouped.first_rules(settings)}{rules}{second}"
+    machines = f"{log}{grouped.first_rules(settings, source_rules(settings, grouped.BUT_MACHINES))}{rules}"
+    return f"{first}\nfrontend machines\n{machines}{second}"
 
 
 def message_rules(settings):
     """What is done with a message before it is led anywhere."""
     return (logged.kind_rules() + DOMAIN_RULES + grouped.place_rules(settings, answers(503, "Unavailable"))
-            + passing.rules(settings) + token_rules(settings) + head_rules() + body_rules()
+            + passing.rules(settings) + known.rules(settings, answers, SOURCE) + head_rules() + body_rules()
             + audited.token_rules(settings) + audited.decision_rules(settings) + logged.level_rules(settings)
             + logged.LED)
 
@@ -328,7 +285,7 @@ frontend inner
 # A few lists are put together at a time, and the others wait.
 backend lists
     timeout server 40s
-{ACCEPTS}\
+{known.ACCEPTS}\
     server self unix@{settings.haproxy_run}/lists.sock maxconn {LISTS}
 
 frontend list
@@ -350,9 +307,9 @@ backend messages_of_source
 backend messages_under_way
     stick-table type integer size 1 expire 60s store conn_cur
 
-# by the digest of a token and a domain; gpt0 is 1 once it is refused
+# by the digest of a token and a domain; gpt0 is 1 once it is refused, and gpc0 counts changes
 backend accepted
-    stick-table type binary len 32 size 100k expire 10m store gpt0,http_req_rate(10s)
+    stick-table type binary len 32 size 100k expire 10m store gpt0,http_req_rate(10s),gpc0_rate(10s)
 """
 
 
@@ -364,7 +321,7 @@ def server(settings, shard):
 def backends(settings):
     return "".join(f"""
 backend shard{shard}
-{ACCEPTS}\
+{known.ACCEPTS}\
     # (so messages wait in this server's queue)
     use-server pdpd if TRUE
     server pdpd {server(settings, shard)} maxconn {settings.maxconn}
@@ -390,7 +347,8 @@ def configuration(settings):
         f"# Written by `pdpd-shards config`, of {setting.FILE}: what is changed here is lost. Sections of your own stand "
         f"in {settings.haproxy_etc}/{OWN}.\n",
         global_part(settings), defaults_part(settings), frontends(settings), other_parts(settings),
-        backends(settings), audited.backends(settings, ACCEPTS), grouped.backends(settings, ACCEPTS),
+        backends(settings), audited.backends(settings, known.ACCEPTS),
+        grouped.backends(settings, known.ACCEPTS),
         audited.decision_ring(settings),
         monitored.frontend(settings), own_part(settings)))
     return text.replace(DIGEST, hashlib.sha256(text.encode()).hexdigest()[:16])

@@ -1,6 +1,7 @@
 """What logs changes and decisions, with AUDIT and DECISIONS: how far it is, and why it isn't there."""
 from __future__ import annotations
 
+import contextlib
 import http.client
 import json
 import os
@@ -15,7 +16,7 @@ from log.record import Damaged
 from . import applied, supervisor
 from .findings import Findings
 from .processes import removed_files
-from .settings import Settings
+from .settings import Settings, Wrong
 
 FIGURES = ("position", "waiting", "pending", "archive_bytes", "room_bytes")
 # and what one of an earlier version doesn't tell
@@ -29,6 +30,8 @@ VERIFIED = 26 * 3600
 AHEAD = 60
 # what the nightly job tells of (pdpd-log verify)
 KINDS = ("same", "other", "refused", "unverified")
+# as whom what logs runs
+USER = "pdpd-replica"
 # what is raised where nothing is told
 UNTOLD = OSError, http.client.HTTPException, ValueError, KeyError, TypeError, RecursionError
 
@@ -119,13 +122,27 @@ def why_away(settings: Settings, shard: int) -> str:
     return why_silent(settings, shard)
 
 
-def tell_removed(settings: Settings, name: str, folder: pathlib.Path, findings: Findings) -> None:
-    """Tells of files that were removed while a service writes into them."""
-    unit = name if settings.supervisor == "runit" else name.replace("replica-", "replica@")  # (as `unit_of`)
+def removed_under(settings: Settings, unit: str, folder: str) -> Iterator[str]:
+    """What is told of files that were removed while a service writes into them."""
     for file, place in removed_files(supervisor.of(settings).supervised(unit)).items():
         if file.startswith(f"{folder}/"):
-            findings.add(f"{file} was removed while {unit} writes into it, and what is in it is lost once that ends: "
-                         f"copy it from {place} before, then restart {unit}")
+            # (root alone can open what the daemon has open, and follows no link that the daemon's user has put there)
+            yield (f"{file} was removed while {unit} writes into it, and what is in it is lost once that ends: runuser "
+                   f"-u {USER} -- sh -c 'umask 077; cat > {file}' < {place} saves it. Then take away what it was packed "
+                   f"into, and restart {unit}")
+
+
+def refuse_removed(settings: Settings, shards: Iterable[int], *, are_all: bool = False) -> None:
+    """An error where what logs changes of these shards, or with all of them decisions, has a file open that was
+    removed: it would be lost by a restart."""
+    with contextlib.suppress(Wrong):  # (what was applied may be spoiled: a reload writes it anew)
+        settings = applied.of(settings, applied.PROXY)
+    units = [(unit_of(settings, shard), f"{settings.archives}/{shard}") for shard in shards if settings.audit]
+    if are_all and settings.decisions:
+        units.append(("pdpd-decisions", settings.decision_log))
+    for unit, folder in units:
+        for what in removed_under(settings, unit, folder):
+            raise Wrong(f"nothing was stopped: {what}")
 
 
 def look_at_verified(settings: Settings, findings: Findings) -> None:
@@ -158,9 +175,14 @@ def look(settings: Settings, shard: int, findings: Findings) -> int | None:
         if found is None:
             findings.add(f"no change of shard {shard} is taken: {why_away(settings, shard)}")
             return None
+        changes = applied.where_it_is(settings, shard).changes(shard)
+        if not os.path.exists(changes):
+            findings.add(f"no change of shard {shard} is taken: {changes} isn't there, where it takes them: "
+                         f"pdpd-shards restart {shard} makes it")
         if found.get("lease") == 0:
             findings.add(f"shard {shard} decides nothing on this machine, whose lease is over: pdpd-replicas status")
-        tell_removed(settings, f"pdpd-replica-{shard}", pathlib.Path(settings.archives) / str(shard), findings)
+        for what in removed_under(settings, unit_of(settings, shard), f"{settings.archives}/{shard}"):
+            findings.add(f"no change of shard {shard} is taken: {what}")
         if (ahead := found[LAST] - time.time()) > AHEAD:
             findings.add(f"the archive of shard {shard} is {ahead / 3600:.1f} hours beyond this clock, which was "
                          "ahead, or is behind: changes are logged as of that moment until then. If the clock is right "
@@ -187,7 +209,8 @@ def look_at_decisions(settings: Settings, findings: Findings) -> None:
     with findings.looking("what was verified"):
         look_at_verified(settings, findings)
     with findings.looking("the files of decisions"):
-        tell_removed(settings, "pdpd-decisions", pathlib.Path(settings.decision_log), findings)
+        for what in removed_under(settings, "pdpd-decisions", settings.decision_log):
+            findings.add(what)
     with findings.looking("the log of decisions"):
         try:
             connected(pathlib.Path(settings.audit_run) / "decisions" / "socket").close()

@@ -57,9 +57,11 @@ def fault_of(path: str | os.PathLike[str]) -> str | None:
 
 
 def reserve_of(settings, shard: int) -> int | None:
-    """The bytes of a shard's reserve; nothing where there is none."""
+    """The bytes of a shard's reserve; nothing where there is none. (Of a file with holes, as a copy may have them, its
+    blocks of 512 bytes count.)"""
     try:
-        return os.lstat(settings.folder(shard) / NAME).st_size
+        found = os.lstat(settings.folder(shard) / NAME)
+        return min(found.st_size, found.st_blocks * 512)
     except FileNotFoundError:
         return None
 

@@ -9,8 +9,8 @@ import subprocess
 import time
 
 from .closing import close_archives_folder, close_sockets_folder, refuse_no_user
-from .processes import children_of, end_of, has_program, is_stopped, last_of, parent_of
-from .services import further, logging, program_of, run, was_removed
+from .processes import REMOVED, children_of, end_of, has_program, is_stopped, last_of, open_files, parent_of
+from .services import further, logging, program_of, run
 from .settings import LIBRARY, Wrong
 
 # how long a program that is told to end may take: it answers what is under way
@@ -90,7 +90,10 @@ class Runit:
     def files(self):
         """The folders and scripts by which runit starts what there is of the deployment."""
         names = sorted({*self.folders.glob("pdpd-*"), self.folders / "haproxy"})
-        return [self.services, self.folders, *names, *(place / name for place in names for name in ("run", "log/run"))]
+        # (a log's `config` may name a program, which svlogd runs)
+        logs = [LOGS, *LOGS.glob("*"), *LOGS.glob("*/config")]
+        return [self.services, self.folders, *names, *(place / name for place in names for name in ("run", "log/run")),
+                *logs]
 
     def log_of(self, name):
         """Where the log of a service is."""
@@ -113,11 +116,16 @@ class Runit:
         """When one failed, and why: never, since the service of backups notes it, and goes on."""
         return 0.0, ""
 
-    def removed_logs(self, names):
-        """Those of these services whose log goes into a file that was removed."""
-        places = {name: f"/proc/{process}/fd" for name in names if (process := self.process(f"{name}/log"))}
-        return [name for name, place in places.items()
-                if any(was_removed(f"{place}/{file}") for file in os.listdir(place))]
+    def lost_logs(self, names):
+        """Those of these services whose log goes into a file that was removed, or that another program renamed, each
+        with the words for that. (svlogd itself gives one a name with @.)"""
+        for name in names:
+            files = {pathlib.Path(file) for file in open_files(self.process(f"{name}/log"))}
+            if any(file.name.endswith(REMOVED) for file in files):
+                yield name, "was removed, and its lines are lost"
+            elif others := sorted(file for file in files if LOGS in file.parents
+                                  and re.fullmatch(r"current\W.+", file.name)):
+                yield name, f"goes on in {others[0]}: let no other program rotate it, since svlogd does"
 
     def is_down(self, shard):
         """Whether a shard's program has ended, and runit starts none."""
@@ -132,12 +140,12 @@ class Runit:
         before that would do nothing, and the shard would stay away.
         """
         self.sv("down", f"pdpd-{shard}")
-        end = time.time() + PATIENCE
+        end = time.monotonic() + PATIENCE
         while not self.is_down(shard):
-            if time.time() > end and (process := self.pid(shard)):
+            if time.monotonic() > end and (process := self.pid(shard)):
                 with contextlib.suppress(ProcessLookupError):
                     os.kill(process, signal.SIGKILL)
-            if time.time() > end + PATIENCE:
+            if time.monotonic() > end + PATIENCE:
                 raise Wrong(f"shard {shard} doesn't end")
             time.sleep(0.02)
 
@@ -160,10 +168,10 @@ class Runit:
     def end_etcd(self):
         """Ends this machine's etcd, which would wait for the others: what it has isn't wanted any more."""
         self.sv("down", "pdpd-etcd")
-        end = time.time() + PATIENCE
+        end = time.monotonic() + PATIENCE
         while self.process("pdpd-etcd"):
             self.sv("kill", "pdpd-etcd")
-            if time.time() > end:
+            if time.monotonic() > end:
                 raise Wrong("etcd doesn't end")
             time.sleep(0.1)
 
@@ -204,9 +212,9 @@ class Runit:
 
     def run_now(self, name):
         """Has a service run that runit hasn't seen yet, or that was taken down."""
-        end = time.time() + SEEN
+        end = time.monotonic() + SEEN
         while not self.is_seen(name):
-            if time.time() > end:
+            if time.monotonic() > end:
                 raise Wrong(f"runit doesn't look after {self.services}: start it, `runsvdir -P {self.services}`")
             time.sleep(0.1)
         for each in (name, f"{name}/log"):

@@ -20,7 +20,7 @@ FILE = pathlib.Path(os.environ.get("PDPD_SETTINGS", "/etc/pdpd/shards.conf"))
 NUMBERS = {
     "SHARDS": (1, 64), "FIRST_PORT": (1, 65_000), "KEEP_BACKUPS": (1, 100_000),
     "WORK": (0, 2 ** 63), "READING": (0, 2 ** 63), "THREADS": (1, 64), "MAXCONN": (1, 60), "RATE": (0, 1_000_000),
-    "RESERVE": (0, 100_000),
+    "CHANGE_RATE": (0, 1_000_000), "RESERVE": (0, 100_000),
     "CLIENTS": (1, 100_000), "UNDER_WAY": (10, 100_000), "OF_SOURCE": (0, 100_000), "REFUSALS": (0, 1_000_000),
     "AUDIT": (0, 1), "ROOM": (0, 2 ** 63), "DECISIONS": (0, 1), "DECISION_BYTES": (1, 2 ** 40),
     "DECISION_DAYS": (1, 100_000), "LEASE": (2, 60), "LOG_TAIL": (0, 10 ** 9), "GROUP_PORT": (1, 65_535),
@@ -176,7 +176,7 @@ class Settings:
             raise Wrong(f"{file}: LOG_DECISIONS is {self.log_decisions!r}, and neither 0 nor 1 nor empty")
         # (the journal has no place of its own for them: what is older would go, whatever it is)
         self.log_decisions = self.log_decisions == "1" or (not self.log_decisions and self.supervisor == "runit")
-        if len(self.socket(NUMBERS["SHARDS"][1])) > MOST_PATH:
+        if len(self.changes(NUMBERS["SHARDS"][1])) > MOST_PATH:
             raise Wrong(f"{file}: SOCKETS is {self.sockets!r}: a socket's path may have {MOST_PATH} bytes")
         self.machines = self.machines_of(file) if self.replicas else {}
         self.groups = self.groups_of(file) if self.all_groups else {}
@@ -227,6 +227,10 @@ class Settings:
     def socket(self, shard):
         """Where its socket is."""
         return f"{self.sockets}/{shard}/socket"
+
+    def changes(self, shard):
+        """Where it takes changes, if they are logged."""
+        return f"{self.sockets}/{shard}/changes"
 
     def place(self, shard):
         """Where a shard listens, in words."""
@@ -299,10 +303,11 @@ def alone():
         except BlockingIOError:
             print(f"pdpd-shards: waits for {lock.read().strip() or 'another one'}", file=sys.stderr, flush=True)
             fcntl.flock(lock, fcntl.LOCK_EX)
-        lock.seek(0)
-        lock.truncate()
         now = time.strftime("%H:%M:%S UTC", time.gmtime())
-        print("pdpd-shards", *sys.argv[1:], f"(process {os.getpid()}, since {now})", file=lock, flush=True)
+        told = f"pdpd-shards {' '.join(sys.argv[1:])} (process {os.getpid()}, since {now})\n"
+        os.ftruncate(file, 0)
+        with contextlib.suppress(OSError):  # (where its disk is full nobody is told for whom he waits)
+            os.pwrite(file, told.encode(errors="replace"), 0)
         yield
 
 
@@ -334,7 +339,8 @@ def put_off_signals():
 def write_whole(path, text, mode=0o644):
     """Puts a file in place of the one that is there, whole or not at all."""
     path = pathlib.Path(path)
-    with tempfile.NamedTemporaryFile("w", dir=path.parent, prefix=f".{path.name}.", delete=False) as file:
+    how = {"encoding": "utf-8", "dir": path.parent, "prefix": f".{path.name}.", "delete": False}
+    with tempfile.NamedTemporaryFile("w", **how) as file:
         try:
             file.write(text)
             file.flush()

@@ -20,6 +20,8 @@ from .settings import FILE, LIBRARY, Settings, Wrong
 USER = "pdpd"
 # what SQLite may have beside a store
 BESIDE = f"{trial.STORE}-journal", f"{trial.STORE}-shm"
+# a file with as many bytes is no key
+LARGE = 2 ** 20
 # after how long is looked again for a service that doesn't run: a supervisor starts it again within a second
 AGAIN = 1.5
 
@@ -59,18 +61,39 @@ def refuse_unrunnable(settings: Settings) -> None:
                     "folders above (the token alone is secret). Restart no shard before")
 
 
+def secrets(settings: Settings) -> Iterator[tuple[pathlib.Path, int]]:
+    """The operator's token and the certificate's key, also copies beside them of such names, each with what others may
+    not do with it. (A certificate may be a group's, as that of Debian's ssl-cert.)"""
+    token, certificate = pathlib.Path(settings.token), pathlib.Path(settings.certificate)
+    yield from ((path, 0o077) for path in (token, *sorted(token.parent.glob(f"{token.name}?*"))))
+    if settings.tls_bind.strip():
+        yield certificate, 0o007
+        yield from ((path, 0o007) for path in sorted(certificate.parent.glob(f"{certificate.stem}*")) if has_key(path))
+
+
+def has_key(path: pathlib.Path) -> bool:
+    """Whether a file has a key that others can read."""
+    found = mode_of(path)
+    return bool(found and stat.S_ISREG(found.st_mode) and found.st_mode & 0o007 and found.st_size < LARGE
+                and b"PRIVATE KEY-----" in path.read_bytes())
+
+
 def look_at_secrets(settings: Settings, findings: Findings) -> None:
-    """Whether others can read the operator's token or the certificate's key."""
-    # (a certificate may be a group's, as that of Debian's ssl-cert)
-    for path, others in ((settings.token, 0o077), (settings.certificate if settings.tls_bind.strip() else "", 0o007)):
-        with findings.looking(path):
-            found = mode_of(path) if path else None
-            if not found:
+    """Whether others can read the operator's token or the certificate's key, or come to what shards keep elsewhere."""
+    with findings.looking("who can read what is secret"):
+        for path, others in secrets(settings):
+            if not (found := mode_of(path)):
                 continue
             if found.st_mode & others:
                 findings.add(f"others than root can read or change {path}: chmod 600 {path}, and replace what is in it")
             if found.st_uid != 0:
                 findings.add(f"{path} isn't root's: chown root {path}, and replace what is in it")
+    for above in (settings.backups, *([settings.archives] if settings.audit else [])):
+        for folder in (pathlib.Path(above) / str(shard) for shard in range(settings.shards)):
+            with findings.looking(str(folder)):
+                if (found := mode_of(folder)) and found.st_mode & 0o077:
+                    findings.add(f"others than its owner can come into {folder}, and read policies and rows: chmod 700 "
+                                 f"{folder}")
 
 
 class Fault(NamedTuple):
@@ -133,7 +156,7 @@ def look_at_store(settings: Settings, shard: int, findings: Findings) -> None:
 def lost_files(settings: Settings, shard: int, process: int) -> Iterator[str]:
     """What is told of the files of a store that a shard's program has open, and that its folder hasn't any more."""
     folder = settings.folder(shard)
-    for name in trial.removed_files(folder, process):
+    for name in trial.removed_files(process):
         yield (f"{folder / name} was removed while the program of shard {shard} has it open, and all of it is lost "
                f"once that ends. Don't restart it: run pdpd-shards backup {shard}, which takes it from the program, and "
                "put that backup back")
@@ -190,10 +213,10 @@ def look_at_supervision(settings: Settings, findings: Findings) -> None:
     by = supervisor.of(settings)
     shards = [*map(by.SHARD.format, range(settings.shards))]
     with findings.looking("what looks after services"):
-        for process in by.standing_still([*shards, "haproxy"]):
+        for process in by.standing_still([*shards, *by.beside(range(settings.shards)), "haproxy"]):
             findings.add(f"what looks after services stands still (process {process}), and starts none again: kill "
                          f"-CONT {process}")
-        for name in shards:
+        for name in (*shards, "haproxy"):
             if is_stopped(process := by.supervised(name)):
                 findings.add(f"what holds {name} stands still (process {process}), and doesn't end it: kill -CONT "
                              f"{process}")
@@ -216,9 +239,8 @@ def look_at_starts(settings: Settings, findings: Findings) -> None:
         for name in by.unlogged(unlogged):
             findings.add(f"nobody takes the lines of {name}, or will after the machine's next start: pdpd-shards "
                          "services")
-        for name in by.removed_logs(names):
-            findings.add(f"the log of {name} was removed, and its lines are lost: sv restart "
-                         f"{settings.services}/{name}/log")
+        for name, what in by.lost_logs(names):
+            findings.add(f"the log of {name} {what}: sv restart {settings.services}/{name}/log")
 
 
 def look_at_services(settings: Settings, findings: Findings) -> None:

@@ -12,7 +12,7 @@ from . import applied, front, listener, replicas, room, standing, supervisor, ta
 from .backups import COPIED, backups_of, emptied, failure, is_beyond
 from .findings import Findings
 from .owned import sum_of
-from .processes import is_stopped
+from .processes import children_of, is_stopped
 from .settings import FILE, LOCKS, MARK, BadToken, Settings, Wrong, at_work, read, words_of
 
 # when a backup is too old, in seconds
@@ -232,7 +232,7 @@ def look_at_disks(settings: Settings, findings: Findings) -> None:
     what they write."""
     logs = {"the logs": supervisor.LOGS} if settings.supervisor == "runit" else {}
     places = {"DATA": settings.data, "BACKUPS": settings.backups, **logs, "SOCKETS": settings.sockets,
-              str(LOCKS): LOCKS}
+              str(LOCKS): LOCKS, str(FILE.parent): FILE.parent, "HAPROXY_ETC": settings.haproxy_etc}
     for name, path in places.items():
         with findings.looking(f"the disk of {name}"):
             if os.path.exists(path) and (found := room.on_disk_of(path)).is_scarce():
@@ -285,8 +285,11 @@ def shard_report(settings: Settings, shard: int, lists: dict[int, list[str]], in
 def goes_on(tool: str | None, findings: Findings) -> bool:
     """Whether a tool is at work. It tells of one that stands still, as by ^Z at its terminal."""
     process = re.search(r"\(process (\d+),", tool or "")
-    if process and is_stopped(process[1]):
-        findings.add(f"{tool} stands still, and all other tools wait for it: kill -CONT {process[1]} has it go on")
+    # (one waits for a program that it has begun, and can't be stopped itself before that runs)
+    still = [each for each in (process[1], *children_of(process[1])) if is_stopped(each)] if process else []
+    if still:
+        findings.add(f"{tool} stands still, and all other tools wait for it: kill -CONT "
+                     f"{' '.join(map(str, dict.fromkeys([process[1], *still])))} has it go on")
         return False
     return tool is not None
 

@@ -106,18 +106,21 @@ class Systemd:
         return last_of(self.last_lines(name, 1))
 
     def failed_backup(self, shard):
-        """When the unit of a shard's backups failed, and what its log ends with; never where the last one didn't."""
+        """When the unit of a shard's backups failed, and why: what the tool has said last, else what systemd calls it;
+        never where the last one didn't."""
         unit = f"pdpd-backup@{shard}"
         shown = run("systemctl", "show", "--timestamp=unix", "--property=Result,ExecMainExitTimestamp",
                     f"{unit}.service")
         found = dict(line.split("=", 1) for line in shown.splitlines())
         ended = found.get("ExecMainExitTimestamp", "").lstrip("@")
-        if found.get("Result", "success") == "success" or not ended.isdecimal():
+        result = found.get("Result", "success")
+        if result == "success" or not ended.isdecimal():
             return 0.0, ""
         lines = [line for line in self.last_lines(unit) if line.startswith(("pdpd-shards: ", "WRONG: "))]
-        return float(ended), last_of(lines).removeprefix("pdpd-shards: ")
+        return float(ended), last_of(lines).removeprefix("pdpd-shards: ").removeprefix("WRONG: ") or \
+            f"systemd calls it {result!r}"
 
-    def removed_logs(self, names):
+    def lost_logs(self, names):
         """None: the journal has them."""
         return []
 

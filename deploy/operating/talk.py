@@ -134,10 +134,11 @@ def refuse_another(settings, shard):
 
 def wait_until_up(settings, shard, seconds=30.0):
     """Waits until the shard answers, by its own program, which reads its whole file before."""
-    end = time.time() + seconds
+    end = time.monotonic() + seconds
     while not is_up(settings, shard):
         refuse_another(settings, shard)
-        if time.time() > end:
+        listener.refuse_unlinked(settings, shard)
+        if time.monotonic() > end:
             by = supervisor.of(settings)
             raise Wrong(f"shard {shard} doesn't answer after {seconds:.0f} s: its log says why, or it still starts, "
                         f"as pdpd-shards status tells ({by.log_of(by.SHARD.format(shard))})")
@@ -342,23 +343,31 @@ def info(settings, name):
     raise Wrong(f"HAProxy doesn't tell its {name}")
 
 
+def resume(settings):
+    """Has HAProxy take connections wherever its file says. Where it takes a place that the process before had in part,
+    it has that one stop taking any, and 2.6 doesn't go on itself at those that both have."""
+    for name in re.findall(r"(?m)^([\w-]+),FRONTEND,", admin_reply(settings, "show stat -1 1 -1")):
+        admin_reply(settings, f"enable frontend {name}")
+
+
 def settle(settings):
     """Waits until a process before this one has gone: it has a map and a queue of its own."""
     time.sleep(max(0, HARD_STOP + 1 - info(settings, "Uptime_sec")))
 
 
-def reload(settings, supervisor):
-    """Has HAProxy read its files, and waits until the process before has gone."""
+def reload(settings, by):
+    """Has the supervisor have HAProxy read its files, and waits until the process before has gone."""
     old = info(settings, "Pid")
-    supervisor.reload_proxy()
-    end = time.time() + 2 * LONGEST
-    while time.time() < end:
+    by.reload_proxy()
+    end = time.monotonic() + 2 * LONGEST
+    while time.monotonic() < end:
         time.sleep(0.1)
         with contextlib.suppress(OSError):
             if info(settings, "Pid") != old and not os.path.exists(f"/proc/{old}"):
                 break
     else:
         raise Wrong(f"HAProxy isn't reloaded after {2 * LONGEST} s; its log says why")
+    resume(settings)
     applied.apply(settings, applied.PROXY)
     # the new process asks all shards, also one that the process before was kept from
     for shard in range(settings.shards):

@@ -18,7 +18,7 @@ from collections.abc import Iterator
 
 from .listener import connection_to, ended_after, peer_of
 from .owned import PATIENCE, Folder, User, as_user, copy_file, owner_of, run, surroundings
-from .settings import LOCKS, Wrong, domains_in
+from .settings import LOCKS, Wrong, domains_in, make_locks_folder
 
 STORE = "pdpd.db"
 FILES = STORE, "pdpd.db-wal"
@@ -33,7 +33,7 @@ def copy_files(source: Folder, target: Folder, user: User | None = None, is_open
     has open, and that were removed, are copied from there."""
     removed: dict[str, str] = {}
     with contextlib.suppress(PermissionError):  # (the unit of backups may not look into the program)
-        removed = removed_files(source.path, is_open_in) if is_open_in else {}
+        removed = removed_files(is_open_in) if is_open_in else {}
     if not source.has(STORE) and STORE not in removed:
         raise Wrong(f"{source.path / STORE} isn't there: its program has hardly begun, or the file was removed. "
                     "pdpd-shards status tells; pdpd-shards backup by root takes what its program has open")
@@ -44,16 +44,17 @@ def copy_files(source: Folder, target: Folder, user: User | None = None, is_open
             copy_file(source, target, name, user)
 
 
-def removed_files(folder: pathlib.Path, process: int) -> dict[str, str]:
-    """Which files of a store a process still has open though they were removed from the folder, and where it does."""
-    found, place, real = {}, f"/proc/{process}/fd", os.path.realpath(folder)
+def removed_files(process: int) -> dict[str, str]:
+    """Which files of a store a process still has open though they were removed, and where it does. (Their folder may be
+    another one now, as a link to a disk to which they were moved.)"""
+    found, place = {}, f"/proc/{process}/fd"
     with contextlib.suppress(FileNotFoundError, ProcessLookupError):
         for name in os.listdir(place):
             with contextlib.suppress(FileNotFoundError):
                 opened = f"{place}/{name}"
                 target, status = os.readlink(opened), os.stat(opened)
                 for file in FILES:
-                    if target == f"{real}/{file} (deleted)" and status.st_nlink == 0:
+                    if target.endswith(f"/{file} (deleted)") and status.st_nlink == 0:
                         found[file] = opened
     return found
 
@@ -148,7 +149,7 @@ def wait_until_listening(server: subprocess.Popen[bytes]) -> None:
 @contextlib.contextmanager
 def socket_folder(user: User) -> Iterator[str]:
     """The path of a socket that the user can make, in a folder of the user's."""
-    LOCKS.mkdir(mode=0o711, exist_ok=True)
+    make_locks_folder()
     with Folder(LOCKS) as above:
         above.clear(SOCKETS)
         with above.new_folder(SOCKETS) as made:

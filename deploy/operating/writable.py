@@ -14,6 +14,8 @@ from .settings import FILE, LIBRARY, LOCKS, Settings
 
 # files of HAProxy's folder: its configuration, its rules, its maps, and sections of one's own
 OF_PROXY = "haproxy.cfg", "domains.lua", "domains.map", "pdpd-own.cfg", "leases.map"
+# the settings of etcd, which runit reads as root (member.py)
+ENVIRONMENT = pathlib.Path("/etc/default/etcd")
 # so many are told
 MOST = 5
 
@@ -29,6 +31,9 @@ def places(settings: Settings) -> Iterator[pathlib.Path]:
     yield from (LOCKS, *supervisor.of(settings).files())
     if settings.backup_hook:
         yield pathlib.Path(settings.backup_hook)
+    if settings.machines:
+        certificates = pathlib.Path(settings.etcd_certificates)
+        yield from (ENVIRONMENT, certificates, *certificates.glob("*"))
 
 
 def others_of(path: pathlib.Path) -> str | None:

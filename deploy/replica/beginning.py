@@ -47,9 +47,14 @@ def is_of_log(folder: pathlib.Path) -> bool | None:
     return None
 
 
+def aside_of(folder: pathlib.Path) -> pathlib.Path:
+    """Where the archive is that a machine had while it was alone."""
+    return folder.with_name(f"{folder.name}.alone")
+
+
 def put_aside(folder: pathlib.Path) -> pathlib.Path:
     """Puts the archive of one machine alone beside, where `pdpd-log --archive` reads it."""
-    aside = folder.with_name(f"{folder.name}.alone")
+    aside = aside_of(folder)
     if aside.exists():
         raise Wrong(f"{aside} is there already: move it away")
     folder.rename(aside)

@@ -43,7 +43,8 @@ from log.domains import Forgotten
 from log.history import Unknown
 from log.record import Damaged
 from operating import applied
-from operating.settings import DOMAIN, LOCKS, Settings, Wrong, alone, harmless, number_in_word, read, words_of
+from operating.settings import (
+    DOMAIN, LOCKS, Settings, Wrong, alone, harmless, make_locks_folder, number_in_word, read, words_of)
 
 from . import beginning, certificates, copying, member, members, moving, pushing, regrouping, shared_log, skipping
 from .etcd import Down, Etcd, Open, Refused
@@ -68,7 +69,7 @@ NAME = re.compile("[a-z0-9][a-z0-9-]{0,31}")
 @contextlib.contextmanager
 def only(name: str) -> Iterator[None]:
     """One tool of that name at a time on this machine."""
-    LOCKS.mkdir(mode=0o711, exist_ok=True)
+    make_locks_folder()
     file = os.open(LOCKS / name, os.O_RDWR | os.O_CREAT | os.O_NOFOLLOW | os.O_CLOEXEC, 0o600)
     try:
         fcntl.flock(file, fcntl.LOCK_EX)
@@ -340,6 +341,8 @@ def follow() -> None:
     Follower(regrouping.map_of_groups(settings).etcd, settings.places, proxy, settings.lease).run()
 
 
+# what may follow these words, if anything does
+SWITCHES = {"etcd": ("--write", "--anew", "--join"), "status": ("--json",)}
 # each word with how many may follow it
 COMMANDS = {"etcd": (etcd, 0, 1), "init": (init, 0, 0), "status": (status, 0, 1), "freeze": (freeze, 1, 100),
             "thaw": (thaw, 0, 0), "copy": (copy, 1, 1), "join": (join, 1, 1), "rows": (rows, 0, 0),
@@ -348,18 +351,25 @@ COMMANDS = {"etcd": (etcd, 0, 1), "init": (init, 0, 0), "status": (status, 0, 1)
             "fill": (fill, 0, 0), "carry": (carry, 3, 3)}
 
 
+def is_usage(words: list[str]) -> bool:
+    """Whether words are as they are to be."""
+    _, least, most = COMMANDS.get(words[0], (None, 1, 0)) if words else (None, 1, 0)
+    return least <= len(words) - 1 <= most and {*words[1:]} <= {*SWITCHES.get(words[0], words[1:])}
+
+
 def main(words: list[str]) -> int:
+    # nobody else changes what root makes, however its shell has that
+    os.umask(os.umask(0o022) | 0o022)
     try:
         if words[:1] == ["certificates"] and len(words) > 2:
             make_certificates(words[1:])
             return 0
         if words == ["follow"]:
             follow()
-        command, least, most = COMMANDS.get(words[0], (None, 0, 0)) if words else (None, 0, 0)
-        if command is None or not least <= len(words) - 1 <= most:
+        if not is_usage(words):
             print(__doc__, end="")
             return 0 if words in ([], ["--help"], ["-h"]) else 2
-        return command(read(), words[1:]) or 0
+        return COMMANDS[words[0]][0](read(), words[1:]) or 0
     except (Down, Open, Refused) as fault:
         print(harmless(f"pdpd-replicas: etcd doesn't answer: {fault}"), file=sys.stderr)
     except (Wrong, shared_log.Wrong, NoPlace, Unknown, Damaged, Forgotten, OSError, ValueError, sqlite3.Error) as fault:

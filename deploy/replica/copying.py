@@ -182,12 +182,14 @@ def compared(settings: Settings, shard: int, log: SharedLog) -> tuple[int, list[
     wrong."""
     meeting = rows.Meeting(log, lambda: asked(settings, shard, "/figures")["position"])
     with tempfile.TemporaryDirectory(dir=settings.data, prefix="rows-") as made:
-        def copy() -> None:
-            with unchanged(settings.folder(shard)) as files, Folder(settings.folder(shard)) as store, \
-                    Folder(made) as target:
-                for path in files:
-                    copy_file(store, target, path.name)
-        return rows.compare(meeting, copy, pathlib.Path(made))
+        return rows.compare(meeting, lambda: copy_store(settings, shard, pathlib.Path(made)), pathlib.Path(made))
+
+
+def copy_store(settings: Settings, shard: int, to: pathlib.Path) -> None:
+    """Copies the files of a shard's store into a folder, while nothing is applied to it."""
+    with unchanged(settings.folder(shard)) as files, Folder(settings.folder(shard)) as store, Folder(to) as target:
+        for path in files:
+            copy_file(store, target, path.name)
 
 
 def refuse_begun(settings: Settings, shard: int, folders: dict[str, pathlib.Path]) -> None:
@@ -241,17 +243,28 @@ def forget_lease(settings: Settings, shard: int) -> None:
         holding.wait_for_turn(settings, shard)
 
 
+def give(folder: pathlib.Path, name: str) -> None:
+    """Gives a user a folder with all that is in it: the folder last, so that until then nobody else comes into it, and
+    could put a link in the place of what is given."""
+    owner = pwd.getpwnam(name)
+    for path in (*folder.rglob("*"), folder):
+        os.chown(path, owner.pw_uid, owner.pw_gid, follow_symlinks=False)
+
+
 def put(settings: Settings, shard: int, folders: dict, coming: dict, log: SharedLog) -> None:
     """Puts the folders in place while nothing of the shard runs. HAProxy forgets the lease first: the store is older
     than what that was had with."""
     by = supervisor.of(settings)
-    by.stop_replica(shard)
-    by.stop(shard)
-    forget_lease(settings, shard)
+    try:
+        by.stop_replica(shard)
+        by.stop(shard)
+        forget_lease(settings, shard)
+        for kind, folder in coming.items():
+            give(folder, OWNERS[kind])
+    except BaseException:
+        by.start(shard)  # (with what it had: nothing was replaced)
+        raise
     for kind, folder in folders.items():
-        owner = pwd.getpwnam(OWNERS[kind])
-        for path in (coming[kind], *coming[kind].rglob("*")):
-            os.chown(path, owner.pw_uid, owner.pw_gid, follow_symlinks=False)
         shutil.rmtree(folder, ignore_errors=True)
         coming[kind].rename(folder)
     os.sync()

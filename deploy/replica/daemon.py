@@ -11,7 +11,7 @@ import threading
 import time
 from collections.abc import Callable
 
-from log.abandoned import connections_at
+from log.abandoned import is_any_left
 from log.archive import NoRoom, read_from
 from log.daemon import APPLIED, EXIT_BROKEN, UNAVAILABLE, UNKNOWN, Daemon
 from log.domains import Forgotten
@@ -231,9 +231,9 @@ class Replica(Daemon):
             time.sleep(0.1)
 
     def is_settled(self) -> bool:
-        """Whether no message is under way at pdpd whose sender has gone, as `settle` waits for. One that takes no
-        connections any more may still answer what it has."""
-        return not connections_at(self.pdpd, self.user)
+        """Whether no message is under way at pdpd whose sender has gone. One that takes no connections any more may
+        still answer what it has."""
+        return not is_any_left(self.pdpd, self.user)
 
     def refuse_program(self) -> None:
         self.running.refuse_other()

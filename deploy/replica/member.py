@@ -5,7 +5,7 @@ import pathlib
 import time
 
 from operating import supervisor
-from operating.settings import Settings, Wrong
+from operating.settings import Settings, Wrong, write_whole
 
 from . import certificates, members
 
@@ -35,7 +35,7 @@ def lines(settings: Settings, state: str = "new") -> str:
 def write(settings: Settings, state: str) -> None:
     text = lines(settings, state)
     certificates.close(pathlib.Path(settings.etcd_certificates))
-    ENVIRONMENT.write_text(text)
+    write_whole(ENVIRONMENT, text)
     supervisor.of(settings).confine_etcd()
 
 

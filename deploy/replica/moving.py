@@ -13,11 +13,11 @@ from urllib.parse import quote
 from log.archive import segments_in
 from log.history import State
 from log.messages import kept_token
-from log.past import Past, state_before
+from log.past import Past
 from operating import talk
 from operating.settings import Settings, Wrong, alone
 
-from . import core
+from . import core, older
 from .etcd import is_value, putting
 from .shared_log import SharedLog
 
@@ -103,9 +103,16 @@ def messages_of(state: State, domain: str) -> list[Message]:
 
 
 def state_in(settings: Settings, shard: int, domain: str) -> State:
-    """What a domain has, by this machine's archive."""
-    past = Past(segments_in([pathlib.Path(settings.archives) / str(shard)]), domain)
-    return state_before(past, time.time())[0]
+    """What a domain has that is there, by this machine's archive; of one that is older than the log, by that of before
+    it, too."""
+    segments = segments_in([pathlib.Path(settings.archives) / str(shard)])
+    past = Past(segments, domain) if segments else None
+    state = past.since(time.time())[0] if past else State()
+    if state.is_there and state.is_known:
+        return state
+    state = older.state_of(settings, shard, domain, past)
+    older.refuse_other(settings, shard, domain, messages_of(state, domain))
+    return state
 
 
 def move(settings: Settings, logs: list[SharedLog], domain: str, one: int, other: int) -> None:
@@ -119,7 +126,7 @@ def move(settings: Settings, logs: list[SharedLog], domain: str, one: int, other
         raise Wrong(f"shard {other} has a domain {domain!r} already: pdpd-replicas unmake {domain} {other}")
     state = state_in(settings, one, domain)
     target.add(messages_of(state, domain))
-    if state_in(settings, other, domain) != state:
+    if domain not in talk.domains_of(settings, other) or state_in(settings, other, domain) != state:
         raise Wrong(f"shard {other} hasn't taken all of it: pdpd-replicas unmake {domain} {other}")
     if source.look().frozen != source.why:
         raise Wrong(f"shard {one} was thawed meanwhile: pdpd-replicas unmake {domain} {other}")

@@ -4,6 +4,7 @@ from __future__ import annotations
 import argparse
 import pathlib
 
+from log.abandoned import is_any_left
 from log.archive import Archive
 
 from .daemon import Replica
@@ -62,6 +63,9 @@ def replica_of(given: argparse.Namespace, archive: Archive, user: int | None) ->
     """The daemon that these options make."""
     if not given.name or not (given.program or given.runs):
         raise ValueError("with --replicas there are --name and --program, or --runs, too")
+    if not given.pdpd.startswith("unix:"):
+        raise ValueError("with --replicas pdpd takes changes at a Unix socket")
+    is_any_left(given.pdpd)  # (where the kernel doesn't tell of connections it can't begin)
     machines = machines_in(given.replicas)
     if given.name in machines:
         refuse_elsewhere(given.name, machines[given.name][0])

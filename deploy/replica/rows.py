@@ -13,6 +13,7 @@ from __future__ import annotations
 
 import hashlib
 import pathlib
+import re
 import secrets
 import sqlite3
 import time
@@ -31,12 +32,23 @@ PAUSE = 0.05
 NONE = "-"
 # the tables that have no domain's rows
 OWN = ("meta", "domains")
+# the name of a table or a column
+PLAIN = re.compile("[a-z_][a-z0-9_]{0,39}")
 
 
 # ---- the digest
 
+def plain(names: list[str]) -> list[str]:
+    """Names of tables or columns, which may stand in a text of SQL; an error where one is more than a name. (Who has
+    the shards' user may have written any into the store, and this is root.)"""
+    for name in names:
+        if not PLAIN.fullmatch(name):
+            raise Wrong(f"the store has a table or a column {name[:40]!r}, as pdpd makes none: look who has written it")
+    return names
+
+
 def columns_of(base: sqlite3.Connection, table: str) -> list[str]:
-    names = [name.decode() for _, name, *_ in base.execute(f"PRAGMA table_info({table})")]
+    names = plain([name.decode() for _, name, *_ in base.execute(f"PRAGMA table_info({table})")])
     return [name for name in names if name != "number"]
 
 
@@ -46,7 +58,8 @@ def digest_of(folder: pathlib.Path) -> str:
     base, made = sqlite3.connect(folder / "pdpd.db"), hashlib.sha256()
     try:
         base.text_factory = bytes
-        tables = sorted(name.decode() for name, in base.execute("SELECT name FROM sqlite_master WHERE type = 'table'"))
+        named = base.execute("SELECT name FROM sqlite_master WHERE type = 'table'").fetchall()
+        tables = plain(sorted(name.decode() for name, in named))
         made.update(repr((tables, base.execute("SELECT schema_no FROM meta").fetchone())).encode())
         columns = {table: columns_of(base, table) for table in tables if table not in OWN}
         for number, name in base.execute("SELECT number, name FROM domains ORDER BY name").fetchall():

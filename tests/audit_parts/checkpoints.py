@@ -15,6 +15,7 @@ from log.archive import Archive, segments_in
 from log.domains import Forgotten, checkpoints_in, folder_of, keys_in
 from log.history import Unknown, by_archive, changes_in
 from log.past import Past, state_before
+from log.pdpd import Reply
 from log.record import Damaged
 from log.sealing import MOST_INFLATED, counted, deflated, inflated, opened, sealed
 from sent import DONE
@@ -108,6 +109,20 @@ def checkpoints():
     expect("check", (found.wrong, found.checkpoints), ([], 6))
     spoilt_checkpoint(path, moments, wanted)
     spoilt_places(path, moments, wanted)
+
+
+def due():
+    """One is written behind 1,000 changes of a domain, however short they are."""
+    path = folder / "due"
+    writer = Writer(path, Clock())
+    writer.domain("acme")
+    for _ in range(999 - writer.archive.position):
+        writer.change("acme", "PUT", f"/domains/acme{POLICY}")
+    found = [checkpoints_in(folder_of(path, "acme"))]
+    writer.change("acme", "DELETE", f"/domains/acme{POLICY}")
+    found.append([number for number, _, _ in checkpoints_in(folder_of(path, "acme"))])
+    expect("behind 999 changes, and behind 1,000", found, [[], [1_000]])
+    writer.close()
 
 
 def spoilt_checkpoint(path, moments, wanted):
@@ -236,11 +251,32 @@ def forgetting():
     expect("its key stays", len(keys_in(folder_of(path, "other"))), 1)
 
 
-def decided(at, reply):
-    """A line of a decision of that moment, as HAProxy logs it."""
+def found_same():
+    """Once a decision is found to be the same it isn't worked out for the other seconds in which it may have been
+    given."""
+    path, clock, asked = folder / "found", Clock(), []
+    writer = Writer(path, clock)
+    writer.domain("acme")
+    clock.now += 100
+    writer.close()
+
+    def in_step(parts):
+        for _, message in parts:
+            asked.append(message)
+            yield Reply(200, b"HTTP/1.1 200 OK\r\n\r\nthe reply")
+    with mock.patch.object(decisions, "replay", in_step):
+        lines = [decided(clock.now, b"the reply", 20), decided(clock.now + 50, b"another", 20)]
+        found = [kind for kind, _ in decisions.verify(by_archive([path]), lines)]
+    expect("both", found, ["same", "other"])
+    expect("how often they are worked out", sum(b"/pdp " in message for message in asked), 1 + 21)
+
+
+def decided(at, reply, seconds=0.001):
+    """A line of a decision of that moment, which took so long, as HAProxy logs it."""
     begin, digest = round(at * 1e6), hashlib.sha256(reply).hexdigest()
-    return json.dumps({"begin": begin, "end": begin + 1000, "domain": "acme", "who": "00000000", "status": 200,
-                       "reply": digest, "request": base64.b64encode(REQUEST).decode()}, separators=(",", ":"))
+    return json.dumps({"begin": begin, "end": begin + round(seconds * 1e6), "domain": "acme", "who": "00000000",
+                       "status": 200, "reply": digest, "request": base64.b64encode(REQUEST).decode()},
+                      separators=(",", ":"))
 
 
 def raised(call):
@@ -315,4 +351,4 @@ def unread():
            [[change.number() for change in changes if change.sets_rows()][-1]])
 
 
-PARTS = (sealing, checkpoints, moved_away, other_reply, forgetting, earlier, unread)
+PARTS = (sealing, checkpoints, due, moved_away, other_reply, forgetting, found_same, earlier, unread)

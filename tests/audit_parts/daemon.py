@@ -102,6 +102,22 @@ def tokens():
         expect("what the log has opens nothing", status_of(logged.read(in_log)[0]), 401)
 
 
+def blanks():
+    """A field with thousands of blanks in its value holds nobody up, whose token isn't known."""
+    with Logged("blanks") as logged:
+        logged.make_domain()
+        for blank in (" ", "\t", " \t"):
+            value = f"{blank}a{blank * 7_900}b{blank}"
+            began = time.monotonic()
+            found = logged.change(f"PUT /domains/acme/pip HTTP/1.1\r\nX-Any:{value}\r\nContent-Length: 2\r\n\r\n{{}}"
+                                  .encode())
+            expect(f"{blank!r} is answered", (status_of(found), time.monotonic() - began < 3.0), (401, True))
+        shown = f"Authorization: \t Bearer {kept(ADMIN)} \t"
+        found = logged.change(f"PUT /domains/acme/pip HTTP/1.1\r\n{shown}\r\nContent-Length: 10\r\n\r\n"
+                              '{"Row":[]}'.encode())
+        expect("blanks around a value", status_of(found), 200)
+
+
 def going_over():
     """A store from before: its tokens are put in both forms, then the proxy puts digests in their place, and nobody is
     locked out at any time."""
@@ -110,7 +126,8 @@ def going_over():
                 *(("POST", "/operator/domains/acme/tokens", json.dumps({"Role": "admin", "Token": one}))
                   for one in (ADMIN, kept(ADMIN)))]
         held = [message(method, path, OPERATOR, body) for method, path, body in make]
-        expect("in both forms, by pdpd alone", [status_of(one) for one in logged.read(*held)], [201, 200, 200])
+        expect("in both forms, by pdpd alone", [status_of(one) for one in logged.past_the_log(*held)],
+               [201, 200, 200])
         read = "GET", "/domains/acme/pap/policies"
         expect("before", status_of(logged.read(message(*read, ADMIN))[0]), 200)
         expect("behind", status_of(logged.read(passed_on(*read, ADMIN))[0]), 200)
@@ -232,4 +249,4 @@ def damaged():
         expect("nothing went", path.read_bytes(), bytes(data))
 
 
-PARTS = (routes, tokens, going_over, file_sizes, refusing, away, odd_clients, damaged)
+PARTS = (routes, tokens, blanks, going_over, file_sizes, refusing, away, odd_clients, damaged)

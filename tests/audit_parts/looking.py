@@ -22,10 +22,11 @@ class Looked(Logged):
     def __init__(self, name):
         super().__init__(name)
         self.archive = self.folder / "archives" / "0"
-        (self.folder / "run" / "0").mkdir(parents=True)
-        self.address = f"unix:{self.folder}/run/0/socket"
+        for name in ("run", "sockets"):
+            (self.folder / name / "0").mkdir(parents=True)
+        self.address, self.changes = f"unix:{self.folder}/run/0/socket", f"unix:{self.folder}/sockets/0/changes"
         self.settings = Settings(f"SHARDS=1\nAUDIT=1\nDECISIONS=1\nAUDIT_RUN={self.folder}/run\nROOM={1 << 62}\n"
-                                 f"ARCHIVES={self.folder}/archives\n")
+                                 f"ARCHIVES={self.folder}/archives\nSOCKETS={self.folder}/sockets\n")
 
     def change(self, data):
         return replies(self.address, data, 1, 60)[0].data
@@ -44,11 +45,16 @@ def looked():
         expect("nothing is there", logged.found(), (0, []))
         expect("a change", logged.change(message("PUT", "/operator/domains/a", OPERATOR))[9:12], b"201")
         expect("one change", logged.found(), (1, []))
+        place = logged.folder / "sockets" / "0" / "changes"
+        place.rename(logged.folder / "away")
+        told = f"no change of shard 0 is taken: {place} isn't there, where it takes them: pdpd-shards restart 0 makes it"
+        expect("without pdpd's socket for changes", logged.found(), (1, [told]))
+        (logged.folder / "away").rename(place)
         row = status.Shard(0, "up", 1, 0, 0, 0, 0.0, "12", 7).cells()
         expect("in its row", dict(zip(status.HEADS, row))["entry"], "7")
         stopped(logged)
         logged.kill_daemon()
-        away = "no change of shard 0 is taken: pdpd-replica doesn't answer: the log of pdpd-replica-0 ends with: nothing"
+        away = "no change of shard 0 is taken: pdpd-replica doesn't answer: the log of pdpd-replica-0 says why"
         expect("it is down", logged.found(), (None, [away]))
         logged.room = 1 << 62
         logged.start_daemon()

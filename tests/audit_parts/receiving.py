@@ -1,6 +1,11 @@
-"""Who keeps the lines of decisions: what comes in pieces, files of so many bytes and days, and which lines are kept."""
+"""Who keeps the lines of decisions: what comes in pieces, files of so many bytes and days, which lines are kept, and a
+disk that is full."""
+import errno
+import os
+import pathlib
 import socket
 import threading
+from unittest import mock
 
 from log.receiving import Log, files_in, take
 
@@ -73,4 +78,45 @@ def files():
     expect("four days later", (texts_in(path), other.exists()), ([KEPT % 7], True))
 
 
-PARTS = (lines, files)
+def failing(word, fault, *given):
+    """Has a call of the system that is of a descriptor or of a path in the test's folder fail, or do a part."""
+    real = getattr(os, word)
+
+    def call(first, *more, **named):
+        if isinstance(first, pathlib.Path) and folder not in first.parents:
+            return real(first, *more, **named)
+        if given:
+            real(first, *given)
+        raise OSError(fault, os.strerror(fault))
+    return mock.patch.object(os, word, call)
+
+
+def half_a_line():
+    """Where a file can't be begun, or a line not be written whole, that line is lost and no other, and who is connected
+    stays so."""
+    path, clock, log = made("half-a-line")
+    log.add(LINE % 1)
+    clock.now += 86_400
+    with failing("open", errno.ENOSPC):
+        expect("no file", raised(lambda: log.add(LINE % 2)), errno.ENOSPC)
+    ours, theirs = socket.socketpair()  # (which has the number of the file that was closed)
+    with ours, theirs:
+        log.add(LINE % 3)
+        ours.sendall(b"x")
+        expect("who is connected", theirs.recv(1), b"x")
+    with failing("write", errno.ENOSPC, b'{"beg'):
+        expect("a part of a line", raised(lambda: log.add(LINE % 4)), errno.ENOSPC)
+    log.add(LINE % 5)
+    expect("all others", texts_in(path), [KEPT % 1, KEPT % 3 + KEPT % 5])
+
+
+def raised(call):
+    """The number of the error that a call raises; None where it raises none."""
+    try:
+        call()
+    except OSError as fault:
+        return fault.errno
+    return None
+
+
+PARTS = (lines, files, half_a_line)

@@ -12,6 +12,7 @@ import tempfile
 import time
 
 from checks import Checks, program_named
+from log.pdpd import replies
 from serving import OPERATOR, PATIENCE, Client, Served, free_port, message
 
 TOP = pathlib.Path(__file__).resolve().parent.parent.parent
@@ -63,18 +64,18 @@ class Logged:
         self.archive, self.token_file = self.folder / "log", self.folder / "token"
         self.token_file.write_text(f"{OPERATOR}\n")
         self.pdpd_port, self.port = 0, free_port()
-        self.address = f"127.0.0.1:{self.port}"
+        self.address, self.changes = f"127.0.0.1:{self.port}", f"unix:{self.folder}/changes"
         self.pdpd = self.daemon = None
 
     def start_pdpd(self, **more):
         """(It ends, and is started again, while the port is another's.)"""
         self.pdpd = Served(self.program, str(self.folder / "store.db"), str(self.token_file),
-                           port=self.pdpd_port or None, command="listen", **more)
+                           port=self.pdpd_port or None, command="listen", changes=self.changes, **more)
         self.pdpd_port = self.pdpd.port
 
     def start_daemon(self, **more):
         words = [TOP / "deploy" / "pdpd-replica", "--archive", self.archive, "--listen", self.address,
-                 "--pdpd", f"127.0.0.1:{self.pdpd_port}", "--token", self.token_file, "--room", str(self.room)]
+                 "--pdpd", self.changes, "--token", self.token_file, "--room", str(self.room)]
         with open(self.folder / "said", "ab") as said:
             self.daemon = subprocess.Popen(words, stdin=subprocess.DEVNULL, stdout=subprocess.PIPE, stderr=said, **more)
         return self.daemon.stdout.readline()
@@ -98,6 +99,10 @@ class Logged:
     def read(self, *messages):
         """pdpd's own replies."""
         return self.pdpd.once(*messages)
+
+    def past_the_log(self, *messages):
+        """pdpd's replies to changes that come past the daemon."""
+        return [replies(self.changes, one, 1, PATIENCE)[0].data for one in messages]
 
     def make_domain(self, name="acme", form=passed_on):
         """A domain whose root permits everything, by the daemon; the statuses."""

@@ -1,124 +1,81 @@
-"""Changes are made in the order of the log, though pdpd answers connections in turns: what a daemon that was killed has
-sent is out of the way before the next one sends anything."""
-import contextlib
-import re
+"""Changes are made in the order of the log, and of the log alone: what a daemon that was killed has sent is made before
+what the next one sends, and a change that comes past the daemon is made by nobody."""
+import json
 import socket
-import subprocess
-import threading
-import time
 
-from serving import OPERATOR, Client, free_port
+from log.abandoned import is_any_left
+from log.archive import Archive
+from log.keeping import Keeping
+from log.messages import Message, entry_of
+from operating.unix_sockets import LISTENS, of_program
+from serving import OPERATOR, UNAVAILABLE, message
 
-from .shared import TOP, expect, folder, passed_on, status_of, wait_until
+from .shared import Logged, expect, kept, passed_on, status_of, wait_until
 
-ADMIN = "acme-admin-1"
-
-
-def reply(status):
-    return b"HTTP/1.1 %d Said\r\nContent-Type: application/json\r\nContent-Length: 2\r\n\r\n{}" % status
-
-
-class Turns:
-    """In place of pdpd something that answers each connection by itself, and keeps the bodies of the changes that it
-    makes. The first change waits until `goes_on` is set, as one may whose connection has no turn."""
-
-    def __init__(self, path):
-        self.made, self.goes_on, self.holds, self.lock = [], threading.Event(), threading.Event(), threading.Lock()
-        if path is None:
-            self.socket = socket.create_server(("127.0.0.1", 0))
-            self.address = f"127.0.0.1:{self.socket.getsockname()[1]}"
-        else:
-            self.socket = socket.socket(socket.AF_UNIX)
-            self.socket.bind(str(path))
-            self.address = f"unix:{path}"
-        self.socket.listen()
-
-    def __enter__(self):
-        threading.Thread(target=self.accept, daemon=True).start()
-        return self
-
-    def __exit__(self, *what):
-        self.goes_on.set()
-        self.socket.close()
-
-    def accept(self):
-        with contextlib.suppress(OSError):
-            while True:
-                threading.Thread(target=self.answer, args=(self.socket.accept()[0],), daemon=True).start()
-
-    def answer(self, connection):
-        held = b""
-        with contextlib.suppress(OSError), connection:
-            while True:
-                while b"\r\n\r\n" not in held:
-                    if not (more := connection.recv(65_536)):
-                        return
-                    held += more
-                head, _, held = held.partition(b"\r\n\r\n")
-                found = re.search(rb"(?i)\r\ncontent-length: *(\d+)", head)
-                length = int(found[1]) if found else 0
-                while len(held) < length:
-                    held += connection.recv(65_536)
-                body, held = held[:length], held[length:]
-                connection.sendall(reply(self.status_of(head, body)))
-
-    def status_of(self, head, body):
-        """401 to who shows no token, 404 to a question, and 200 to a change, which it makes."""
-        if b"authorization" not in head.lower():
-            return 401
-        if head.startswith(b"GET"):
-            return 404
-        with self.lock:
-            is_first = not self.holds.is_set()
-            self.holds.set()
-        if is_first:
-            self.goes_on.wait()
-        self.made.append(body)
-        return 200
+PIP, ADMIN = "/domains/acme/pip", "acme-admin-1"
+ROW = ('{"Row":[{"Category":"AccessSubject","Entity":"alice","AttributeId":"urn:a","DataType":"string",'
+       '"Value":"%s"}]}')
 
 
-@contextlib.contextmanager
-def daemon(at, address, port):
-    """A daemon over an archive; it is killed at the end."""
-    words = [TOP / "deploy" / "pdpd-replica", "--archive", at / "log", "--listen", f"127.0.0.1:{port}",
-             "--pdpd", address, "--token", at / "token", "--room", "1"]
-    nowhere = subprocess.DEVNULL
-    with subprocess.Popen(words, stdin=nowhere, stdout=subprocess.PIPE, stderr=nowhere) as process:
-        try:
-            process.stdout.readline()
-            yield
-        finally:
-            process.kill()
+def value(logged):
+    """The value that the domain's rows have."""
+    held = json.loads(logged.read(passed_on("GET", PIP, ADMIN))[0].partition(b"\r\n\r\n")[2])
+    return [row["Value"] for row in held["Row"]]
 
 
-def sent(port, body):
-    """The status of a change's reply; 0 where there is none."""
-    try:
-        with Client(port) as client:
-            return status_of(client.ask(passed_on("PUT", "/domains/acme/pip", ADMIN, body)))
-    except OSError:
-        return 0
+def put(name):
+    return passed_on("PUT", PIP, ADMIN, ROW % name)
+
+
+def waiting(logged):
+    """How many connections wait to be taken at pdpd's address for changes."""
+    found = of_program(logged.changes.removeprefix("unix:"))
+    return sum(one.waiting for one in found if one.state == LISTENS)
+
+
+def recorded(logged, name):
+    """Has an entry in the archive that has no reply yet, as where the daemon was killed behind it."""
+    fields = (("content-type", "application/json"), ("authorization", f"Bearer {kept(ADMIN)}"))
+    head, body = entry_of(Message("PUT", PIP, fields, (ROW % name).encode()), "acme", "admin")
+    archive = Archive(logged.archive)
+    more, data = Keeping(archive, print).as_kept("acme", archive.position + 1, body)
+    archive.add_entry({**head, **more}, data)
+    archive.close()
 
 
 def under_way():
-    """A change that a killed daemon has sent is made before the next daemon sends it again, and never behind a later
-    one."""
-    first, second = '{"Row":[]}', '{"Row":[1]}'
-    for kind in ("socket", "port"):
-        at = folder / f"under-way-{kind}"
-        at.mkdir()
-        (at / "token").write_text(f"{OPERATOR}\n")
-        with Turns(at / "socket" if kind == "socket" else None) as turns:
-            with daemon(at, turns.address, port := free_port()):
-                threading.Thread(target=sent, args=(port, first), daemon=True).start()
-                expect(f"{kind}: the first is under way", turns.holds.wait(30), True)
-            with daemon(at, turns.address, port := free_port()):
-                time.sleep(1.5)
-                expect(f"{kind}: nothing is sent while it is", turns.made, [])
-                turns.goes_on.set()
-                expect(f"{kind}: it is sent again behind that", wait_until(lambda: len(turns.made) == 2), True)
-                expect(f"{kind}: the second", sent(port, second), 200)
-        expect(f"{kind}: the order", turns.made, [first.encode(), first.encode(), second.encode()])
+    """A change that a killed daemon has sent is made before the next daemon's, in the order in which they came, though
+    another connection is served meanwhile; then a later one."""
+    with Logged("under-way") as logged, socket.socket(socket.AF_UNIX) as other:
+        logged.make_domain()
+        expect("before", status_of(logged.change(put("before"))), 200)
+        logged.kill_daemon()
+        recorded(logged, "first")
+        other.connect(logged.changes.removeprefix("unix:"))
+        for count in (1, 2):
+            logged.start_daemon()
+            expect(f"{count} wait behind another one", wait_until(lambda: waiting(logged) == count), True)  # noqa: B023
+            if count == 1:
+                logged.kill_daemon()
+        expect("nothing is made meanwhile", value(logged), ["before"])
+        expect("nor is it settled", is_any_left(logged.changes), True)
+        other.close()
+        expect("the next one", status_of(logged.change(put("second"))), 200)
+        expect("what is there then", value(logged), ["second"])
+        expect("nothing is left", wait_until(lambda: not is_any_left(logged.changes)), True)
 
 
-PARTS = (under_way,)
+def past_the_daemon():
+    """Where all are answered no change is taken, whoever sends it: nothing is made then, and the archive has all that
+    was."""
+    with Logged("past") as logged:
+        logged.make_domain()
+        expect("before", status_of(logged.change(put("before"))), 200)
+        for what, held in (("an administrator", put("past")), ("nobody", passed_on("PUT", PIP, "nobody-at-all", "{}")),
+                           ("the operator", message("DELETE", "/operator/domains/acme", OPERATOR))):
+            expect(f"{what} past the daemon", logged.read(held), [UNAVAILABLE])
+        expect("what is there", value(logged), ["before"])
+        expect("what is read there is answered", status_of(logged.read(passed_on("GET", PIP, ADMIN))[0]), 200)
+
+
+PARTS = (under_way, past_the_daemon)

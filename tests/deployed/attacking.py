@@ -7,6 +7,7 @@ import pathlib
 import re
 import shutil
 import socket
+import ssl
 import threading
 
 from serving import PATIENCE
@@ -39,6 +40,17 @@ class Outsider(Client):
             return False
         except OSError:
             return True
+
+
+def sends_sealed(number, to, protocol, data):
+    """Sends something over TLS by that protocol, from another address, and takes what is said to it at once."""
+    context = ssl._create_unverified_context()  # pylint: disable=protected-access
+    context.set_alpn_protocols([protocol])
+    with contextlib.suppress(OSError), Outsider(number, to).socket as plain, context.wrap_socket(plain) as client:
+        client.sendall(data)
+        client.settimeout(0.3)
+        while client.recv(65_536):
+            pass
 
 
 @contextlib.contextmanager

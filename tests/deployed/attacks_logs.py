@@ -15,8 +15,8 @@ import time
 
 from checks import Between
 
-from . import audit
-from .attacking import Outsider, is_there, outside
+from . import audit, http2
+from .attacking import Outsider, is_there, outside, sends_sealed
 from .attacks_local import THIEF, Local, asked_status, owner_and_mode, to_places
 from .attacks_posing import in_place_of
 from .clients import Load, decision, message, once, policy, status
@@ -40,20 +40,31 @@ GONE = {
     "no handshake": (b"GET / HTTP/1.1\r\n\r\n", TLS),
     "half a handshake": (b"\x16\x03\x01\x02\0\1", TLS),
 }
+# What he sends over TLS, and by which protocol. (The line of each has `pdp~`.)
+BAD_STREAM = b"".join((http2.PREFACE, frame(http2.SETTINGS, 0, 0),
+                       frame(HEADERS, ENDS_HEADERS | ENDS_STREAM, 1, block(b"GET", b"no path"))))
+SEALED = [("http/1.1", b"\0\1\2\r\n\r\n"), ("http/1.1", b"GET / HTTP/1.1\r\nno field\r\n\r\n"), ("h2", BAD_STREAM)]
+# what HAProxy itself answers with 5xx
+OTHER_VERSION = b"PUT /domains/acme/pip HTTP/1.2\r\nHost: h\r\nContent-Length: 2\r\n\r\n{}"
 
 
-# what an earlier version has written into the folders of logs
-EARLIER = {
+# what earlier versions have written into the folders of logs
+EARLIER = [{
     "haproxy": ("s1000000", "t86400", "n100", "-change *", "-decision *", "-reading *", "-refused *",
                 "--:- [*] <HTTPCLIENT> *"),
     "decisions": ("s10000000", "n20", "-*", "+decision *", "+reading *", "+refused *", "+-:- [*] <HTTPCLIENT> *"),
-}
+}, {
+    "haproxy": ("s1000000", "t86400", "n100", "-change *", "-decision *", "-reading *", "-refused *", "-lost *",
+                "-- * pdp *", "-*:* [*] pdp/*: *", "--:- [*] <HTTPCLIENT> *"),
+    "refused": ("s10000000", "n20", "-*", "+refused *", "+lost *", "+- * pdp *", "+*:* [*] pdp/*: *",
+                "+-:- [*] <HTTPCLIENT> *"),
+}]
 
 
-def how_kept():
+def how_kept(names):
     """How those folders are kept; nothing of one for which that is written at this moment."""
-    found = dict.fromkeys(EARLIER, "")
-    for name in EARLIER:
+    found = dict.fromkeys(names, "")
+    for name in names:
         with contextlib.suppress(FileNotFoundError):
             found[name] = (LOGS / name / "config").read_text()
     return found
@@ -61,13 +72,14 @@ def how_kept():
 
 def renews(checks):
     """Folders of logs that an earlier version has made are kept as this one has them."""
-    wanted = how_kept()
-    for name, lines in EARLIER.items():
-        (LOGS / name / "config").write_text("\n".join((*lines, "")))
-    sh("sv restart /etc/service/haproxy/log")
-    wait_until(lambda: how_kept() == wanted, lambda: f"they are kept so: {how_kept()}", 30)
-    checks.expect("both are other than before", [wanted[name].splitlines() == [*EARLIER[name]] for name in EARLIER],
-                  [False, False])
+    for earlier in EARLIER:
+        wanted = how_kept(earlier)
+        for name, lines in earlier.items():
+            (LOGS / name / "config").write_text("\n".join((*lines, "")))
+        sh("sv restart /etc/service/haproxy/log")
+        wait_until(lambda: how_kept(earlier) == wanted, lambda: f"they are kept so: {how_kept(earlier)}", 30)
+        checks.expect("both are other than before",
+                      [wanted[name].splitlines() == [*lines] for name, lines in earlier.items()], [False, False])
 
 
 def goes(client):
@@ -84,6 +96,11 @@ def floods():
                 client = Outsider(0, to)
                 client.send(data)
                 goes(client)
+    for protocol, data in SEALED * TIMES:
+        sends_sealed(0, TLS, protocol, data)
+    for _ in range(TIMES):
+        with Outsider(0) as client:
+            client.ask(OTHER_VERSION)
 
 
 def outsiders_lines(folder):
@@ -207,7 +224,7 @@ def archives(machine, checks):
 
 def handed(machine, checks):
     """Where ports are everybody's, a program that takes a shard's is shown no token by the daemon that logs changes,
-    and answers none."""
+    and answers none; nor is another user's where the shard takes changes, which root alone could put there."""
     audit.switch_on(machine)
     name = next(f"h{number}" for number in range(99) if shards("where", f"h{number}").strip() == "1")
     to_places(7100)
@@ -215,14 +232,16 @@ def handed(machine, checks):
                "no change is taken")
     sh("sv down /etc/service/pdpd-1")
     wait_until(lambda: not pid(1), "a shard isn't ended")
-    with Local("nobody", THIEF, port(1)) as thief:
-        wait_until(lambda: "taken" in thief.said(), "the thief doesn't get the port")
-        found = [audit.sent("PUT", f"/operator/domains/{name}", machine.operator.token)[0],
-                 audit.sent("PUT", f"/domains/{name}/pip", "some-token-1", '{"Row":[]}')[0]]
-        checks.expect("changes meanwhile", found, [503, 503])
-        shown = re.findall(r"(?i)Bearer (?!-\\r)\S+", thief.said())
-        checks.expect("tokens that it is shown", shown, [])
-    told = [line for line in lines_in("pdpd-replica-1") if "a program of user 65534 has 127.0.0.1:7101" in line]
+    changes = "/run/pdpd-shards/1/changes"
+    for user, place in (("nobody", port(1)), ("root", changes)):
+        with Local(user, THIEF, place) as thief:
+            wait_until(lambda: "taken" in thief.said(), "the thief doesn't get the place")  # noqa: B023
+            found = [audit.sent("PUT", f"/operator/domains/{name}", machine.operator.token)[0],
+                     audit.sent("PUT", f"/domains/{name}/pip", "some-token-1", '{"Row":[]}')[0]]
+            checks.expect(f"{place}: changes meanwhile", found, [503, 503])
+            shown = re.findall(r"(?i)Bearer (?!-\\r)\S+", thief.said())
+            checks.expect(f"{place}: tokens that it is shown", shown, [])
+    told = [line for line in lines_in("pdpd-replica-1") if f"a program of user 0 has unix:{changes}" in line]
     checks.expect("what the daemon tells", len(told) > 0, True)
     to_places("")
     wait_until(lambda: audit.sent("PUT", f"/operator/domains/{name}", machine.operator.token)[0] in (201, 409),

@@ -80,6 +80,7 @@ def audit(machine, checks):
     logged = decisions_in_logs()
     decided = decided_of_ward(operator, DECISIONS, checks)
     in_logs_of_proxy(logged, checks)
+    past_the_log(operator, checks)
     backs_up()
     looked_at(checks)
     folder = machine.folder / "audit"
@@ -87,6 +88,19 @@ def audit(machine, checks):
     said = said_by_page(lambda command: sh(command, cwd=folder), operator, checks)
     compare(said, decided, folder / "ward-then", checks)
     kept(operator, checks)
+
+
+def past_the_log(operator, checks):
+    """Where HAProxy asks a shard no change is taken, also of the operator's; what is read is."""
+    at = f"-H 'Authorization: Bearer {operator}' --unix-socket /run/pdpd-shards/0/socket http://localhost/operator/domains"
+    asked = "curl --silent --output /dev/null --write-out '%{http_code}' "
+    found = [sh(f"{asked} {words}") for words in (f"-X PUT {at}/past", f"-X DELETE {at}/ward", at)]
+    checks.expect("past the daemon", found, ["503", "503", "200"])
+    listed = sent("GET", "/operator/domains", operator)[1]
+    checks.expect("what was made of it", ('"past"' in listed, '"ward"' in listed), (False, True))
+    changes = pathlib.Path("/run/pdpd-shards/0/changes")
+    found = changes.owner(), changes.group(), f"{changes.stat().st_mode & 0o777:o}"
+    checks.expect("who may connect to the daemon's", found, ("pdpd", "haproxy", "660"))
 
 
 def decided_of_ward(operator, decisions, checks):

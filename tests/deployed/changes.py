@@ -218,6 +218,8 @@ def growth(machine, checks):
     wanted = {*makers.acknowledged, *(f"d{number}" for number in range(12))}
     checks.expect("each that was acknowledged, and no other", set(names), wanted)
     checks.expect("six programs", [bool(pid(shard)) for shard in range(6)], [True] * 6)
+    made = [any(pathlib.Path(f"/var/lib/pdpd-backups/{shard}").glob("2*")) for shard in (4, 5)]
+    checks.expect("backups of the new ones", made, [True, True])
     known = dict(line.split() for line in pathlib.Path("/etc/haproxy/domains.map").read_text().splitlines())
     made = {zlib.crc32(name.encode()) % 6 for name in makers.acknowledged if name not in known}
     checks.expect("new ones come to the new shards: those that got none", {4, 5} - made, set())

@@ -17,7 +17,7 @@ import time
 import zlib
 
 from .machine import TOP, wait_until
-from .three import NAMES, address
+from .three import NAMES, address, known_as
 
 WARD = TOP / "examples" / "ward"
 SEED = int(os.environ.get("CHAOS_SEED", "7"))
@@ -66,7 +66,7 @@ class Client:
         """A connection by which machines come in at another one."""
         context = ssl.create_default_context(cafile=self.certificates / "ca.crt")
         context.load_cert_chain(self.certificates / "client.crt", self.certificates / "client.key")
-        return http.client.HTTPSConnection(address(name), 444, timeout=seconds, context=context)
+        return http.client.HTTPSConnection(known_as(name).strip("[]"), 444, timeout=seconds, context=context)
 
     def has_made(self, name, domain):
         """Whether a machine makes a domain, or has made it."""
@@ -150,6 +150,18 @@ class Changer(threading.Thread):
             self.change("POST", f"/domains/{self.name}/pap/policies", admin, json.dumps(text))
             self.change("PUT", f"/domains/{self.name}/pip", admin, ROW % (self.count, self.name))
             self.change("PUT", f"/domains/{self.name}/pap/policy/urn:{self.name}:{self.count}/1.0/active", admin)
+
+
+@contextlib.contextmanager
+def others_changing(client, number=90):
+    """Meanwhile a client changes a domain of its own; what it sent."""
+    one = Changer(client, number, threading.Event())
+    one.start()
+    try:
+        yield one.sent
+    finally:
+        one.is_over.set()
+        one.join()
 
 
 class Withdrawer(threading.Thread):
@@ -327,6 +339,8 @@ def run(three, client, checks, shards=2):
     changers, withdrawer, faults = disturbed(three, client, random.Random(SEED), shards)
     checks.expect("all clients have ended", [one for one in (*changers, withdrawer) if one.is_alive()], [])
     wait_until(lambda: are_level(three), lambda: three.run("a", "pdpd-replicas status", None), 120)
+    # (its last activation may have got no answer)
+    wait_until(lambda: client.sent("a", "PUT", AT, ADMIN)[0] == 200, "no change is taken", 60)
     sent = [one for changer in changers for one in changer.sent]
     places = {one.name: int(three.run("a", f"pdpd-shards where {one.name}")) for one in changers}
     told, entries, again = compare(three, lambda path: places[domain_of(path)], sent, checks, shards)

@@ -41,8 +41,10 @@ WAYS = {
     "another version": ("HTTP/1.0 that wants to go on", "HTTP/1.2"),
     "`Connection: close`": ("Connection: close", "close among others"),
     "a head that `pdpd` refuses": (
-        "a control in a field", "a NUL in a field", "DEL in a field", "a blank before the colon"),
-    "a head or a body that is too large": ("64 fields", "a field of 16,384 bytes", "a length too large"),
+        "a control in a field", "a NUL in a field", "DEL in a field", "a blank before the colon",
+        "HTTP/2, a byte beyond ASCII"),
+    "a head or a body that is too large": (
+        "64 fields", "a field of 16,384 bytes", "a method of 17,000 bytes", "a length too large"),
     "lines that end with LF, or are folded": ("lines that end with LF alone", "a folded field"),
     "lines within a field of HTTP/2": (
         "HTTP/2, lines in a value", "HTTP/2, lines in a name", "HTTP/2, lines in a path", "HTTP/2, lines in a method"),
@@ -149,6 +151,7 @@ def cut_and_odd(operator, name):
         "Connection names the length": forms.post(length + b"\r\nConnection: content-length, authorization"),
         "Connection: close": forms.post(length + b"\r\nConnection: close"),
         "close among others": forms.post(length + b"\r\nConnection: x, CLOSE\r\nConnection: upgrade"),
+        "a method of 17,000 bytes": b"A" * 17_000 + ask[4:],
         "a cut head": ask[:40], "a cut body": ask[:-9],
         "a cut chunk": forms.post(forms.coding, chunks[:-12]),
         "one that goes": ask,
@@ -167,6 +170,7 @@ def streams_of(ask):
         "HTTP/2, a coding": (b"POST", path, [*fields, (b"transfer-encoding", b"chunked")]),
         "HTTP/2, another length": (b"POST", path, [*fields, (b"content-length", b"3")]),
         "HTTP/2, Connection": (b"POST", path, [*fields, (b"connection", b"content-length")]),
+        "HTTP/2, a byte beyond ASCII": (b"POST", path + b"?\xff", fields),
         "HTTP/2, lines in a value": (b"POST", path, [*fields, (b"x", b"a\r\nContent-Length: 0")]),
         "HTTP/2, lines in a name": (b"POST", path, [*fields, (b"x: a\r\ncontent-length", b"0")]),
         "HTTP/2, lines in a path": (b"POST", path + lines, fields),

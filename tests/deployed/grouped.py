@@ -12,7 +12,7 @@ import zlib
 from . import chaos
 from .machine import wait_until
 from .recovered import are_well
-from .three import NAMES, SHARDS, address, commands, prepare
+from .three import NAMES, SHARDS, commands, install_later, known_as, prepare
 
 SECOND = ("d", "e", "f")
 ALL = (*NAMES, *SECOND)
@@ -22,7 +22,7 @@ KILLS, SEED = 8, 7
 
 
 def machines_of(names):
-    return " ".join(f"{one}={address(one)}" for one in names)
+    return " ".join(f"{one}={known_as(one)}" for one in names)
 
 
 def make_second(three, client, checks):
@@ -31,12 +31,12 @@ def make_second(three, client, checks):
         three.make(name)
         for step in commands("Setting it up", 0):
             three.run(name, step)
-    place = "/usr/local/lib/pdpd/pdpd"
-    three.run("a", f"cp {place} {three.folder}/program")  # (a part before may have upgraded it)
+    # (a part before may have upgraded it)
+    three.run("a", f"cp /usr/local/lib/pdpd/pdpd {three.folder}/program")
     once = commands("Setting it up", 1)[0].split(" a=")[0]
     three.run("a", f"{once} {machines_of(SECOND)}")
     for name in SECOND:
-        three.run(name, f"cp {three.folder}/program {place}")
+        install_later(three, name, f"cp {three.folder}/program pdpd")
         prepare(three, name)
         three.run(name, f"echo {client.operator} > /etc/pdpd/token")
     set_up, *steps = commands("Setting it up", 2)[:-1]
@@ -51,7 +51,7 @@ def make_second(three, client, checks):
 def of(step, name):
     """The command of the page for one of the second group's machines."""
     return (step.replace("SELF=a/", f"SELF={name}/")
-            .replace("a=10.99.0.1 b=10.99.0.2 c=10.99.0.3", machines_of(SECOND)))
+            .replace(machines_of(NAMES), machines_of(SECOND)))
 
 
 def at_once(ran):
@@ -142,7 +142,7 @@ def two_groups(three, client, checks):
     join_groups(three, checks)
     wait_until(lambda: [client.decision(name) for name in ALL] == ["Permit"] * len(ALL),
                lambda: str([client.decision(name) for name in ALL]), 60)
-    for part in (asked_everywhere, new_domains, there_and_back, unfollowed, restarted, killed):
+    for part in (asked_everywhere, new_domains, there_and_back, older_carried, unfollowed, restarted, killed):
         began = time.time()
         part(three, client, checks)
         checks.say(f"{part.__name__}: {time.time() - began:.0f} s")
@@ -214,6 +214,22 @@ def there_and_back(three, client, checks):
         text = (chaos.WARD / "rows.json").read_text()
         found = [client.sent(name, "PUT", "/domains/ward/pip", chaos.ADMIN, text)[0] for name in ALL]
         checks.expect(f"{to}: changes by all", found, [200] * len(ALL))
+    are_well(three)
+
+
+def older_carried(three, client, checks):
+    """A domain that is older than its group's log goes to the other group from the machine that was alone, if a part
+    before has left one."""
+    if '"first"' not in client.sent("a", "GET", "/operator/domains", client.operator)[2]:
+        return
+    (step,) = commands(SECTION, 2)
+    shard = place(three, "a", "first").split(".")[1]
+    step = step.replace("acme 2 two.0", f"first {shard} two.0")
+    checks.expect("another machine", "give this on the machine that had it then" in three.run("b", step, 1), True)
+    checks.say(three.run("a", step).strip())
+    wait_until(lambda: {place(three, one, "first") for one in ALL} == {"two.0"}, "it isn't followed", 20)
+    listed = [client.sent(name, "GET", "/operator/domains", client.operator)[2].count('"first"') for name in "ad"]
+    checks.expect("lists", listed, [0, 1])
     are_well(three)
 
 

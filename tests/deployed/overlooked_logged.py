@@ -1,6 +1,8 @@
 """What an operator breaks and doesn't see of what logs changes: archives of another user, away, or of a clock that was
 ahead; a removed socket. `pdpd-shards status` tells each with what heals it."""
 import pathlib
+import re
+import subprocess
 import sys
 
 from . import audit
@@ -19,7 +21,7 @@ def overlooked_logged(machine, checks):
     shards("remap")
     backs_up()
     wait_until(lambda: asked("status")[0] == 0, lambda: asked("status")[1])
-    for one in (others_archive, socket_gone, left_daemon, lost_archive, clock_ahead):
+    for one in (others_archive, socket_gone, left_daemon, lost_archive, packed_archive, clock_ahead):
         one(machine, checks, int(shards("where", "ward")))
         wait_until(lambda: asked("status")[0] == 0, lambda: asked("status")[1])
         wait_until(lambda: changed() == 200, f"no change is taken behind {one.__name__}")
@@ -66,7 +68,32 @@ def lost_archive(machine, checks, place):
     wait_until(lambda: wanted in asked("status")[1], lambda: asked("status")[1])
     checks.expect("a change, meanwhile", changed(), 503)
     checks.expect("what was begun", [*folder.glob("*.log")], [])
-    sh(f"sv -w 30 stop {service}; rm -r {folder}; mv {aside} {folder}; sv up {service}")
+    ran = subprocess.run(["pdpd-log", "check"], capture_output=True, text=True, check=False)
+    checks.expect(f"pdpd-log check: {ran.stdout}{ran.stderr}",
+                  (ran.returncode > 0, f"{folder}: the archive that was there isn't" in ran.stdout), (True, True))
+    sh(f"sv -w 30 stop {service}")
+    # (sv sends no `up` so long as runsv, which starts a program again after a second, hasn't seen the `down`)
+    wait_until(lambda: "want up" not in sh(f"sv status {service} || true"), "it isn't told to end")
+    sh(f"rm -r {folder}; mv {aside} {folder}; sv up {service}")
+
+
+def packed_archive(machine, checks, place):
+    """A colleague packs the last file of an archive under its daemon: no change is taken that its open file alone would
+    have, no tool ends the daemon, and what is told heals."""
+    file = sorted((audit.ARCHIVES / str(place)).glob("*.log"))[-1]
+    checks.expect("a change before", changed(), 200)
+    sh(f"gzip {file}")
+    checks.expect("a change, meanwhile", changed(), 503)
+    found, said = asked("status")
+    heals = re.search(rf"WRONG: no change of shard {place} is taken: {file} was removed while pdpd-replica-{place} "
+                      r"writes into it, .*?: (runuser .*?) saves it", said)
+    checks.expect(f"a packed archive: {said}", (found, heals is not None), (1, True))
+    for words in (("restart", place), ("upgrade",)):
+        found, said = asked(*words)
+        checks.expect(f"{words}: {said}", (found, f"nothing was stopped: {file} was removed" in said), (1, True))
+    sh(f"{heals[1] if heals else 'true'}; rm {file}.gz; sv restart {SERVICES}/pdpd-replica-{place}")
+    wait_until(lambda: changed() == 200, "no change is taken")
+    checks.expect("the log", "0 replies that replay gives otherwise" in sh("pdpd-log check"), True)
 
 
 # writes a change of the domain `ward` into an archive, an hour and a half from now, as a clock that is ahead has it
@@ -99,4 +126,7 @@ def clock_ahead(machine, checks, place):
     sh(f"sv -w 30 stop {service}; rm -r {folder}/* {APPLIED}/{place}.archive; sv up {service}")
     wait_until(lambda: changed() == 200, "no change is taken by another archive")
     is_well(checks, "another archive")
-    sh(f"sv -w 30 stop {service}; rm -r {folder}; mv {aside} {folder}; sv up {service}")
+    sh(f"sv -w 30 stop {service}")
+    # (sv sends no `up` so long as runsv, which starts a program again after a second, hasn't seen the `down`)
+    wait_until(lambda: "want up" not in sh(f"sv status {service} || true"), "it isn't told to end")
+    sh(f"rm -r {folder}; mv {aside} {folder}; sv up {service}")

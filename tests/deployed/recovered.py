@@ -157,7 +157,15 @@ def rotated(three, client, checks):
 
 
 def mistake_undone(three, client, checks):
-    """A domain gets what it had at a moment, by its archive and the desk."""
+    """A domain gets what it had at a moment, by its archive and the desk, while another one is changed."""
+    with chaos.others_changing(client) as sent:
+        undo_mistake(three, client, checks)
+    made = [one for one in sent if one[3] in (200, 201)]
+    checks.expect("changes meanwhile", {one[3] for one in sent} - {200, 201, *chaos.NONE}, set())
+    checks.expect("enough of them", len(made) > 2, True)
+
+
+def undo_mistake(three, client, checks):
     moment = three.run("b", "sleep 1; date +%s.%N; sleep 1").strip()
     status = 0
     while status != 200:
@@ -223,8 +231,8 @@ def etcd_full(three, client, checks):
     wait_until(lambda: client.has_made("b", "full"), lambda: three.run("a", "pdpd-replicas status", None), 60)
     limited(three, before)
     with chaos.changing(client, "a") as changes:
-        said = three.run("b", "pdpd-replicas trim").strip()
-        time.sleep(1)
+        said, seen = three.run("b", "pdpd-replicas trim").strip(), len(changes)
+        wait_until(lambda: len(changes) > seen + 2, "nothing is changed", 60)
     checks.say(f"{said} ({len(changes)} changes meanwhile)")
     checks.expect("changes meanwhile", {status for status in changes if status not in chaos.NONE}, {200})
     are_well(three)
@@ -270,9 +278,3 @@ def one_to_three(three, client, checks):
     said = three.everywhere("pdpd-replicas rows")
     checks.expect("equal rows", {text.count("a, b, c have the same") for text in said.values()}, {2})
     checks.expect("services that were away", "doesn't run" in three.run("a", "pdpd-shards status", None), False)
-    shard = client.shard(three)
-    three.run("a", "pdpd-replicas freeze older")
-    said = three.run("a", f"pdpd-replicas move ward {shard} {1 - shard}", 1)
-    checks.expect("a domain that is older than the log", "was there before its archive began" in said, True)
-    three.run("a", "pdpd-replicas thaw")
-    are_well(three)

@@ -6,7 +6,7 @@ import traceback
 
 from . import chaos, figures, grouped, recovered, rejoined, resharded
 from .machine import wait_until
-from .three import NAMES, OPERATOR, Three, commands, prepare
+from .three import NAMES, OPERATOR, Three, commands, install_later, prepare
 
 # by hand, as `run` for a longer chaos alone (CHAOS_SEED, CHAOS_SECONDS, CHAOS_CLIENTS)
 ONLY = os.environ.get("REPLICAS_ONLY", "").split()
@@ -57,8 +57,8 @@ def parts():
     go. By hand some alone."""
     all_parts = (looked_at, upgraded, recovered.other_program, lost_disk, recovered.rows_differ, recovered.skipped,
                  recovered.rotated, recovered.mistake_undone, recovered.etcd_full, resharded.moved, chaos.run,
-                 rejoined.lost_machine, rejoined.added, recovered.etcd_lost, recovered.one_to_three, resharded.grown,
-                 grouped.two_groups)
+                 rejoined.lost_machine, rejoined.added, recovered.etcd_lost, rejoined.all_lost, recovered.one_to_three,
+                 resharded.older_moved, resharded.grown, grouped.two_groups)
     return [part for part in all_parts if not ONLY or part.__name__ in ONLY]
 
 
@@ -116,14 +116,13 @@ def passed_on(client, checks):
 
 def upgraded(three, client, checks):
     """Another program on one machine after another: no change is taken meanwhile, and all machines decide."""
-    other = ("cp /usr/local/lib/pdpd/pdpd /root/other && printf x >> /root/other && "
-             "mv /root/other /usr/local/lib/pdpd/pdpd && pdpd-shards upgrade")
     three.run("a", "pdpd-replicas freeze upgrade")
     with resharded.asking(client) as found:
         for name in NAMES:
             if name == "c":
                 checks.expect("too soon", "all machines have to run" in three.run("a", "pdpd-replicas thaw", 1), True)
-            three.run(name, other)
+            install_later(three, name, "printf x >> pdpd")
+            three.run(name, "pdpd-shards upgrade")
             for one in NAMES:
                 wait_until(lambda one=one: client.own_decision(one) == "Permit", f"{one} doesn't decide behind {name}",
                            60)

@@ -39,13 +39,17 @@ def has_rows(client, name):
     return client.sent(name, "PUT", "/domains/ward/pip", chaos.ADMIN, rows)[0] == 200
 
 
+def steps_from(shard, place):
+    """The page's commands that bring a domain from a shard to another one."""
+    return [step.replace("acme 2 0", f"ward {shard} {place}").replace("acme 0", f"ward {place}")
+            .replace("acme 2", f"ward {shard}") for step in commands("Moving a domain", 0)]
+
+
 def moved(three, client, checks):
     """A domain goes to the other shard on all machines. It is decided all the time, and keeps its tokens."""
     shard = client.shard(three)
     place = 1 - shard
-    steps = [step.replace("acme 2 0", f"ward {shard} {place}").replace("acme 0", f"ward {place}")
-             .replace("acme 2", f"ward {shard}") for step in commands("Moving a domain", 0)]
-    freeze, move, lead, unmake, thaw = steps
+    freeze, move, lead, unmake, thaw = steps_from(shard, place)
     checks.expect("while changes are taken", "freeze first" in three.run("a", move, 1), True)
     with asking(client) as found:
         three.run("a", freeze)
@@ -67,6 +71,30 @@ def moved(three, client, checks):
     listed = [client.sent(name, "GET", "/operator/domains", client.operator) for name in NAMES]
     checks.expect("lists", [one[2].count('"ward"') for one in listed], [1] * 3)
     checks.expect("decisions", [client.own_decision(name) for name in NAMES], ["Permit"] * 3)
+    said = three.everywhere("pdpd-replicas rows")
+    checks.expect("equal rows", {text.count("a, b, c have the same") for text in said.values()}, {SHARDS})
+
+
+def older_moved(three, client, checks):
+    """A domain that is older than the log goes to the other shard from the machine that was alone then, and stands in
+    the log by that: another machine brings it back."""
+    for name in "ab":
+        shard = client.shard(three)
+        freeze, move, lead, unmake, thaw = steps_from(shard, 1 - shard)
+        three.run("a", freeze)
+        if name == "a":
+            said = three.run("b", move, 1)
+            checks.expect(f"another machine: {said}", "give this on the machine that had it then" in said, True)
+        checks.say(three.run(name, move).strip())
+        for one in NAMES:
+            three.run(one, lead)
+        wait_for(three, unmake, "no ward any more")
+        wait_for(three, thaw, "are taken")
+        wait_until(lambda: has_rows(client, "c"), "no change is taken", 60)
+        are_well(three)
+        found = {three.run(one, "pdpd-shards where ward").strip() for one in NAMES}
+        checks.expect("where it is", found, {f"{1 - shard}"})
+        checks.expect("decisions", [client.own_decision(one) for one in NAMES], ["Permit"] * 3)
     said = three.everywhere("pdpd-replicas rows")
     checks.expect("equal rows", {text.count("a, b, c have the same") for text in said.values()}, {SHARDS})
 

@@ -85,13 +85,24 @@ def slow_readers(machine, checks):
 
 
 def rates(machine, checks):
-    """With RATE a domain that asks more is turned away, and the others are not."""
+    """With RATE a domain that asks more is turned away, and the others are not; with CHANGE_RATE one that changes
+    more is, and its decisions aren't."""
     machine.operator.clear()
     loud, quiet = machine.operator.makes("loud"), machine.operator.makes("quiet")
     machine.set(RATE=50)
+    otherwise = loud.replace(b"Bearer ", b"Basic ")
+    checks.expect("a token that is shown otherwise", [status(once(data)) for data in (loud, otherwise)], [200, 401])
     found = [decision(once(loud)) for _ in range(150)]
     checks.expect("a loud domain at first", found[:50], ["Permit"] * 50)
     checks.expect("and then", (set(found[50:]) <= {"Permit", 429}, 429 in found), (True, True))
     checks.expect("a quiet one", decision(once(quiet)), "Permit")
-    machine.set(RATE=0)
-    checks.expect("without a limit", decision(once(loud)), "Permit")
+    machine.set(RATE=0, CHANGE_RATE=20)
+    changes = {name: message("PUT", f"/domains/{name}/pip", f"{name}-token-1", '{"Row":[]}')
+               for name in ("loud", "quiet")}
+    found = [status(once(changes["loud"])) for _ in range(60)]
+    checks.expect("changes at first, and then", (set(found[:20]), set(found[20:]), found[-1]), ({200}, {200, 429}, 429))
+    checks.expect("a quiet one's", status(once(changes["quiet"])), 200)
+    reading = message("GET", "/domains/loud/pip", "loud-token-1")
+    checks.expect("decisions and readings beside it", {status(once(one)) for one in (loud, reading) * 30}, {200})
+    machine.set(CHANGE_RATE=0)
+    checks.expect("without a limit", (decision(once(loud)), status(once(changes["loud"]))), ("Permit", 200))

@@ -17,12 +17,24 @@ from deployed.machine import PATIENCE, TOP, Machine, sh  # noqa: E402
 NAMES = ("a", "b", "c")
 OPERATOR = "operator-of-three-machines"
 SHARDS = 2
-NET = "10.99.0"
+NET, NET_6 = "10.99.0", "fd99::"
+# by hand: whether the machines know each other by addresses of IPv6
+IS_6 = os.environ.get("REPLICAS_IPV6") == "1"
 PAGE = TOP / "docs" / "guide" / "REPLICAS.md"
 
 
+def number(name):
+    return ord(name) - ord("a") + 1
+
+
 def address(name):
-    return f"{NET}.{ord(name) - ord('a') + 1}"
+    """Where clients ask a machine."""
+    return f"{NET}.{number(name)}"
+
+
+def known_as(name):
+    """The address by which machines know one, as REPLICAS has it."""
+    return f"[{NET_6}{number(name)}]" if IS_6 else address(name)
 
 
 class Three:
@@ -34,7 +46,7 @@ class Three:
         # (what a disk costs isn't what is tried here)
         sh(f"mkdir -p {self.folder}/disks && mount -t tmpfs -o size=8g,mode=755 disks {self.folder}/disks")
         sh("ip link set lo up && ip link add name machines type bridge && ip link set machines up && "
-           f"ip address add {NET}.254/24 dev machines")
+           f"ip address add {NET}.254/24 dev machines && ip address add {NET_6}fe/64 dev machines nodad")
         for name in NAMES:
             self.make(name)
 
@@ -42,6 +54,7 @@ class Three:
         """Makes a machine with a network, on which runit runs, and in whose folder the archive is."""
         sh(f"ip netns add {name} && ip link add to-{name} type veth peer name eth0 netns {name} && "
            f"ip link set to-{name} master machines up && ip -n {name} address add {address(name)}/24 dev eth0 && "
+           f"ip -n {name} address add {NET_6}{number(name)}/64 dev eth0 nodad && "
            f"ip -n {name} link set eth0 up && ip -n {name} link set lo up")
         disk = self.folder / "disks" / name
         disk.mkdir()
@@ -97,7 +110,8 @@ class Three:
     def part(self, name, other, is_parted=True):
         """Has two machines reach each other no more, though both reach the third; or again."""
         for one, far in ((name, other), (other, name)):
-            sh(f"ip -n {one} route {'add' if is_parted else 'delete'} blackhole {address(far)}/32")
+            for place in (f"{address(far)}/32", f"{NET_6}{number(far)}/128"):
+                sh(f"ip -n {one} route {'add' if is_parted else 'delete'} blackhole {place}")
 
     def signal(self, name, service, number, is_holder=False):
         """Sends a signal to the program of a service; of a shard's to pdpd itself, or to what holds its input."""
@@ -122,6 +136,7 @@ def commands(section, number):
     """The commands of a block of the page, below a heading of any depth."""
     text = re.search(rf"(?ms)^##+ {section}\n(.*?)^##", PAGE.read_text())[1]
     block = re.findall(r"(?ms)^```sh\n(.*?)^```", text)[number]
+    block = re.sub(r"10\.99\.0\.(\d)", rf"[{NET_6}\1]", block) if IS_6 else block
     lines = block.replace("\\\n", " ").splitlines()
     return [line for line in lines if line.strip() and not line.startswith("apt-get ")]
 
@@ -135,6 +150,12 @@ def prepare(three, name):
               "2> /dev/null && cat c k > pdpd.pem")
     three.run(name, f"sed -i 's/^SHARDS=.*/SHARDS={SHARDS}/; s/^PLAIN_BIND=.*/PLAIN_BIND=:80/; "
               "s/^REFUSALS=.*/REFUSALS=0/; s/^RESERVE=.*/RESERVE=0/' /etc/pdpd/shards.conf")
+
+
+def install_later(three, name, program):
+    """Installs a later archive, in which a command has put another program, beside what runs."""
+    three.run(name, f"cd pdpd-0.1 && {program} && grep -v '  pdpd$' SHA256SUMS > sums && sha256sum pdpd >> sums && "
+              "mv sums SHA256SUMS && deploy/install /usr/local")
 
 
 def hold(folder):

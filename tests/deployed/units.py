@@ -18,7 +18,7 @@ MACHINES = "a=10.0.0.1 b=10.0.0.2 c=10.0.0.3"
 SWITCHES = ("FIRST_PORT=288", "CONNECTIONS=1000000;IDLE=4;KEEP=0;RETRY=0;MAXCONN=1;FIRST_PORT=288", "THREADS=4",
             "MAXCONN=4", "RATE=100", "PLAIN_BIND=127.0.0.1:8081",
             "TLS_BIND=;PLAIN_BIND=127.0.0.1:8081", "TLS_BIND=[::]:443 v4v6", "HAPROXY_USER=", "LOG=/dev/log local0",
-            "LOG=/dev/log local0;LOG_DECISIONS=0", "THREADS=4;RATE=5;LOG_DECISIONS=0",
+            "LOG=/dev/log local0;LOG_DECISIONS=0", "THREADS=4;RATE=5;CHANGE_RATE=5;LOG_DECISIONS=0",
             "CLIENTS=10;UNDER_WAY=10;OF_SOURCE=0;REFUSALS=0", "AUDIT=1",
             *(f"DECISIONS=1;DECISION_REQUESTS={words}" for words in ("whole", "digest", "none")),
             "DECISIONS=1;LOG_DECISIONS=0", "AUDIT=1;METRICS=127.0.0.1:405", "METRICS=127.0.0.1:405",
@@ -75,14 +75,15 @@ def mode(path):
     return f"{path.stat().st_mode & 0o777:o}"
 
 
-def made_with(folder, text):
-    """Writes settings into a folder, and gives what `pdpd-shards config --write` says and its status."""
+def made_with(folder, text, **more):
+    """Writes settings into a folder, and gives what `pdpd-shards config --write` says and its status. `more` is in its
+    environment."""
     at = folder / "settings"
     at.mkdir(exist_ok=True)
     (at / "haproxy.cfg").unlink(missing_ok=True)
     settings = at / "shards.conf"
     settings.write_text(f"HAPROXY_ETC={at}\nHAPROXY_RUN={at}\n{text}\n")
-    surroundings = {**os.environ, "PDPD_SETTINGS": str(settings)}
+    surroundings = {**os.environ, "PDPD_SETTINGS": str(settings), **more}
     words = ["pdpd-shards", "config", "--write"]
     ran = subprocess.run(words, env=surroundings, capture_output=True, text=True, check=False)
     return ran.returncode, ran.stdout + ran.stderr

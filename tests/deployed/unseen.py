@@ -197,28 +197,36 @@ def unapplied_places(machine, checks):
 
 
 def removed_archive(machine, checks):
-    """An archive is removed under its daemon, which goes on: what is told brings it back."""
+    """An archive is removed under its daemon, which takes no change that its open file alone would have: what is told
+    brings it back."""
     shard = int(shards("where", "ward"))
     folder, aside = audit.ARCHIVES / str(shard), machine.folder / "aside"
     wait_until(lambda: changed(machine.operator.token) == 200, "no change is taken")
     path = sorted(folder.glob("*.log"))[-1]
     sh(f"cp -p {path} {aside}; rm {path}")
-    checks.expect("a change meanwhile", changed(machine.operator.token), 200)
+    checks.expect("a change meanwhile", changed(machine.operator.token), 503)
     process = int((SERVICES / f"pdpd-replica-{shard}" / "supervise" / "pid").read_text())
     place = next(f"/proc/{process}/fd/{name}" for name in os.listdir(f"/proc/{process}/fd")
                  if os.readlink(f"/proc/{process}/fd/{name}").startswith(str(path)))
-    tells(checks, "an archive that was removed", f"copy it from {place} before, then restart pdpd-replica-{shard}")
-    sh(f"runuser -u pdpd-replica -- sh -c 'umask 077; cat > {path}' < {place}; sv restart "
-       f"{SERVICES}/pdpd-replica-{shard}")
+    heals = f"runuser -u pdpd-replica -- sh -c 'umask 077; cat > {path}' < {place}"
+    tells(checks, "an archive that was removed", f"is lost once that ends: {heals} saves it")
+    sh(f"{heals}; cmp {path} {aside}; sv restart {SERVICES}/pdpd-replica-{shard}")
     wait_until(lambda: changed(machine.operator.token) == 200, "no change is taken")
     said = next(line for line in sh("pdpd-log check").splitlines() if line.startswith(f"{folder}: "))
     checks.expect(f"the chain: {said}", " 0 replies that replay gives otherwise" in said, True)
 
 
+def is_writing(service, folder):
+    """Whether a service has a file of that folder open."""
+    process = (SERVICES / service / "supervise" / "pid").read_text().strip()
+    opened = pathlib.Path(f"/proc/{process}/fd")
+    return any(os.readlink(name).startswith(f"{folder}/") for name in opened.iterdir())
+
+
 def removed_decisions(machine, checks):
     """The file of decisions is removed under what writes it."""
     audit.sent("POST", "/domains/ward/pdp", audit.TOKENS["ask"], (audit.WARD / "request-alice.json").read_text())
-    wait_until(lambda: list(audit.DECISIONS.glob("*.log")), "no decision is logged")
+    wait_until(lambda: is_writing("pdpd-decisions", audit.DECISIONS), "no decision is logged")
     for path in audit.DECISIONS.glob("*.log"):
         path.unlink()
     tells(checks, "decisions that were removed", "was removed while pdpd-decisions writes into it")

@@ -5,8 +5,7 @@ import socket
 import zlib
 from types import SimpleNamespace
 
-from audit_parts import under_way
-from audit_parts.shared import expect, folder, wait_until
+from audit_parts.shared import expect, folder
 from log import pdpd
 from replica import clocks, daemon
 from replica.daemon import Replica
@@ -124,19 +123,24 @@ def other_maps():
 
 
 def left_behind():
-    """Nothing is settled while pdpd has a message whose sender has gone, whether it takes connections or not."""
+    """Nothing is settled while pdpd has a message whose sender has gone, whether it has taken the connection, or takes
+    none any more."""
     at = folder / "left"
-    with under_way.Turns(at) as turns:
-        one = SimpleNamespace(pdpd=turns.address, user=None)
+    one = SimpleNamespace(pdpd=f"unix:{at}", user=None)
+    with socket.socket(socket.AF_UNIX) as takes, socket.socket(socket.AF_UNIX) as sends:
+        takes.bind(str(at))
+        takes.listen()
         expect("nothing was sent", Replica.is_settled(one), True)
-        with socket.socket(socket.AF_UNIX) as sends:
-            sends.connect(str(at))
-            sends.sendall(b"PUT / HTTP/1.1\r\nauthorization: x\r\ncontent-length: 0\r\n\r\n")
-            turns.holds.wait(30)
+        sends.connect(str(at))
+        expect("one that waits to be taken", Replica.is_settled(one), False)
+        taken, _ = takes.accept()
+        expect("one that was taken", Replica.is_settled(one), True)
+        sends.close()
+        expect("its sender has gone", Replica.is_settled(one), False)
         at.unlink()
-        expect("its sender has gone", [Replica.is_settled(one) for _ in range(3)], [False] * 3)
-        turns.goes_on.set()
-        expect("it is made", wait_until(lambda: Replica.is_settled(one)), True)
+        expect("its socket, too", Replica.is_settled(one), False)
+        taken.close()
+        expect("it is over", Replica.is_settled(one), True)
 
 
 PARTS = (clock_is_set, old_proxies, other_programs, other_maps, left_behind)

@@ -240,7 +240,9 @@ def differing():
         first, second, third = lab.machines
         lab.make_domain(first)
         are_level(lab)
-        third.read(as_admin("DELETE", "/domains/acme/pap/policy/urn:example:ward:records/1.0/active"))
+        past = as_admin("DELETE", "/domains/acme/pap/policy/urn:example:ward:records/1.0/active")
+        expect("where all are answered it isn't taken", status_of(third.read(past)[0]), 503)
+        expect("where the daemon sends it is", status_of(third.past_the_log(past)), 200)
         at = "/domains/acme/pap/policy/urn:example:ward:records/1.0"
         expect("a change", status_of(first.change("DELETE", at, ADMIN)), 409)
         expect("it is out", wait_until(lambda: "differ" in third.figures().get("wrong", "")), True)

@@ -14,6 +14,7 @@ from audit_parts.shared import PROGRAM, TOP, folder, passed_on, status_of, wait_
 from serving import OPERATOR, PATIENCE, Client, Served, free_port
 
 sys.path.insert(0, str(TOP / "deploy"))
+from log.pdpd import replies  # noqa: E402
 from replica.daemon import BEGINS  # noqa: E402
 from replica.etcd import Etcd, Member  # noqa: E402
 from replica.shared_log import SharedLog, program_of  # noqa: E402
@@ -74,6 +75,7 @@ class Machine:
         (self.archive / BEGINS).write_text(f"{LOG}\n")
         self.token_file.write_text(f"{OPERATOR}\n")
         self.client_port, self.peer_port, self.port = free_port(), free_port(), free_port()
+        self.changes = f"unix:{self.folder}/changes"
         self.pdpd, self.pdpd_port = None, None
         self.etcd = self.daemon = None
 
@@ -90,7 +92,7 @@ class Machine:
         given = {"ack": "all", "lease": LEASE, "log-tail": 10_000, "room": 1, "runs": self.runs, **lab.more, **more}
         self.pdpd_port = self.pdpd_port or free_port()
         self.daemon = Process([TOP / "deploy" / "pdpd-replica", "--archive", self.archive,
-                               "--listen", f"127.0.0.1:{self.port}", "--pdpd", f"127.0.0.1:{self.pdpd_port}",
+                               "--listen", f"127.0.0.1:{self.port}", "--pdpd", self.changes,
                                "--token", self.token_file, "--replicas", members, "--name", self.name,
                                *(word for name, value in given.items() for word in (f"--{name}", value))],
                               self.folder / "said")
@@ -98,11 +100,15 @@ class Machine:
     def start_pdpd(self):
         self.runs.write_text(f"{digest()}  -\n")
         self.pdpd = Served(PROGRAM, str(self.folder / "store.db"), str(self.token_file), port=self.pdpd_port,
-                           command="listen")
+                           command="listen", changes=self.changes)
 
     def read(self, *messages):
         """pdpd's own replies."""
         return self.pdpd.once(*messages)
+
+    def past_the_log(self, data):
+        """pdpd's reply to a change that comes past the daemon."""
+        return replies(self.changes, data, 1, PATIENCE)[0].data
 
     def said(self):
         return (self.folder / "said").read_text(errors="replace")

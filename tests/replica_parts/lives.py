@@ -1,5 +1,6 @@
 """What an operator does: all of etcd is lost, an entry that no pdpd takes, rows that differ, another program."""
 import contextlib
+import pathlib
 import shutil
 import socket
 import sqlite3
@@ -166,8 +167,11 @@ def skipped():
 class Outlasted:
     """In place of a pdpd one that gets each message, and is killed before it answers any."""
 
-    def __init__(self, port):
-        self.count, self.socket = 0, socket.create_server(("127.0.0.1", port))
+    def __init__(self, place):
+        self.count, self.socket = 0, socket.socket(socket.AF_UNIX)
+        pathlib.Path(place).unlink(missing_ok=True)
+        self.socket.bind(place)
+        self.socket.listen()
         threading.Thread(target=self.work, daemon=True).start()
 
     def work(self):
@@ -190,7 +194,7 @@ def outlasting():
         are_level(lab)
         for one in lab.machines:
             one.pdpd.kill()
-        others = [Outlasted(one.pdpd_port) for one in lab.machines]
+        others = [Outlasted(one.changes.removeprefix("unix:")) for one in lab.machines]
         head = {"domain": "acme", "who": "admin", "method": "PUT", "path": PIP, "fields": []}
         change = core.Change(head, b"", core.CLOCK.monotonic() + LONG)
         core.Appending(lab.log, core.CLOCK, lambda look: "", lambda what: None).append([change])

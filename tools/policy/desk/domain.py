@@ -98,16 +98,24 @@ class DomainReader(cases.CaseReader):
         if name is not None and not re.fullmatch(NAME, name):
             self.fault(node.at("Domain"), "A domain's name is 1 to 32 small letters, digits and dashes, of "
                                           "which the first is no dash.")
-        documents, rows = self.documents(node, node.at("Documents")), self.text(node.at("Rows"))
+        documents, rows = self.documents(node, node.at("Documents")), self.inside(node.at("Rows"))
         held = None if rows is None else files.rows(str(self.folder / rows))
-        found = [path for path in (self.text(item) for item in self.items(node.at("Cases")))
-                 if path is not None]
+        found = [path for path in map(self.inside, self.items(node.at("Cases"))) if path is not None]
         root = self.root(node, documents)
         keep = self.number(node.at("Keep"))
         if self.remarks.faults():
             return None
         return Domain(self.folder, self.text(node.at("Server")), name, root, documents, held,
                       [files.shown(self.folder / path) for path in found], keep, node.at("Root"))
+
+    def inside(self, node: Node | None) -> str | None:
+        """A name of something in the folder: a folder that somebody else has made names nothing else, since its server
+        is sent it."""
+        named = self.text(node)
+        if named is None or files.is_inside(self.folder, self.folder / named):
+            return named
+        self.fault(node, "This leads out of the folder, whose server would be sent it.")
+        return None
 
     def number(self, node: Node | None) -> int:
         """How many deployments are kept."""
@@ -120,9 +128,13 @@ class DomainReader(cases.CaseReader):
         """The documents that are named, or those of the folder."""
         paths = [str(self.folder)]
         if named is not None:
-            paths = [str(self.folder / path) for path in map(self.text, self.items(named))
+            paths = [str(self.folder / path) for path in map(self.inside, self.items(named))
                      if path is not None]
-        found = files.documents(paths)
+        for path in files.document_files(paths):
+            if not files.is_inside(self.folder, path):
+                self.fault(node, f"{files.shown(path.absolute())} leads out of the folder, whose server would be sent "
+                                 "it.")
+        found = [] if self.remarks.faults() else files.documents(paths)
         for one in found:
             if one.document is not None and one.document.id == RECORD_ID:
                 self.fault(node, f"{one.source.path} has the id {RECORD_ID}, which is that of records.")

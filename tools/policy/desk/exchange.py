@@ -53,9 +53,8 @@ def kept(folder: pathlib.Path, made: list[Made], ending: str, is_over: bool) -> 
             raise Usage(f"{target} is there, with other bytes, and nothing is written: --overwrite writes "
                         f"over it, or name another folder")
     try:
-        folder.mkdir(parents=True, exist_ok=True)
         for target, one in targets:
-            target.write_bytes(one.held)
+            files.write(folder, one.stem + ending, one.held)
             print(text.wrapped(f"{one.label}: written to {files.shown(target)}", "", "    "))
     except OSError as fault:
         raise Usage(f"{fault.filename} can't be written: {fault.strerror}") from None

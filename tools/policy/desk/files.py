@@ -51,13 +51,35 @@ def within(paths: list[str], endings: tuple[str, ...], what: str,
     files: list[pathlib.Path] = []
     for path in map(pathlib.Path, paths):
         if is_folder(path):
-            found = [file for file in sorted(path.iterdir()) if file.suffix in endings and is_meant(file)]
+            # (a pipe or a device in a folder of another's has no end)
+            found = [file for file in sorted(path.iterdir())
+                     if file.suffix in endings and file.is_file() and is_meant(file)]
             if not found:
                 raise Usage(f"{path} holds no {what} (*{', *'.join(endings)})")
             files += found
         else:
             files.append(path)
     return list(dict.fromkeys(files))
+
+
+def is_inside(folder: pathlib.Path, path: pathlib.Path) -> bool:
+    """Whether a path leads to something in the folder, by whatever links; what no file may be named leads nowhere
+    else."""
+    try:
+        return path.resolve().is_relative_to(folder.resolve())
+    except (OSError, ValueError, RuntimeError):
+        return True
+
+
+def write(folder: pathlib.Path, name: str, data: bytes) -> None:
+    """Writes a file of a folder, which somebody else may have made: through no link that it has."""
+    path, place = folder / name, folder
+    for part in pathlib.PurePath(name).parts:
+        place /= part
+        if place.is_symlink():
+            raise Usage(f"{place} is a link, and nothing is written through it: take it away, or name another folder")
+    path.parent.mkdir(parents=True, exist_ok=True)
+    path.write_bytes(data)
 
 
 def document_files(paths: list[str]) -> list[pathlib.Path]:

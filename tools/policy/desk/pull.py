@@ -6,7 +6,7 @@ import json
 import pathlib
 import re
 
-from . import made, records, setting, text
+from . import files, made, records, setting, text
 from .asked_root import Root, root_now
 from .domain import FILE, domain_of, named, requests_of, root_body
 from .live import Key, Live, key_shown, version_shown
@@ -40,7 +40,7 @@ def file_name(key: Key, taken: set[str]) -> str:
 
 def files_of(live: Live, folder: pathlib.Path, is_all: bool) -> dict[str, bytes]:
     """The files of the documents; one that the folder has under another name stays where it is."""
-    there = {path.read_bytes(): path.name for path in sorted(folder.glob("*.json"))}
+    there = {path.read_bytes(): path.name for path in sorted(folder.glob("*.json")) if path.is_file()}
     taken, found = {FILE, "rows.json", "cases.json"}, {}
     for key in sorted(live.kept()):
         if live.documents[key]:
@@ -109,8 +109,7 @@ def run(live: Live, options: argparse.Namespace) -> int:
                     f"so")
     try:
         for name, data in held.items():
-            (folder / name).parent.mkdir(parents=True, exist_ok=True)
-            (folder / name).write_bytes(data)
+            files.write(folder, name, data)
     except OSError as fault:
         raise Usage(f"{folder} can't be written: {fault.strerror}") from None
     say(live, options, held, root, found)

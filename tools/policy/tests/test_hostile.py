@@ -4,6 +4,7 @@ from __future__ import annotations
 
 import json
 import os
+import pathlib
 import pty
 import subprocess
 import sys
@@ -121,6 +122,57 @@ class Places(DeskTest):
                 found = status(server, "p.json")
                 told = "is no address of a server" in found.stderr
                 self.assertEqual((found.returncode, told, "Traceback" in found.stderr), (2, True, False))
+
+
+class Links(DeskTest):
+    """A folder that somebody else has made, as a clone."""
+
+    def said(self, *words: str) -> tuple[int, str]:
+        surroundings = {**os.environ, "DALVEZOUR_TOKEN": "mine-admin-1"}
+        ran = subprocess.run([sys.executable, str(TOOL / "policy.py"), *words], env=surroundings, capture_output=True,
+                             text=True, check=False, timeout=60)
+        return ran.returncode, " ".join((ran.stdout + ran.stderr).split())
+
+    def test_nothing_outside_is_named(self) -> None:
+        """What stands elsewhere would be sent to the server that the folder names."""
+        with tempfile.TemporaryDirectory() as above:
+            folder = pathlib.Path(above, "theirs")
+            folder.mkdir()
+            for place in (folder, pathlib.Path(above)):
+                (place / "p.json").write_text(POLICY)
+                (place / "rows.json").write_text('{"Row":[]}')
+            (folder / "linked.json").symlink_to("../p.json")
+            held = {"Server": "http://127.0.0.1:1", "Domain": "mine", "Root": "p"}
+            outside = [{"Documents": ["../p.json"]}, {"Documents": [f"{above}/p.json"]}, {"Documents": [".."]},
+                       {"Documents": ["linked.json"]}, {}, {"Documents": ["p.json"], "Rows": "../rows.json"},
+                       {"Documents": ["p.json"], "Cases": ["../c.json"]}]
+            for more in outside:
+                (folder / "domain.json").write_text(json.dumps({**held, **more}))
+                status, said = self.said("deploy", "--yes", str(folder))
+                self.assertEqual((status, "leads out of the folder" in said), (1, True), f"{more}: {said}")
+            (folder / "linked.json").unlink()
+            (folder / "domain.json").write_text(json.dumps({**held, "Documents": ["p.json", "./p.json"]}))
+            self.assertNotIn("leads out of the folder", self.said("deploy", "--yes", str(folder))[1])
+
+    def test_nothing_is_written_through_a_link(self) -> None:
+        with tempfile.TemporaryDirectory() as above:
+            folder, elsewhere = pathlib.Path(above, "theirs"), pathlib.Path(above, "elsewhere")
+            folder.mkdir()
+            pathlib.Path(above, "p.json").write_text(POLICY)
+            (folder / "p.xml").symlink_to(elsewhere)
+            status, said = self.said("export", f"{above}/p.json", "--to", str(folder))
+            self.assertEqual((status, "p.xml is a link" in said, elsewhere.exists()), (2, True, False), said)
+            (folder / "p.xml").unlink()
+            (pathlib.Path(above) / "mine").symlink_to(folder)
+            status, said = self.said("export", f"{above}/p.json", "--to", f"{above}/mine")
+            self.assertEqual((status, (folder / "p.xml").is_file()), (0, True), said)
+
+    def test_what_has_no_end_is_left_out(self) -> None:
+        with tempfile.TemporaryDirectory() as folder:
+            pathlib.Path(folder, "p.json").write_text(POLICY)
+            os.mkfifo(f"{folder}/pipe.json")
+            os.symlink("/dev/zero", f"{folder}/zero.json")
+            self.assertEqual(self.said("check", "--program", "none", folder)[0], 0)
 
 
 class Filter(DeskTest):
