@@ -96,7 +96,8 @@ def measure(made):
     for value in (1, 4, 8):
         made.set(MAXCONN=value)
         print_line(f"1 shard, MAXCONN={value}", 100, clients.wrk(script, 100, SECONDS))
-    machine.sh("sv down /etc/service/pdpd-0 && sleep 1")
+    # (the watchdog has HAProxy send nothing to another user's program in a shard's place)
+    machine.sh("sv down /etc/service/pdpd-watchdog /etc/service/pdpd-0 && sleep 1")
     server = nginx(made.folder)
     time.sleep(1)
     for many in CLIENTS:

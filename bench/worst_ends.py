@@ -176,11 +176,11 @@ def domain(name, documents, root):
     return [f"domain:{name}", "ask:acme-token-1", *("document:" + written(draft) for draft in documents), *root]
 
 
-def of_policies(name, size, root=("root:set|s|||",), led_to=255):
+def of_policies(name, size, root=("root:set|s|||",), led_to=255, times=1):
     """A domain of 255 policies of about so many bytes each, which differ from those of others, and of a root that
-    refers to so many of them."""
+    refers to so many of them, so many times."""
     documents = [large_policy(f"{name}-{number}", size) for number in range(255)]
-    documents.append(policy_set("s", [to_policy(f"{name}-{number}") for number in range(led_to)]))
+    documents.append(policy_set("s", [to_policy(f"{name}-{number}") for number in range(led_to)] * times))
     return domain(name, documents, root)
 
 
@@ -221,6 +221,8 @@ def large_asks(most_seconds):
         ("the root leads to one policy", of_policies("acme", READ, led_to=1), first, 0.1, {"200"}),
         ("the root leads to 255 policies, which are read", kept, first, most_seconds, {"200"}),
         ("the same, once their view is kept", kept + before, again, 0.01, {"200"}),
+        ("the root leads to each of them four times: too large a tree", of_policies("acme", READ, times=4), first,
+         most_seconds, {"200"}),
         ("the root leads to more than may be read", too_much, first, most_seconds, {"503"}),
         ("the same, once that is known", too_much + before, again, 0.01, {"503"}),
         ("each is refused for its work, so that no view is kept", too_costly("acme", READ),

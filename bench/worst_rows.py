@@ -246,6 +246,7 @@ LINES = [
      LINEAR),
     ("a tree of n references of all shapes over 1,014 versions", partial(any_shapes, count=1_014), 2_048, LINEAR),
     ("a tree of 4,096 references of all shapes over n versions", partial(any_shapes, 4_096), 507, LINEAR),
+    ("a tree of n references of all shapes over 730 versions", partial(any_shapes, count=730), 69_000, LINEAR),
     ("n obligations through 120 nested sets", obligations_carried, 500, LINEAR),
     ("n policies that each of 64 individuals names", policies_named, 499, LINEAR),
     ("a head of n bytes, a byte a piece", head, 4_000, LINEAR),

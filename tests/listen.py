@@ -16,7 +16,8 @@ import sys
 sys.dont_write_bytecode = True
 sys.argv.insert(1, "--listen")
 from checks import is_program  # noqa: E402
-from listen_parts import addresses, changes, clients, crowds, ends, kills, parting, readers, waiting  # noqa: E402
+from listen_parts import (  # noqa: E402
+    addresses, changes, clients, crowds, ends, kills, little, parting, readers, waiting)
 from serve_parts.shared import PROGRAM, TOKEN_FILE, folder  # noqa: E402
 from listen_parts.shared import checks  # noqa: E402
 from serving import OPERATOR  # noqa: E402
@@ -24,8 +25,8 @@ from serving import OPERATOR  # noqa: E402
 PARTS = (
     crowds.together, crowds.crowded, crowds.driven_out, crowds.busy, crowds.resets, crowds.descriptors,
     waiting.silent, waiting.slow, waiting.slow_body, waiting.unwoken, waiting.told, waiting.refusals,
-    readers.never_reads, readers.slow_readers, readers.bounded,
-    parting.behind_faults, parting.over_a_slow_network, parting.stays_bounded,
+    readers.never_reads, readers.slow_readers, readers.bounded, little.memory,
+    parting.behind_faults, parting.over_a_slow_network, parting.over_late_packets, parting.stays_bounded,
     ends.by_input, ends.at_the_door, ends.half_a_message, ends.by_terminal, ends.by_signal, ends.input_unwatched,
     addresses.internet, addresses.unix, addresses.occupied, addresses.unusable,
     changes.routed, changes.one_at_a_time, changes.kept, changes.stays, changes.at_a_path, changes.at_the_end,

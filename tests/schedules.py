@@ -1,6 +1,6 @@
 #!/usr/bin/env python3
 """Compares a reactor with the model in Python: schedules of peers and turns, of which some are worked and the others
-drawn, as the program xa_schedules answers them and as tests/model/reactors.py does.
+drawn, as the program xa_schedules answers them and as tests/model/scheduling.py does.
 
 usage: tests/schedules.py PROGRAM [COUNT [SEED]]    so many drawn schedules, 10,000 if none is said
        tests/schedules.py --write                   writes the worked ones and their answers, by the model, to where the
@@ -17,8 +17,8 @@ sys.path[:0] = [str(TESTS / "model"), str(TESTS)]
 from counting import CountingServer  # noqa: E402
 from growths import compiled  # noqa: E402
 from held import COUNTING, counted  # noqa: E402
-from reactors import schedule  # noqa: E402
 from routes import TABLE  # noqa: E402
+from scheduling import schedule  # noqa: E402
 from sent import OPERATOR, growing_policy, making, message  # noqa: E402
 
 TOKEN = "acme-token-1"

@@ -33,7 +33,8 @@ PARTS = (
     stores.no_databases, stores.no_stores, stores.half_stores, stores.lost_logs, stores.modes,
     sockets.sockets, sockets.taking, memory.memory, memory.refused_at_start,
     memory.connections_leave_nothing, memory.stack, memory.address_space, disks.file_size, sockets.idle,
-    limits.long_replies, limits.limits, limits.limits_told, limits.work_unless_set, limits.reading_and_views,
+    limits.long_replies, limits.limits, limits.limits_told, limits.failures_told, limits.work_unless_set,
+    limits.reading_and_views,
     sizes.long_parts, sizes.many_domains, sizes.long_text, sizes.many_assignments, sizes.full_domain,
     costs.single, costs.looks, costs.kept, costs.at_once, sockets.last)
 

@@ -107,11 +107,13 @@ class Served:
     """The program over a file, by `serve` for so many connections, by `listen` until its input ends. It is killed, if
     it still runs, at the end of the `with` statement."""
 
-    def __init__(self, program, path, token_file, connections=MOST_CONNECTIONS, port=None, command=COMMAND, **more):
+    def __init__(self, program, path, token_file, connections=MOST_CONNECTIONS, port=None, command=COMMAND,
+                 changes=None, **more):
+        """`changes`: where `listen` takes changes, if not at its port."""
         self.command, self.input = command, subprocess.DEVNULL
         self.before, self.behind = [program, command, path], [token_file, str(connections)]
         if command == "listen":
-            self.behind, self.input = [token_file], subprocess.PIPE
+            self.behind, self.input = [token_file, *([changes] if changes else [])], subprocess.PIPE
             more["env"] = {**(more.get("env") or os.environ), "PDPD_END": "input"}
         self.start(port or free_port(), more)
         for _ in range(MOST_STARTS - 1):

@@ -3,6 +3,7 @@ import contextlib
 import socket
 import stat
 import subprocess
+import threading
 import time
 
 from api_parts.routes import ROUTES
@@ -19,8 +20,7 @@ ADMIN, SILENCE, OK = "acme-token-1", 0.7, b"HTTP/1.1 200 "
 
 
 class Split:
-    """The program at two addresses, which is killed at the end of the `with` statement; `said` is then what it has
-    said of messages."""
+    """The program at two addresses, which is killed at the end of the `with` statement."""
 
     def __init__(self, name, changes=None, stdin=subprocess.DEVNULL, **settings):
         self.port, self.changes_port = free_port(), free_port()
@@ -36,16 +36,28 @@ class Split:
     def changes(self):
         return Client(self.changes_port)
 
-    def kill(self):
-        self.process.kill()
-        self.said = [held for held in self.process.communicate()[1].decode().splitlines() if "message of" in held]
+    def said_of_message(self):
+        """The next line that it says of a message; nothing where there is none for a while."""
+        at_last = threading.Timer(PATIENCE, self.process.kill)
+        at_last.start()
+        found = next((line for line in self.process.stderr if b"message of" in line), b"")
+        at_last.cancel()
+        return found.decode().rstrip("\n")
 
     def __enter__(self):
         return self
 
     def __exit__(self, *what):
-        if self.process.poll() is None:
-            self.kill()
+        self.process.kill()
+        self.process.communicate()
+
+
+def takes_turns(connect):
+    """Has the program take a whole turn behind all that was sent before, so that it was read: there is one between two
+    replies."""
+    with connect() as client:
+        for _ in range(2):
+            client.ask(LIST)
 
 
 def make_at(client):
@@ -127,7 +139,7 @@ def kept():
         clients = [stack.enter_context(split.first()) for _ in range(PLACES - 1)]
         for client in clients:
             client.send(LIST[:-1])
-        time.sleep(SILENCE)
+        takes_turns(split.changes)
         with split.first() as last, split.changes() as changes:
             last.send(LIST)
             expect("the 64th waits", last.is_silent(SILENCE), True)
@@ -170,13 +182,13 @@ def at_the_end():
         for client in (one, first):
             client.send(creates("acme")[:9])
         other.send(creates("beta"))
-        time.sleep(0.3)
+        takes_turns(split.first)
         split.process.stdin.close()
         for client, wanted in ((first, UNAVAILABLE), (one, CREATED)):
             expect("a message under way", client.ask(creates("acme")[9:]), wanted)
         one.close()
         expect("who waits", (other.reply(), other.all(), first.all()), (CREATED, b"", b""))
-        split.process.stdin = None
+        split.process.stdin = None  # (it is closed, and `communicate` would flush it)
         expect("its status", split.process.wait(timeout=PATIENCE), 0)
 
 
@@ -184,10 +196,8 @@ def told():
     """A line tells of what was turned away, of which domain it was and why."""
     with Split("told") as split, split.first() as first:
         expect("one", first.ask(creates("acme")), UNAVAILABLE)
-        time.sleep(0.1)
-        split.kill()
-        expect("its line", split.said, [
-            "pdpd: refused a message of acme: it asks for a change, and changes are taken at another address"])
+        expect("its line", split.said_of_message(),
+               "pdpd: refused a message of acme: it asks for a change, and changes are taken at another address")
 
 
 def unusable():

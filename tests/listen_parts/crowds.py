@@ -6,7 +6,6 @@ import time
 
 from checks import Between
 from serve_parts.shared import ASK, LIST, PERMIT, creates, listing, serving
-from serve_parts.streams import places_to_cut
 from serving import CREATED
 
 from .shared import PLACES, clients_of, expect, listening, percentile, timed, within
@@ -100,7 +99,7 @@ def resets():
     """Connections that are reset inside a message, and with replies under way: others go on."""
     with listening("resets") as served, served.client() as other:
         held = creates("beta")
-        for place in places_to_cut(held):
+        for place in range(len(held)):
             client = served.client()
             client.send(held[:place])
             client.close(reset=True)

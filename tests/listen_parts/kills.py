@@ -41,14 +41,14 @@ def killed(served, round_number, chance):
     return {name for answered, _ in made for name in answered}, {under_way for _, under_way in made}
 
 
-def under_writers():
-    """The program is killed under 64 writers, again and again over the same store."""
-    chance, kept, struck = random.Random(SEED), set(), 0
+def over_a_store(rounds, chance):
+    """So many kills over one store: how many domains it has at the end, and how many of them nobody was answered."""
+    kept, struck = set(), 0
     with room_in_memory() as room:
         path, token_file = os.path.join(room, "store.db"), os.path.join(room, "token")
         with open(token_file, "w", encoding="ascii") as text:
             text.write(f"{OPERATOR}\n")
-        for round_number in range(KILLS):
+        for round_number in rounds:
             with Served(PROGRAM, path, token_file) as served:
                 found = set(names(served))
                 expect(f"before kill {round_number}: what was answered isn't lost", kept - found, set())
@@ -60,5 +60,14 @@ def under_writers():
                 expect(f"kill {round_number}: what nobody asked for", found - kept - answered - under_way, set())
                 struck += len(found & under_way - answered)
                 kept = found
-    expect("some domains were made", bool(kept), True)
-    print(f"{KILLS} kills under {WRITERS} writers: {len(kept)} domains, of which {struck} were made and not answered")
+    return len(kept), struck
+
+
+def under_writers():
+    """The program is killed under 64 writers, again and again over the same store, and over a new one after each 100
+    kills, since each kill lists all domains twice."""
+    chance = random.Random(SEED)
+    stores = [over_a_store(range(first, min(first + 100, KILLS)), chance) for first in range(0, KILLS, 100)]
+    made, struck = map(sum, zip(*stores))
+    expect("some domains were made", made > 0, True)
+    print(f"{KILLS} kills under {WRITERS} writers: {made} domains, of which {struck} were made and not answered")

@@ -1,6 +1,8 @@
 """The last reply of a connection arrives, whatever its peer still sends."""
+import concurrent.futures
 import os
 import shutil
+import socket
 import subprocess
 import sys
 import time
@@ -9,7 +11,9 @@ from checks import Between
 from serve_parts.shared import ASK, PERMIT, PROGRAM, TOKEN_FILE, folder
 from serving import fault
 
-from .shared import checks, expect, listening, within
+from .addresses import At, client_of
+from .late import HERE, THERE, NoNetwork, apart, gone, late
+from .shared import checks, expect, listening, timed, within
 
 TOO_LARGE = fault("413 Payload Too Large", "BodyTooLarge")
 NO_CHUNKS = fault("501 Not Implemented", "TransferCoding")
@@ -82,3 +86,35 @@ def over_a_slow_network():
         return
     expect(f"replies of {OFTEN} that arrive behind 8 MB over a slow network", (ran.stdout, ran.stderr[-300:]),
            (f"{OFTEN}\n", ""))
+
+
+def asked_late(often):
+    """Of so many clients, four at once, over packets that come 20 ms late: what comes to each behind 8 MB, its port,
+    and after how many seconds all of it was acknowledged; and the ports that the program resets."""
+    port = 8080
+
+    def comes_behind():
+        with client_of(socket.AF_INET, (THERE, port)) as client:
+            found = reply_behind(client, LARGE, BEHIND), client.socket.getsockname()[1]
+            gone(client, 2)
+            return found
+    with late(0.02) as resets, At("late.db", f"{HERE}:{port}") as at, \
+            concurrent.futures.ThreadPoolExecutor(4) as clients:
+        came = list(clients.map(lambda _: timed(comes_behind), range(often))) if at.first_line else []
+        return came, {to for by, to in resets() if by == port}
+
+
+def over_late_packets():
+    """The same over a network in user space, which sees each packet: no client whose bytes have come soon is reset
+    within the two seconds of parting. What was reset may lose its reply, or read no more."""
+    try:
+        came, reset = apart(asked_late, OFTEN)
+    except NoNetwork as error:
+        print(f"{checks.name}: no packets can be delayed here (that takes root, ip and TUN): {error}: left out")
+        return
+    soon = {port for (_, port), seconds in came if seconds < 1}
+    expect(f"what comes to {OFTEN} behind 8 MB over late packets", [found for (found, _), _ in came],
+           [TOO_LARGE] * OFTEN)
+    expect("resets of those whose bytes have come within a second", reset & soon, set())
+    within("the seconds of the quickest", min((seconds for _, seconds in came), default=0), Between(0.08))
+    print(f"{len(came)} clients over late packets: {len(soon)} took less than a second, {len(reset)} were reset")

@@ -54,10 +54,13 @@ def slow():
     """64 connections that send a byte of a message now and then: each ends after PDPD_MESSAGE, and the next is served
     then; the bytes that come don't make it longer."""
     with listening("slow", PDPD_MESSAGE="2", PDPD_IDLE="30") as served, clients_of(served, PLACES) as clients:
+        # (one that has sent nothing for a tenth of a second makes room for the next)
+        for client in clients:
+            client.send(ASK[:1])
         began = time.monotonic()
         with served.client() as late:
             late.send(ASK)
-            ended = ended_within(clients, lambda place: ASK[place:place + 1] or b"x", 10)
+            ended = ended_within(clients, lambda place: ASK[place + 1:place + 2] or b"x", 10)
             expect("connections that ended", len(ended), PLACES)
             within("the least and the most seconds until one ended", min(ended.values()), Between(1.8, 6))
             within("the most", max(ended.values()), Between(1.8, 6))

@@ -4,15 +4,14 @@ Changes may have an address of their own: at the first one a message that asks f
 and the server doesn't learn of it; at the other one connection is served at a time, a place is kept for it, and it is
 never driven out.
 
-Peers say what they send and how many bytes they take at a write; every so many reads, writes and arrivals fail. Times
-are milliseconds of a timer that may stand, or go on each time that it is asked.
+Times are milliseconds.
 """
 from fronts import MOST_OPEN, Answer, Front
 from messages import Fault, Message
+from networks import PIECE, Blocked, Failed
 from replies import error_reply
 from routes import asks_for_change
 
-PIECE = 65_536
 # for how long a reply may be under way, in all and with fewer than LEAST_BYTES of it taken; what comes behind the last
 # one is dropped; one that owes nothing stays where all places are taken; a reactor that ends waits for the first byte
 # of a message; and for the rest of it, if no limit is set
@@ -21,70 +20,8 @@ UNAVAILABLE = error_reply("Unavailable")
 LEAST_BYTES, MOST_DROPPED, MOST_UNDER_WAY, MOST_FAILURES = 65_536, 67_108_864, 33_554_432, 1_000
 
 
-class Blocked(Exception):
-    """A call that would wait."""
-
-
-class Failed(Exception):
-    """A call that fails."""
-
-
 class Halt(Exception):
     """Why a reactor halts."""
-
-
-class Peer:
-    """The other end of a connection: what it sends, whether that is all, how much it takes at a write, and what it has
-    got."""
-
-    def __init__(self):
-        self.sends, self.has_ended, self.takes, self.got, self.is_parted = b"", False, None, b"", False
-
-
-class Network:
-    """Peers that wait at the door or sit at places, and calls of which every so many fail."""
-
-    def __init__(self):
-        self.peers, self.waiting, self.guest, self.seats = [], {False: [], True: []}, None, [None] * MOST_OPEN
-        self.every, self.counts, self.is_shut = {}, {"read": 0, "write": 0, "accept": 0}, False
-
-    def counted(self, kind):
-        """Counts a call, which may be one that fails."""
-        self.counts[kind] += 1
-        if self.every.get(kind) and self.counts[kind] % self.every[kind] == 0:
-            raise Failed
-
-    def arrive(self, at_changes=False):
-        self.peers.append(Peer())
-        if not self.is_shut:
-            self.waiting[at_changes].append(self.peers[-1])
-
-    def accept(self, at_changes=False):
-        """Whether one has come."""
-        if self.is_shut or not self.waiting[at_changes]:
-            return False
-        self.counted("accept")
-        self.guest = self.waiting[at_changes].pop(0)
-        return True
-
-    def receive(self, place):
-        """At most so many bytes as a piece has; none at the end."""
-        peer = self.seats[place]
-        self.counted("read")
-        if not peer.sends and not peer.has_ended:
-            raise Blocked
-        held, peer.sends = peer.sends[:PIECE], peer.sends[PIECE:]
-        return held
-
-    def send(self, place, held):
-        """How many of the bytes were taken."""
-        peer = self.seats[place]
-        self.counted("write")
-        if peer.takes == 0:
-            raise Blocked
-        count = min(len(held), len(held) if peer.takes is None else peer.takes)
-        peer.got += held[:count]
-        return count
 
 
 class Lane:
@@ -114,17 +51,6 @@ class Lane:
             return None
         found = max(0, limit - max(0, now - self.since))
         return min(found, max(0, SLOW - max(0, now - self.mark))) if self.stage == "Outgoing" else found
-
-
-class Timer:
-    """What tells the time, and each time so much more."""
-
-    def __init__(self):
-        self.now, self.step = 0, 0
-
-    def tell(self):
-        told, self.now = self.now, self.now + self.step
-        return told
 
 
 class Reactor:
@@ -397,104 +323,3 @@ class Reactor:
             goes |= self.share((self.first + offset) % MOST_OPEN)
         self.first = (self.first + 1) % MOST_OPEN
         return 0 if goes else self.rest(max(now, self.timer.tell()))
-
-
-# ---- rows
-
-class Schedule:
-    """What the fields of a row do, and what they answer."""
-
-    def __init__(self, server):
-        self.network, self.timer, self.told = Network(), Timer(), None
-        self.server, self.found = server, []
-        self.reactor, self.is_split = Reactor(server, self.network, self.timer), False
-
-    def limits(self, text):
-        idle, message = (int(word) or None for word in text.split(":"))
-        self.reactor = Reactor(self.server, self.network, self.timer, idle, message, self.is_split)
-
-    def split(self, _):
-        self.is_split = True
-        self.limits("30000:10000")
-
-    def arrive(self, text):
-        for _ in range(int(text)):
-            self.network.arrive()
-
-    def arrive_changes(self, text):
-        for _ in range(int(text)):
-            self.network.arrive(at_changes=True)
-
-    def peer(self, text):
-        number, _, what = text.partition(":")
-        return self.network.peers[int(number)], what
-
-    def comes(self, text):
-        peer, held = self.peer(text)
-        peer.sends += bytes.fromhex(held)
-
-    def ends(self, text):
-        self.peer(text)[0].has_ended = True
-
-    def takes(self, text):
-        peer, count = self.peer(text)
-        peer.takes = int(count)
-
-    def fails(self, text):
-        kind, every = text.split(":")
-        self.network.every[kind] = int(every)
-
-    def ready(self, text):
-        place, letters = text.split(":")
-        self.told = self.told or {}
-        self.told[int(place)] = [letter in letters for letter in "rwe"]
-
-    def time(self, text):
-        self.timer.now = int(text)
-
-    def passes(self, text):
-        self.timer.step = int(text)
-
-    def clock(self, text):
-        self.reactor.moment = int(text)
-
-    def no_clock(self, _):
-        self.reactor.moment = None
-
-    def end(self, _):
-        self.is_ending = True
-
-    def got(self, text):
-        self.found.append(f"got {self.network.peers[int(text)].got.hex()}")
-
-    def waits(self):
-        """What the network tells before a turn: what a row says, or what is so."""
-        for place, peer in enumerate(self.network.seats):
-            so = [bool(peer.sends) or peer.has_ended, peer.takes != 0, peer.has_ended] if peer else [False] * 3
-            self.reactor.note(place, *(so if self.told is None else self.told.get(place, [False] * 3)))
-        self.reactor.door = self.reactor.door or bool(self.network.waiting[False])
-        self.reactor.changes = self.reactor.changes or bool(self.network.waiting[True])
-        self.reactor.end = self.reactor.end or getattr(self, "is_ending", False)
-        self.told = None
-
-    def turn(self, _):
-        """A turn, with what was done in it."""
-        self.waits()
-        self.reactor.deeds, halted = [], None
-        try:
-            rest = self.reactor.turn()
-            how = "rests" if rest is None else f"rests {rest}"
-        except Halt as halt:
-            how = halted = f"halts {halt}"
-        self.found.append(" ".join(["turn", *self.reactor.deeds, how]))
-        return halted is None
-
-
-def schedule(line, server):
-    """The answer to a row."""
-    row = Schedule(server)
-    for field in line.split("\t"):
-        word, _, text = field.partition(":")
-        if getattr(row, word.replace("-", "_"))(text) is False:
-            break
-    return "".join(f"{field}\t" for field in row.found)

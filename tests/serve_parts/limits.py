@@ -1,8 +1,9 @@
 """The limits of one decision request: the bytes of its reply, its work, and the bytes of policies that are read."""
 import json
+import resource
 
 from checks import Between
-from sent import growing_policy, written
+from sent import growing_policy, rows_body, written
 from serving import CREATED, DONE, UNAVAILABLE, policy, reply
 
 from .shared import ASK, LIST, PERMIT, environment, expect, in_acme, listing, make_domain, serving, within
@@ -116,6 +117,30 @@ def limits_told():
     for name, value, reason in TOO_LOW:
         with serving(f"told-{name}.db", env=environment(**{name: str(value)})) as served:
             refusals_told(served, reason)
+
+
+def told_of(served, reason):
+    """The lines of a program that has refused one message of acme for that, once its connection has ended."""
+    expect("another connection", served.once(LIST), [listing(["acme"])])
+    served.kill()
+    expect(f"lines about {reason}", served.said.decode().splitlines(), [f"pdpd: refused a message of acme: {reason}"])
+
+
+def failures_told():
+    """And of one that is refused without memory, or since the storage fails, a line tells which of both it was."""
+    with serving("failures.db") as served:
+        make_domain(served)
+        served.once(in_acme("PUT pip", rows_body(520_000)))
+        with open(f"/proc/{served.process.pid}/statm") as held:
+            room = int(held.read().split()[0]) * resource.getpagesize()
+        resource.prlimit(served.process.pid, resource.RLIMIT_AS, (room, resource.RLIM_INFINITY))
+        expect("rows without memory for them", served.once(in_acme("GET pip")), [UNAVAILABLE])
+        told_of(served, "out of memory")
+    # Python ignores SIGXFSZ, and so the program does then
+    with serving("failures.db", restore_signals=False) as served:
+        resource.prlimit(served.process.pid, resource.RLIMIT_FSIZE, (1, resource.RLIM_INFINITY))
+        expect("a file that may not grow", served.once(in_acme("PUT pip", '{"Row":[]}')), [UNAVAILABLE])
+        told_of(served, "the storage failed")
 
 
 def much_asked(served, rules):

@@ -10,8 +10,8 @@ from serving import (
     policy, reply)
 
 from .shared import (
-    ASK, LIST, PERMIT, chance, creates, ends_well, expect, in_acme, listing, make_domain, replies_up_to_end, serving,
-    within)
+    ASK, LIST, MIB, PERMIT, chance, creates, ends_well, expect, in_acme, listing, make_domain, replies_up_to_end,
+    serving, within)
 
 
 def single_bytes():
@@ -212,6 +212,11 @@ def closing():
                replies_up_to_end(served, message("POST", "/domains/zeta/pdp", "acme-token-1", "{}") + ASK),
                UNAUTHORIZED + PERMIT)
         expect("what followed was dropped", served.once(LIST), [listing(["acme"])])
+        with served.client() as client:
+            expect("the last reply to one that stays", client.ask(ask_with("Connection: close")), PERMIT)
+            began = time.monotonic()
+            expect("the next", served.once(ASK), [PERMIT])
+            within("the seconds that it waits for the one that stays", time.monotonic() - began, Between(0, 1))
     for connections in (1, 3):
         with serving("closing.db", connections) as served:
             for _ in range(connections):
@@ -228,7 +233,7 @@ def closing():
 
 def parted():
     """The last reply arrives at one that sends 8 MB behind a fault before it reads; and one that sends on without an
-    end is left after two seconds."""
+    end is left after two seconds, or after 64 MiB and what the system holds."""
     large = b"POST /domains/acme/pdp HTTP/1.1\r\nContent-Length: 100000000\r\n\r\n"
     wanted = fault("413 Payload Too Large", "BodyTooLarge")
     with serving("parted.db") as served:
@@ -242,6 +247,10 @@ def parted():
             client.send(large)
             sends_on(client, (b"x" * 100 for _ in range(1_000) if not time.sleep(0.01)))
             within("the seconds until one that sends on was left", time.monotonic() - began, Between(1.5, 6))
+        with served.client() as client:
+            client.send(large)
+            within("the MiB that one sends as fast as it can until it is left", sends_on(client, [b"x" * MIB] * 1_000),
+                   Between(0, 96))
         expect("the next", served.once(LIST), [listing([])])
 
 

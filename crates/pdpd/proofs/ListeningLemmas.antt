@@ -12,7 +12,7 @@ use Rattle.xa_reactor.specs.Traffic.{Traffic}
 use Rattle.xa_reactor.specs.Turn.{no_lanes}
 use Rattle.xa_records.specs.Keeper.{Custody}
 use Rattle.xa_server.proofs.PlayLemmas.{none_played}
-use Rattle.xa_server.proofs.TurningLemmas.{beside_none}
+use Rattle.xa_server.proofs.TurningAwayLemmas.{beside_none}
 use Rattle.xa_server.specs.declared.front.Front.{Front}
 use Rattle.xa_server.specs.Front.{front_is_clean, front_is_open, front_is_sound, front_state}
 use Rattle.xa_server.specs.Lines.{none_open}

@@ -32,8 +32,8 @@ abbrev pub at_clock : {R : Type 0} → Front R → Option (List (Option ℤ)) �
 at_clock front told = record { front = front; told = told }
 
 module _ {R : Type 0} (custody : R → Custody) where
-  -- a connection, of which nothing had come, was driven to its end beside a front of which none is open. `known_old`
-  -- and `known_new` are what is known of its reader, its writer and the clock
+  -- a connection, of which nothing had come, was driven to its end by the server of a front that has none open.
+  -- `known_old` and `known_new` are what is known of its reader, its writer and the clock
   pub record IsConnectionServed (end : DriveEnd) (old new : Front R) (known_old known_new : Known) : Type 0 where
     pub after : Stream
     pub is_driven : IsDrivenWithin custody 1_000_000 end

@@ -3,8 +3,7 @@ use Rattle.std.specs.Prelude.{List}
 use Rattle.xa_records.specs.Keeper.{Custody}
 use Rattle.xa_server.specs.declared.replies.Reply.{Reply}
 use Rattle.xa_server.specs.Alone.{Event}
-use Rattle.xa_server.specs.Connection.{IsOneRun}
-use Rattle.xa_server.specs.Serving.{AreServed}
+use Rattle.xa_server.specs.Serving.{AreServed, IsOneRun}
 use Rattle.xa_server.specs.World.{ServerModel, server_state}
 
 -- messages are one run of the server if its keeper is sound at the end, and each domain's replies in it are those of

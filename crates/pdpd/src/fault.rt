@@ -99,7 +99,7 @@ impl DoorFault {
         }
     }
 
-    /// What to do about it: what is done at any address.
+    /// What to do about it, which is the same at any address.
     fn advice(self) -> &'static str {
         match self {
             DoorFault::Place =>

@@ -105,7 +105,8 @@ impl<'a> Deciding<'a> {
         })
     }
 
-    /// The results of individual requests, as long as these may stand in the response.
+    /// The results of individual requests. Fails with `OverLimit::Results` once the bytes that are counted
+    /// for those so far are more than the response may have.
     fn results_of(
         &self,
         alloc: Global,

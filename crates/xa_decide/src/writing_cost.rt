@@ -86,8 +86,8 @@ impl WritingCost {
         cost
     }
 
-    /// What it costs to write the values of a bag. If these are of one size, none but the first is looked
-    /// at, and their commas are counted.
+    /// What it costs to write the values of a bag. If these are of one size, none but the first is looked at,
+    /// and of their bytes the commas alone are counted.
     #[tactic(auto, using(xa_profile::proofs::LengthLemmas::values_take, xa_profile::proofs::LengthLemmas::commas_of_values))]
     pub(crate) fn of_bag(bag: &Bag) -> WritingCost
         ensures { result.bytes ≤ bytes_of (values_data bag.now.values) }

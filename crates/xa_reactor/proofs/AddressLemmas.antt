@@ -4,8 +4,8 @@ use Rattle.std.specs.Prelude.{slice_set}
 use Rattle.xa_records.specs.Keeper.{Custody}
 use Rattle.xa_server.specs.declared.front.Front.{Front}
 use Rattle.xa_server.specs.Front.{IsPlayed}
-use Rattle.xa_server.specs.Turning.{Handling, IsPlayedBeside, serves, serves_unchanging, turns_away}
-use Rattle.xa_server.proofs.TurningLemmas.{NoneAway, plays_all}
+use Rattle.xa_server.specs.TurningAway.{Handling, IsPlayedBeside, serves, serves_unchanging, turns_away}
+use Rattle.xa_server.proofs.TurningAwayLemmas.{NoneAway, plays_all}
 use Rattle.xa_reactor.specs.declared.access.Access.{Access}
 use Rattle.xa_reactor.specs.declared.access.Access.TheVariants.{All}
 use Rattle.xa_reactor.specs.declared.lane.Lane.{Lane}

@@ -5,7 +5,7 @@ use Rattle.xa_records.specs.Keeper.{Custody}
 use Rattle.xa_server.specs.declared.event.Event.{Event}
 use Rattle.xa_server.specs.declared.event.Outcome.{Outcome}
 use Rattle.xa_server.specs.declared.front.Front.{Front}
-use Rattle.xa_server.specs.Turning.{Handling}
+use Rattle.xa_server.specs.TurningAway.{Handling}
 use Rattle.xa_reactor.specs.Step.{Calls, Works, joined}
 use Rattle.xa_reactor.specs.Traffic.{Traffic}
 use Rattle.xa_reactor.specs.Turn.{AreDone, Deed, FitAll, IsDone, Lanes, calls_in, calls_of, closes, opens, steps, traffic_in, traffic_of}
@@ -47,7 +47,7 @@ fit_on split (opens conn access ∷ deeds) more (fits, fit) later = (fits, fit_o
 fit_on split (steps step ∷ deeds) more fit later = fit_on split deeds more fit later
 fit_on split (closes conn reason ∷ deeds) more fit later = fit_on split deeds more fit later
 
--- nobody does
+-- deeds that open nobody fit at one address and at two
 pub none_fit : (split : Bool) (deeds : List Deed) → OpensNone deeds → FitAll split deeds
 none_fit split [] none = tt
 none_fit split (opens conn access ∷ deeds) absent = absurd absent

@@ -1,5 +1,5 @@
 -- What is done for one connection in its share, call after call.
-use Rattle.std.proofs.Common.{◌≡◌, ◌≢◌, ◌<◌, ◌≤◌, ◌+◌, ◌⊎◌, inl, inr, ℕ, Bool, true, IsTrue, List, [], ◌∷◌, ◌++◌, length, Option, Some, None, Result, Ok, Err, refl, sym, ap, subst, ◌∙◌, arith}
+use Rattle.std.proofs.Common.{◌≡◌, ◌≢◌, ◌<◌, ◌≤◌, ◌+◌, ◌⊎◌, inl, inr, ℕ, Bool, true, IsTrue, List, [], ◌∷◌, ◌++◌, length, Option, Some, None, Result, Ok, Err, refl, sym, ap, subst, ◌∙◌, arith, length-append}
 use Rattle.std.specs.Duration.{as_nanos}
 use Rattle.std.specs.declared.io.Error.{Error}
 use Rattle.std.specs.declared.io.ErrorKind.{ErrorKind}
@@ -9,7 +9,7 @@ use Rattle.std.specs.Prelude.{not, false}
 use Rattle.std.proofs.lemmas.List.{append-nil, append_assoc}
 use Rattle.std.proofs.lemmas.List.Elements.{Contains-append_left, Contains-append_right}
 use Rattle.xa_records.specs.Keeper.{Custody}
-use Rattle.xa_server.specs.declared.event.Answer.{Answer}
+use Rattle.xa_server.specs.declared.connection.Answer.{Answer}
 use Rattle.xa_server.specs.declared.front.Front.{Front}
 use Rattle.xa_server.specs.declared.lines.Conn.{Conn}
 use Rattle.xa_server.specs.Transfers.{Grows}
@@ -129,6 +129,13 @@ finish_incoming a place s is = subst (λ (x : Stage). Grows a a (finish_by place
 pub finish_outgoing : (a : Option (List Traffic)) (place : ℕ) (s : Stage) → s ≡ stage.Outgoing → Grows a a (finish_by place s)
 finish_outgoing a place s is = subst (λ (x : Stage). Grows a a (finish_by place x)) (sym is) (grows_none a)
 
+-- nothing, if it isn't parted with
+pub finish_other : (a : Option (List Traffic)) (place : ℕ) (s : Stage) → s ≢ stage.Parting → Grows a a (finish_by place s)
+finish_other a place stage.Quiet other = grows_none a
+finish_other a place stage.Incoming other = grows_none a
+finish_other a place stage.Outgoing other = grows_none a
+finish_other a place stage.Parting other = absurd (other refl)
+
 pub finish_parting : (a b : Option (List Traffic)) (place : ℕ) (s : Stage) → s ≡ stage.Parting → Grows a b (finished place ∷ []) → Grows a b (finish_by place s)
 finish_parting a b place s is grows = subst (λ (x : Stage). Grows a b (finish_by place x)) (sym is) grows
 
@@ -149,17 +156,18 @@ sent_in_time now old mid new under_way is whole first (inl later) = inl (stays_o
 sent_in_time now old mid new under_way is whole first (inr (other, since)) = inr (under_way, whole, is, other, since)
 
 -- a write, and a read behind it
-kept_time : (now : ℕ) (old mid new : Lane) → SendsInTime now old mid → ReadsInTime now mid new → KeepsTime now None old new
-kept_time now old mid new (inl first) (inl later) = inl (stays_on old mid new first later.0)
-kept_time now old mid new (inl first) (inr (quiet, incoming, since)) = inr (since, inr (inr (sym first.0 ∙ quiet, incoming)))
-kept_time now old mid new (inr (under_way, whole, outgoing, other, since)) (inl later) = inr (ap as_nanos later.0.1 ∙ since, inr (inl (outgoing, λ is. other (sym later.0.0 ∙ is))))
-kept_time now old mid new (inr (under_way, whole, outgoing, other, was)) (inr (quiet, incoming, since)) = inr (since, inr (inl (outgoing, apart))) where
+kept_time : (now : ℕ) (old mid new : Lane) → new.outgoing ≡ mid.outgoing → SendsInTime now old mid → ReadsInTime now mid new → KeepsTime now None old new
+kept_time now old mid new kept (inl first) (inl later) = inl (stays_on old mid new first later.0)
+kept_time now old mid new kept (inl first) (inr (quiet, incoming, since)) = inr (since, inr (inr (sym first.0 ∙ quiet, incoming)))
+kept_time now old mid new kept (inr (under_way, whole, outgoing, other, since)) (inl later) =
+    inr (ap as_nanos later.0.1 ∙ since, inr (inl (outgoing, (λ is. other (sym later.0.0 ∙ is)), ap (λ (u : UnderWay). u.left) kept ∙ whole)))
+kept_time now old mid new kept (inr (under_way, whole, outgoing, other, was)) (inr (quiet, incoming, since)) = inr (since, inr (inl (outgoing, apart, ap (λ (u : UnderWay). u.left) kept ∙ whole))) where
   apart : new.stage ≡ stage.Outgoing → ⊥
   apart is = let e : stage.Incoming ≡ stage.Outgoing = sym incoming ∙ is in cc
 
 -- a write alone
 sends_keep_time : (now : ℕ) (old new : Lane) → SendsInTime now old new → KeepsTime now None old new
-sends_keep_time now old new sends = kept_time now old new new sends (inl (stays_same new, inr (marked_same new)))
+sends_keep_time now old new sends = kept_time now old new new refl sends (inl (stays_same new, inr (marked_same new)))
 
 -- one that was parted with stays so
 still_parted : (now : ℕ) (old mid : Lane) → old.stage ≡ stage.Parting → SendsInTime now old mid → mid.stage ≡ stage.Parting
@@ -179,7 +187,7 @@ marks_same now count other old new is marks = subst (λ (n : ℕ). MarksAt now n
 -- nothing is counted behind it
 marks_still : (now sent : ℕ) (old mid new : Lane) → MarksAt now sent old mid → StaysMarked mid new → MarksAt now sent old new
 marks_still now sent old mid new (inl (mark, moved)) (same, as_many) = inl (same ∙ mark, omega (arith, moved, as_many))
-marks_still now sent old mid new (inr (mark, enough)) (same, as_many) = inr (ap as_nanos same ∙ mark, enough)
+marks_still now sent old mid new (inr (mark, enough, none)) (same, as_many) = inr (ap as_nanos same ∙ mark, enough, as_many ∙ none)
 
 -- a read behind a write counts none, where a reply is under way behind it
 read_unmarked : (now : ℕ) (old new : Lane) → ReadsInTime now old new → new.stage ≡ stage.Outgoing → (old.stage ≡ stage.Outgoing) × StaysMarked old new
@@ -209,17 +217,15 @@ reads_part_with now old new (inr (quiet, incoming, since)) parts = let e : stage
 -- by a write, and a read behind it
 parts_behind : {R N : Type 0} {custody : R → Custody} {done : N → Option (List Traffic)} {share : Share} (old mid new : Lane) {first last : Progress} {front_old front_new : Front R}
     {network_old network_mid network_new : N} → Sends done share first old mid network_old network_mid → Reads custody done share last mid new front_old front_new network_mid network_new → new.stage ≡ stage.Parting
-    → (old.stage ≡ stage.Parting) ⊎ ((new.outgoing.left ≡ []) × (old.outgoing.left ≢ []) × PartsFor old.outgoing.last share.parts new)
-parts_behind {share = share} old mid new sends reads parts = over (sends_part_with (as_nanos share.now) (PartsFor old.outgoing.last share.parts mid) old mid sends.time sends.parts was) where
+    → (old.stage ≡ stage.Parting) ⊎ ((new.outgoing.left ≡ []) × (old.outgoing.left ≢ []) × PartsFor old.outgoing.last share.parts)
+parts_behind {share = share} old mid new sends reads parts = over (sends_part_with (as_nanos share.now) (PartsFor old.outgoing.last share.parts) old mid sends.time sends.parts was) where
   was : mid.stage ≡ stage.Parting
   was = reads_part_with (as_nanos share.now) mid new reads.time parts
 
-  over : (old.stage ≡ stage.Parting) ⊎ ((mid.outgoing.left ≡ []) × (old.outgoing.left ≢ []) × PartsFor old.outgoing.last share.parts mid)
-      → (old.stage ≡ stage.Parting) ⊎ ((new.outgoing.left ≡ []) × (old.outgoing.left ≢ []) × PartsFor old.outgoing.last share.parts new)
+  over : (old.stage ≡ stage.Parting) ⊎ ((mid.outgoing.left ≡ []) × (old.outgoing.left ≢ []) × PartsFor old.outgoing.last share.parts)
+      → (old.stage ≡ stage.Parting) ⊎ ((new.outgoing.left ≡ []) × (old.outgoing.left ≢ []) × PartsFor old.outgoing.last share.parts)
   over (inl is) = inl is
-  over (inr (whole, some, inl last)) = inr (ap (λ (u : UnderWay). u.left) reads.kept ∙ whole, some, inl last)
-  over (inr (whole, some, inr (inl ends))) = inr (ap (λ (u : UnderWay). u.left) reads.kept ∙ whole, some, inr (inl ends))
-  over (inr (whole, some, inr (inr ended))) = inr (ap (λ (u : UnderWay). u.left) reads.kept ∙ whole, some, inr (inr (reads.unlooked was ∙ ended)))
+  over (inr (whole, some, why)) = inr (ap (λ (u : UnderWay). u.left) reads.kept ∙ whole, some, why)
 
 -- by an answer, and a write behind it
 answered_parts : (now : ℕ) (answer : Answer) (why : Type 0) (old mid new : Lane) → mid.stage ≡ stage.Outgoing → SendsInTime now mid new
@@ -231,14 +237,14 @@ answered_parts now answer why old mid new begins sends because parts = over (sen
   over (inr (whole, some, is)) = inr (whole, λ none. absurd cc, is)
 
 -- by a share, in which no message was answered
-read_parts : (step : Step) (old new : Lane) → step.answer ≡ None → (old.stage ≡ stage.Parting) ⊎ ((new.outgoing.left ≡ []) × (old.outgoing.left ≢ []) × PartsFor old.outgoing.last step.parts new)
+read_parts : (step : Step) (old new : Lane) → step.answer ≡ None → (old.stage ≡ stage.Parting) ⊎ ((new.outgoing.left ≡ []) × (old.outgoing.left ≢ []) × PartsFor old.outgoing.last step.parts)
     → (old.stage ≡ stage.Parting) ⊎ PartsBehind step old.outgoing new
 read_parts step old new none (inl was) = inl was
 read_parts step old new none (inr (whole, some, why)) =
     inr (record {
       whole = whole;
       reply = inl some;
-      why = subst (λ (answer : Option Answer). PartsFor (then_under_way old.outgoing answer).last step.parts new) (sym none) why;
+      why = subst (λ (answer : Option Answer). PartsFor (then_under_way old.outgoing answer).last step.parts) (sym none) why;
     })
 
 -- by one in which one was
@@ -246,11 +252,11 @@ last_of : (was : UnderWay) (answer : Option Answer) → answer ≢ None → is_l
 last_of was None some = absurd (some refl)
 last_of was (Some answer) some = refl
 
-all_parts : (step : Step) (old mid new : Lane) → mid.stage ≢ stage.Parting → (mid.stage ≡ stage.Parting) ⊎ ((new.outgoing.left ≡ []) × (step.answer ≢ None) × PartsFor (is_last step.answer) step.parts new)
+all_parts : (step : Step) (old mid new : Lane) → mid.stage ≢ stage.Parting → (mid.stage ≡ stage.Parting) ⊎ ((new.outgoing.left ≡ []) × (step.answer ≢ None) × PartsFor (is_last step.answer) step.parts)
     → (old.stage ≡ stage.Parting) ⊎ PartsBehind step old.outgoing new
 all_parts step old mid new other (inl was) = absurd (other was)
 all_parts step old mid new other (inr (whole, some, why)) =
-    inr (record { whole = whole; reply = inr some; why = subst (λ (last : Bool). PartsFor last step.parts new) (last_of old.outgoing step.answer some) why })
+    inr (record { whole = whole; reply = inr some; why = subst (λ (last : Bool). PartsFor last step.parts) (last_of old.outgoing step.answer some) why })
 
 -- ---- what is held
 
@@ -271,20 +277,21 @@ unfolding at_of
 at_later None now first later one other = one
 at_later (Some answer) now first later one other = omega (arith, one, other)
 
-step_keeps_time : (first later : ℕ) (answer : Option Answer) (old mid new : Lane) → KeepsTime first None old mid → AnswersInTime later answer mid new → KeepsTime (at_of answer first later) answer old new
+step_keeps_time : (first later part : ℕ) (answer : Option Answer) (old mid new : Lane) → KeepsTime first None old mid → AnswersInTime later part answer mid new → KeepsTime (at_of answer first later) answer old new
 unfolding at_of
-step_keeps_time first later None old mid new kept same = subst (λ (l : Lane). KeepsTime first None old l) (sym same) (alike kept) where
+step_keeps_time first later part None old mid new kept same = subst (λ (l : Lane). KeepsTime first None old l) (sym same) (alike kept) where
   alike : KeepsTime first None old mid → KeepsTime first None old (record mid { holding = new.holding })
   alike is = is
-step_keeps_time first later (Some answer) old mid new kept (since, mark) = inr (since, inl (λ none. absurd cc))
+step_keeps_time first later part (Some answer) old mid new kept (since, mark) = inr (since, inl (λ none. absurd cc))
 
-step_keeps_mark : (first later before sent : ℕ) (answer : Option Answer) (old mid new : Lane) → (mid.stage ≡ stage.Outgoing → MarksAt first before old mid) → AnswersInTime later answer mid new
-    → (answer ≡ None → before ≡ sent) → new.stage ≡ stage.Outgoing → KeepsMark (at_of answer first later) sent answer old new
+step_keeps_mark : (first later before part sent : ℕ) (answer : Option Answer) (old mid new : Lane) → (mid.stage ≡ stage.Outgoing → MarksAt first before old mid) → AnswersInTime later part answer mid new
+    → part ≤ sent → (answer ≡ None → before ≡ sent) → new.stage ≡ stage.Outgoing → KeepsMark (at_of answer first later) sent answer old new
 unfolding at_of
-step_keeps_mark first later before sent None old mid new marks same alike is =
+step_keeps_mark first later before part sent None old mid new marks same within alike is =
     marks_same first before sent old new (alike refl)
     (marks_still first before old mid new (marks (sym (ap (λ (l : Lane). l.stage) same) ∙ is)) (ap (λ (l : Lane). l.mark) same, ap (λ (l : Lane). l.moved) same))
-step_keeps_mark first later before sent (Some answer) old mid new marks (since, mark) alike is = mark is
+step_keeps_mark first later before part sent (Some answer) old mid new marks (since, mark) within alike is =
+    let moved : new.moved ≤ part = (mark is).1 in ((mark is).0, omega (arith, moved, within))
 
 -- ---- a write
 
@@ -329,7 +336,7 @@ module _ {N : Type 0} (done : N → Option (List Traffic)) (share : Share) where
   pub sends_end : (first last : Progress) (old mid new : Lane) (network_old network_mid network_new : N) → Writes done share first old mid network_old network_mid
       → 0 < length old.outgoing.left → old.stage ≡ stage.Outgoing → mid.outgoing.left ≡ [] → new.outgoing ≡ none_under_way
       → Grows (done network_mid) (done network_new) (finish_by share.conn.number new.stage) → EndsReply (as_nanos share.now) mid new
-      → (new.stage ≡ stage.Parting → PartsFor mid.outgoing.last share.parts new) → IsEnd share.conn.number [] new last → Sends done share last old new network_old network_new
+      → (new.stage ≡ stage.Parting → PartsFor mid.outgoing.last share.parts) → IsEnd share.conn.number [] new last → Sends done share last old new network_old network_new
   sends_end first last old mid new network_old network_mid network_new writes under_way outgoing whole none finishes time parts ends =
       let place = share.conn.number in
       let sent = writes.sent.traffic in
@@ -347,7 +354,7 @@ module _ {N : Type 0} (done : N → Option (List Traffic)) (share : Share) where
             writes.sent.balance ∙ ap (λ (l : List ℕ). sent_at place sent ++ l) (whole ∙ sym nothing)
             ∙ ap (λ (l : List ℕ). l ++ new.outgoing.left) (sym all);
         held = inr none;
-        parts = λ is. inr (subst (λ (last : Bool). PartsFor last share.parts new) writes.sent.last (parts is));
+        parts = λ is. inr (subst (λ (last : Bool). PartsFor last share.parts) writes.sent.last (parts is));
         time = sent_in_time (as_nanos share.now) old mid new under_way outgoing nothing writes.stays time;
         marks = λ is.
             marks_same (as_nanos share.now) (count_of writes.how) _ old new (writes.sent.counted ∙ ap length (sym all))
@@ -376,7 +383,6 @@ module _ {R : Type 0} (custody : R → Custody) where
       lasts = subst (λ (f : Front R). Lasts share.conn front_old.lines f.lines) (sym same) feeds.lasts;
     };
     parted = λ parts. absurd (other parts);
-    unlooked = λ parts. absurd (other parts);
     kept = kept;
     time = time;
     ends = ends;
@@ -389,12 +395,11 @@ module _ {R : Type 0} (custody : R → Custody) where
     ends_parting progress place lane parts (inr ended) = subst (λ (p : Progress). IsEnd place [] lane p) (sym ended) (inr parts)
 
     -- it was dropped
-    pub takes_dropped : (share : Share) (progress : Progress) (piece : List ℕ) (old new : Lane) (front : Front R) → old.stage ≡ stage.Parting → new.outgoing ≡ old.outgoing → new.holding ≡ old.holding
+    pub takes_dropped : (share : Share) (progress : Progress) (piece : List ℕ) (old new : Lane) (front : Front R) → old.stage ≡ stage.Parting → new.outgoing ≡ old.outgoing
         → StaysInStage old new → (progress ≡ Goes) ⊎ (progress ≡ Ends reason.Ended) → Takes custody share progress piece old new front front
-    takes_dropped share progress piece old new front parts kept unlooked stays ends = record {
+    takes_dropped share progress piece old new front parts kept stays ends = record {
       feeds = fed_none custody is_open share.conn piece front;
       parted = λ _. refl;
-      unlooked = λ _. unlooked;
       kept = kept;
       time = inl (stays, inl parts);
       ends = ends_parting progress share.conn.number new (stays.0 ∙ parts) ends;
@@ -413,7 +418,6 @@ module _ {R : Type 0} (custody : R → Custody) where
         received = refl;
         feeds = fed_none custody is_open share.conn [] front;
         parted = λ _. refl;
-        unlooked = λ _. refl;
         kept = refl;
         time = inl (stays_same lane, inr (marked_same lane));
         ends = λ _. ends;
@@ -433,7 +437,6 @@ module _ {R : Type 0} (custody : R → Custody) where
         received = refl;
         feeds = fed_none custody is_open share.conn [] front;
         parted = λ _. refl;
-        unlooked = λ _. refl;
         kept = refl;
         time = inl (stays_same lane, inr (marked_same lane));
         ends = λ _. ends;
@@ -452,7 +455,6 @@ module _ {R : Type 0} (custody : R → Custody) where
         received = received_here share.conn.number [];
         feeds = fed_none custody is_open share.conn [] front;
         parted = λ _. refl;
-        unlooked = λ _. refl;
         kept = refl;
         time = inl (stays_same lane, inr (marked_same lane));
         ends = λ whole. inl ((0, omega arith, refl), whole);
@@ -472,7 +474,6 @@ module _ {R : Type 0} (custody : R → Custody) where
     received = received_here share.conn.number given ∙ same;
     feeds = takes.feeds;
     parted = takes.parted;
-    unlooked = takes.unlooked;
     kept = takes.kept;
     time = takes.time;
     ends = λ _. ends_with progress share.conn.number (received share.conn.number given ∷ []) new takes.ends;
@@ -545,7 +546,7 @@ module _ {R N : Type 0} (custody : R → Custody) (done : N → Option (List Tra
             ∙ ap (λ (l : List ℕ). l ++ new.outgoing.left) (sym all);
         held = subst (λ (u : UnderWay). IsHeldOn old.outgoing u) (sym reads.kept) sends.held;
         parts = λ parts. parts_behind old mid new sends reads parts;
-        time = kept_time (as_nanos share.now) old mid new sends.time reads.time;
+        time = kept_time (as_nanos share.now) old mid new reads.kept sends.time reads.time;
         marks = λ is.
             let unmarked = read_unmarked (as_nanos share.now) mid new reads.time is in
             marks_same (as_nanos share.now) (length (sent_at place sends.traffic)) _ old new (ap length (sym all))
@@ -568,7 +569,7 @@ module _ {R N : Type 0} (custody : R → Custody) (done : N → Option (List Tra
     parted = λ _. (none_fed custody is_open share.conn front_old front_new same).1;
     balance = sends.balance;
     held = sends.held;
-    parts = λ parts. sends_part_with (as_nanos share.now) (PartsFor old.outgoing.last share.parts new) old new sends.time sends.parts parts;
+    parts = λ parts. sends_part_with (as_nanos share.now) (PartsFor old.outgoing.last share.parts) old new sends.time sends.parts parts;
     time = sends_keep_time (as_nanos share.now) old new sends.time;
     marks = sends.marks;
     ends = sends.ends;
@@ -598,7 +599,7 @@ module _ {R N : Type 0} (custody : R → Custody) (done : N → Option (List Tra
     ends = ends [] (ended share.conn.number);
     grows = grows_none (done network);
   }
-  answered_none result taken at (Some answer) old new front_old front_new network later asks whole (goes, reply, begins, since, mark) not_so ends = absurd (not_so goes)
+  answered_none result taken at (Some answer) old new front_old front_new network later asks whole (goes, reply, begins, since, mark, fresh) not_so ends = absurd (not_so goes)
 
   -- nothing was asked for
   pub answered_broken : (halt : Halt) (lane : Lane) (front_old front_new : Front R) (network : N) → Asks custody share.conn (AreHandledBy share.access) None front_old front_new → lane.outgoing.left ≡ []
@@ -622,7 +623,12 @@ module _ {R N : Type 0} (custody : R → Custody) (done : N → Option (List Tra
   -- there was one, and a part of its reply was sent, at a later time
   marked_later : (now sent : ℕ) (mid new : Lane) → as_nanos mid.mark ≡ now → MarksAt now sent mid new → as_nanos new.mark ≡ now
   marked_later now sent mid new mark (inl (same, moved)) = ap as_nanos same ∙ mark
-  marked_later now sent mid new mark (inr (anew, enough)) = anew
+  marked_later now sent mid new mark (inr (anew, enough, none)) = anew
+
+  -- no more of it is counted than was sent
+  moved_later : (now sent : ℕ) (mid new : Lane) → mid.moved ≡ 0 → MarksAt now sent mid new → new.moved ≤ sent
+  moved_later now sent mid new fresh (inl (same, moved)) = omega (arith, fresh, moved)
+  moved_later now sent mid new fresh (inr (anew, enough, none)) = omega (arith, none)
 
   since_later : (now : ℕ) (mid new : Lane) → as_nanos mid.since ≡ now → SendsInTime now mid new → as_nanos new.since ≡ now
   since_later now mid new since (inl stays) = ap as_nanos stays.1 ∙ since
@@ -634,7 +640,7 @@ module _ {R N : Type 0} (custody : R → Custody) (done : N → Option (List Tra
       → ((xs : List Traffic) → IsEnd share.conn.number xs new sent → EndsAs share.conn.number xs new result)
       → AnswersAndSends custody done share result old new front_old front_new network_old network_new
   answered_and_sent result taken sent after None old mid new front_old front_mid front_new network_old network_new is later asks (other, same, ended) goes sends front ends = absurd (other goes)
-  answered_and_sent result taken sent after (Some answer) old mid new front_old front_mid front_new network_old network_new is later asks (goes, reply, begins, since, mark) so sends front ends =
+  answered_and_sent result taken sent after (Some answer) old mid new front_old front_mid front_new network_old network_new is later asks (goes, reply, begins, since, mark, fresh) so sends front ends =
       let here : Sends done (record share { now = after.now }) sent mid new network_old network_new = subst (λ (s : Share). Sends done s sent mid new network_old network_new) is sends in
       record {
         at = as_nanos after.now;
@@ -647,9 +653,9 @@ module _ {R N : Type 0} (custody : R → Custody) (done : N → Option (List Tra
         balance = sym (ap (λ (u : UnderWay). u.left) reply) ∙ here.balance;
         held = subst (λ (u : UnderWay). IsHeldOn u new.outgoing) reply here.held;
         parts = λ parts.
-            subst (λ (u : UnderWay). (old.stage ≡ stage.Parting) ⊎ ((new.outgoing.left ≡ []) × (Some answer ≢ None) × PartsFor u.last share.parts new)) reply
-            (answered_parts (as_nanos after.now) answer (PartsFor mid.outgoing.last share.parts new) old mid new begins here.time here.parts parts);
-        time = (since_later (as_nanos after.now) mid new since here.time, λ outgoing. marked_later (as_nanos after.now) _ mid new mark (here.marks outgoing));
+            subst (λ (u : UnderWay). (old.stage ≡ stage.Parting) ⊎ ((new.outgoing.left ≡ []) × (Some answer ≢ None) × PartsFor u.last share.parts)) reply
+            (answered_parts (as_nanos after.now) answer (PartsFor mid.outgoing.last share.parts) old mid new begins here.time here.parts parts);
+        time = (since_later (as_nanos after.now) mid new since here.time, λ outgoing. (marked_later (as_nanos after.now) _ mid new mark (here.marks outgoing), moved_later (as_nanos after.now) _ mid new fresh (here.marks outgoing)));
         ends = ends here.traffic here.ends;
         grows = here.grows;
       }
@@ -725,6 +731,10 @@ module _ {R N : Type 0} (custody : R → Custody) (done : N → Option (List Tra
     none_more None first (byte ∷ part) left balance is = let e : [] ≡ byte ∷ (part ++ left) = balance in absurd cc
     none_more (Some answer) first part left balance is = absurd cc
 
+    -- a part is no longer than the whole
+    no_more : (first part whole : List ℕ) → whole ≡ first ++ part → length part ≤ length whole
+    no_more first part whole is = let sum : length whole ≡ length first + length part = ap length is ∙ length-append first part in omega (arith, sum)
+
     -- its next message was answered, if it was
     pub shared_all : (last : Progress) (result : Result Progress Halt) (old mid new : Lane) (front_old front_mid front_new : Front R) (network_old network_mid network_new : N)
         → SendsAndReads custody done share last old mid front_old front_mid network_old network_mid → IsGoing last → (mid.outgoing.left ≡ []) × (mid.stage ≢ stage.Parting)
@@ -766,10 +776,11 @@ module _ {R N : Type 0} (custody : R → Custody) (done : N → Option (List Tra
                 );
             parted = reads.parted;
             parts = λ is. all_parts _ old mid new other (answers.parts is);
-            time = step_keeps_time (as_nanos share.now) answers.at answers.answer old mid new reads.time answers.time;
+            time = step_keeps_time (as_nanos share.now) answers.at (length (sent_at place answers.traffic)) answers.answer old mid new reads.time answers.time;
             marks =
-                step_keeps_mark (as_nanos share.now) answers.at (length (sent_at place reads.traffic)) (length (sent_at place (reads.traffic ++ answers.traffic))) answers.answer old mid new
-                reads.marks answers.time
+                step_keeps_mark (as_nanos share.now) answers.at (length (sent_at place reads.traffic)) (length (sent_at place answers.traffic)) (length (sent_at place (reads.traffic ++ answers.traffic))) answers.answer
+                old mid new reads.marks answers.time
+                (no_more (sent_at place reads.traffic) (sent_at place answers.traffic) (sent_at place (reads.traffic ++ answers.traffic)) all)
                 (λ none. none_more answers.answer (sent_at place reads.traffic) (sent_at place answers.traffic) new.outgoing.left answers.balance none ∙ ap length (sym all));
             there = at_on place reads.traffic answers.traffic reads.there answers.there;
           };

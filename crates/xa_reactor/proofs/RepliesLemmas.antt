@@ -12,7 +12,7 @@ use Rattle.xa_http.specs.Messages.{IsNext}
 use Rattle.xa_http.specs.Stream.{Stream}
 use Rattle.xa_server.specs.Connection.{IsGiven, answer_after, answer_of}
 use Rattle.xa_server.specs.declared.connection.Answered.{Answered}
-use Rattle.xa_server.specs.declared.event.Answer.{Answer}
+use Rattle.xa_server.specs.declared.connection.Answer.{Answer}
 use Rattle.xa_server.specs.declared.event.Event.{Event}
 use Rattle.xa_server.specs.declared.event.Event.TheVariants as event
 use Rattle.xa_server.specs.declared.event.Outcome.{Outcome}

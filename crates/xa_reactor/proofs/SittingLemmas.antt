@@ -9,7 +9,7 @@ use Rattle.xa_http.specs.declared.session.Next.{Next}
 use Rattle.xa_http.specs.Laws.{Step as Made, answers, bytes_fed, feeds}
 use Rattle.xa_http.specs.Messages.{Cuts}
 use Rattle.xa_http.specs.Stream.{fed}
-use Rattle.xa_server.specs.declared.event.Answer.{Answer}
+use Rattle.xa_server.specs.declared.connection.Answer.{Answer}
 use Rattle.xa_server.specs.declared.event.Event.{Event}
 use Rattle.xa_server.specs.declared.event.Event.TheVariants as event
 use Rattle.xa_server.specs.declared.event.Outcome.{Outcome}

@@ -1,31 +1,31 @@
 -- What one call of a front does for a connection, and what goes over a network one after another.
 use denote.Ref.{Bor}
 use Rattle.std.proofs.Common.{◌≡◌, ◌<◌, ◌⊎◌, inl, inr, Bool, ℕ, ℤ, zero, suc, List, [], ◌∷◌, ◌++◌, length, get_or, set-set, IsTrue, Option, Some, None, Result, Ok, Err, nat_eq, refl, sym, ap, subst, ◌∙◌, arith}
-use Rattle.std.specs.Prelude.{if◌then◌else◌, IsSomeAnd, false, true}
+use Rattle.std.specs.Prelude.{if◌then◌else◌, IsSomeAnd, false, is_ok, true}
 use Rattle.std.proofs.lemmas.Bool.{eq-eqb}
 use Rattle.std.proofs.lemmas.List.{append-nil, append_assoc, get_or-set_same}
 use Rattle.xa_http.specs.declared.session.Next.{Next}
 use Rattle.xa_http.specs.Stream.{Stream}
 use Rattle.xa_records.specs.Keeper.{Custody}
-use Rattle.xa_server.specs.declared.event.Answer.{Answer}
+use Rattle.xa_server.specs.declared.connection.Answer.{Answer}
 use Rattle.xa_server.specs.declared.event.Event.TheVariants as event
-use Rattle.xa_server.specs.declared.event.Outcome.{Outcome}
 use Rattle.xa_server.specs.declared.event.Outcome.TheVariants as outcome
 use Rattle.xa_server.specs.declared.front.Front.{Front}
 use Rattle.xa_server.specs.declared.front_error.FrontError.{FrontError}
 use Rattle.xa_server.specs.declared.front_error.FrontError.TheVariants.{Memory, NoSuchConnection, TooManyConnections, Full}
 use Rattle.xa_server.specs.declared.lines.Conn.{Conn}
-use Rattle.xa_server.specs.Front.{AnswersAt, IsPlayed, Plays}
+use Rattle.xa_server.specs.Front.{AnswersAt, AnswersLine}
 use Rattle.xa_server.specs.Lines.{IsHeld, IsOpen, Lines, line_at, with_line}
 use Rattle.xa_http.specs.Changing.{TellsChange}
-use Rattle.xa_server.specs.Turning.{Handling, TurnsAwayAt, serves, serves_unchanging, turns_away}
+use Rattle.xa_server.specs.TurningAway.{Handling, TurnsAwayAt, serves, serves_unchanging, turns_away}
 use Rattle.xa_server.proofs.LineLemmas.{line_kept}
-use Rattle.xa_server.proofs.TurningLemmas.{beside_same, beside_turned, beside_unchanging}
+use Rattle.xa_server.proofs.PlayLemmas.{answer_played, unasked_played}
+use Rattle.xa_server.proofs.TurningAwayLemmas.{beside_same, beside_turned, beside_unchanging}
 use Rattle.xa_reactor.specs.declared.access.Access.{Access}
 use Rattle.xa_reactor.specs.declared.access.Access.TheVariants.{All, Changes}
-use Rattle.xa_reactor.specs.Step.{AreHandledBy, IsHandledBy, Lasts, no_calls}
+use Rattle.xa_reactor.specs.Step.{AreHandledBy, IsAsked, IsHandledBy, Lasts, no_calls}
 use Rattle.xa_reactor.specs.Traffic.{AreAt, HasFailedIn, Traffic, failed, finished, received, received_at, seated, sent, sent_at, vacated}
-use Rattle.xa_reactor.specs.handling.Going.{AreAll, Asks, Feeds, FeedsBy, answer_in, answer_of_outcome, held_in}
+use Rattle.xa_reactor.specs.handling.Going.{AreAll, Asks, Feeds, FeedsBy, answer_in}
 use Rattle.xa_reactor.proofs.WorksLemmas.{makes_beside, makes_none, makes_one}
 
 -- ---- what goes over a network
@@ -141,141 +141,80 @@ lasts_answered conn old new None (Err TooManyConnections) none = absurd none
 lasts_answered conn old new None (Ok answer) none = absurd none
 lasts_answered conn old new (Some given) (Err error) none = absurd none
 
--- what a piece does to the lines, whatever its outcome was
-piece_lasts : (conn : Conn) (piece : Bor (List ℕ)) (o : Outcome) (nexts : List (Option Next)) (old new : Lines) → Plays (event.Piece conn piece ∷ []) (o ∷ []) nexts old new → Lasts conn old new
-piece_lasts conn piece (outcome.Held result) (given ∷ []) old new (mid, (none, is), same) =
-    lasts_on conn old mid new (lasts_held conn piece.now old mid result is) (lasts_same conn mid new same)
-piece_lasts conn piece (outcome.Held result) [] old new none = absurd none
-piece_lasts conn piece (outcome.Held result) (given ∷ other ∷ nexts) old new (mid, is, none) = absurd none
-piece_lasts conn piece (outcome.Begun result) [] old new none = absurd none
-piece_lasts conn piece (outcome.Begun result) (given ∷ nexts) old new (mid, none, rest) = absurd none
-piece_lasts conn piece (outcome.Answered result) [] old new none = absurd none
-piece_lasts conn piece (outcome.Answered result) (given ∷ nexts) old new (mid, none, rest) = absurd none
-piece_lasts conn piece (outcome.Finished result) [] old new none = absurd none
-piece_lasts conn piece (outcome.Finished result) (given ∷ nexts) old new (mid, none, rest) = absurd none
-
-answer_lasts : (conn : Conn) (moment : ℤ) (o : Outcome) (nexts : List (Option Next)) (old new : Lines) → Plays (event.Answer conn moment ∷ []) (o ∷ []) nexts old new → Lasts conn old new
-answer_lasts conn moment (outcome.Answered result) (given ∷ []) old new (mid, is, same) =
-    lasts_on conn old mid new (lasts_answered conn old mid given result is) (lasts_same conn mid new same)
-answer_lasts conn moment (outcome.Answered result) [] old new none = absurd none
-answer_lasts conn moment (outcome.Answered result) (given ∷ other ∷ nexts) old new (mid, is, none) = absurd none
-answer_lasts conn moment (outcome.Begun result) [] old new none = absurd none
-answer_lasts conn moment (outcome.Begun result) (given ∷ nexts) old new (mid, none, rest) = absurd none
-answer_lasts conn moment (outcome.Held result) [] old new none = absurd none
-answer_lasts conn moment (outcome.Held result) (given ∷ nexts) old new (mid, none, rest) = absurd none
-answer_lasts conn moment (outcome.Finished result) [] old new none = absurd none
-answer_lasts conn moment (outcome.Finished result) (given ∷ nexts) old new (mid, none, rest) = absurd none
-
--- no other outcome comes of a piece
-never_fed : (conn : Conn) (piece : Bor (List ℕ)) (o : Outcome) (nexts : List (Option Next)) (old new : Lines) → ((result : Result (Unit {0}) FrontError) → ¬ (o ≡ outcome.Held result))
-    → Plays (event.Piece conn piece ∷ []) (o ∷ []) nexts old new → ⊥
-never_fed conn piece (outcome.Held result) nexts old new other is = other result refl
-never_fed conn piece (outcome.Begun result) [] old new other none = none
-never_fed conn piece (outcome.Begun result) (given ∷ nexts) old new other (mid, none, rest) = none
-never_fed conn piece (outcome.Answered result) [] old new other none = none
-never_fed conn piece (outcome.Answered result) (given ∷ nexts) old new other (mid, none, rest) = none
-never_fed conn piece (outcome.Finished result) [] old new other none = none
-never_fed conn piece (outcome.Finished result) (given ∷ nexts) old new other (mid, none, rest) = none
-
--- nor of an answer that is asked for
-never_asked : (conn : Conn) (moment : ℤ) (o : Outcome) (nexts : List (Option Next)) (old new : Lines) → ((result : Result (Option Answer) FrontError) → ¬ (o ≡ outcome.Answered result))
-    → Plays (event.Answer conn moment ∷ []) (o ∷ []) nexts old new → ⊥
-never_asked conn moment (outcome.Answered result) nexts old new other is = other result refl
-never_asked conn moment (outcome.Begun result) [] old new other none = none
-never_asked conn moment (outcome.Begun result) (given ∷ nexts) old new other (mid, none, rest) = none
-never_asked conn moment (outcome.Held result) [] old new other none = none
-never_asked conn moment (outcome.Held result) (given ∷ nexts) old new other (mid, none, rest) = none
-never_asked conn moment (outcome.Finished result) [] old new other none = none
-never_asked conn moment (outcome.Finished result) (given ∷ nexts) old new other (mid, none, rest) = none
-
 module _ {R : Type 0} (custody : R → Custody) where
-  -- a piece was handed on: all of it came to the stream, or for want of memory none
-  pub fed_piece : (conn : Conn) (piece : Bor (List ℕ)) (o : Outcome) (old new : Front R)
-      → IsPlayed custody old new (event.Piece conn piece ∷ []) (o ∷ [])
-      → FeedsBy custody conn piece.now (held_in o) old new
-  fed_piece conn piece (outcome.Held (Ok done)) old new played = record {
-    feeds = record {
-      read = piece.now;
-      dropped = [];
-      calls = record { hows = serves ∷ []; events = event.Piece conn piece ∷ []; outcomes = outcome.Held (Ok done) ∷ [] };
-      served = (tt, tt);
-      all = sym (append-nil piece.now);
-      fed = (refl, refl, refl);
-      makes = makes_one custody (event.Piece conn piece) (outcome.Held (Ok done)) old new played;
-      lasts = piece_lasts conn piece (outcome.Held (Ok done)) played.nexts old.lines new.lines played.plays;
-    };
-    kept = λ whole. refl;
-  }
-  fed_piece conn piece (outcome.Held (Err error)) old new played = record {
-    feeds = record {
-      read = [];
-      dropped = piece.now;
-      calls = record { hows = serves ∷ []; events = event.Piece conn piece ∷ []; outcomes = outcome.Held (Err error) ∷ [] };
-      served = (tt, tt);
-      all = refl;
-      fed = (refl, refl, refl);
-      makes = makes_one custody (event.Piece conn piece) (outcome.Held (Err error)) old new played;
-      lasts = piece_lasts conn piece (outcome.Held (Err error)) played.nexts old.lines new.lines played.plays;
-    };
-    kept = λ whole. absurd cc;
-  }
-  fed_piece conn piece (outcome.Begun result) old new played = absurd (never_fed conn piece (outcome.Begun result) played.nexts old.lines new.lines (λ given e. absurd cc) played.plays)
-  fed_piece conn piece (outcome.Answered result) old new played = absurd (never_fed conn piece (outcome.Answered result) played.nexts old.lines new.lines (λ given e. absurd cc) played.plays)
-  fed_piece conn piece (outcome.Finished result) old new played = absurd (never_fed conn piece (outcome.Finished result) played.nexts old.lines new.lines (λ given e. absurd cc) played.plays)
-
-  -- an answer was asked for, and whatever its message asked for was served
-  pub asked_next : (conn : Conn) (moment : ℤ) (o : Outcome) (old new : Front R)
-      → IsPlayed custody old new (event.Answer conn moment ∷ []) (o ∷ [])
-      → Asks custody conn (AreAll serves) (answer_of_outcome o) old new
-  asked_next conn moment (outcome.Answered (Ok given)) old new played = record {
-    calls = record { hows = serves ∷ []; events = event.Answer conn moment ∷ []; outcomes = outcome.Answered (Ok given) ∷ [] };
-    handled = (refl, tt);
-    asked = (refl, refl);
-    makes = makes_one custody (event.Answer conn moment) (outcome.Answered (Ok given)) old new played;
-    lasts = answer_lasts conn moment (outcome.Answered (Ok given)) played.nexts old.lines new.lines played.plays;
-  }
-  asked_next conn moment (outcome.Answered (Err error)) old new played = record {
-    calls = record { hows = serves ∷ []; events = event.Answer conn moment ∷ []; outcomes = outcome.Answered (Err error) ∷ [] };
-    handled = (refl, tt);
-    asked = (refl, refl);
-    makes = makes_one custody (event.Answer conn moment) (outcome.Answered (Err error)) old new played;
-    lasts = answer_lasts conn moment (outcome.Answered (Err error)) played.nexts old.lines new.lines played.plays;
-  }
-  asked_next conn moment (outcome.Begun result) old new played = absurd (never_asked conn moment (outcome.Begun result) played.nexts old.lines new.lines (λ given e. absurd cc) played.plays)
-  asked_next conn moment (outcome.Held result) old new played = absurd (never_asked conn moment (outcome.Held result) played.nexts old.lines new.lines (λ given e. absurd cc) played.plays)
-  asked_next conn moment (outcome.Finished result) old new played = absurd (never_asked conn moment (outcome.Finished result) played.nexts old.lines new.lines (λ given e. absurd cc) played.plays)
-
-  -- and its message asked for no change
-  pub asked_unchanging : (conn : Conn) (moment : ℤ) (o : Outcome) (old new : Front R) (stream : Stream) → IsOpen conn old.lines stream → TellsChange stream false
-      → IsPlayed custody old new (event.Answer conn moment ∷ []) (o ∷ [])
-      → Asks custody conn (AreAll serves_unchanging) (answer_of_outcome o) old new
-  asked_unchanging conn moment (outcome.Answered (Ok given)) old new stream opens tells played = record {
-    calls = record { hows = serves_unchanging ∷ []; events = event.Answer conn moment ∷ []; outcomes = outcome.Answered (Ok given) ∷ [] };
-    handled = (refl, tt);
-    asked = (refl, refl);
-    makes =
-        makes_beside custody (record { hows = serves_unchanging ∷ []; events = event.Answer conn moment ∷ []; outcomes = outcome.Answered (Ok given) ∷ [] }) old new
-        (beside_unchanging custody old new conn moment (Ok given) stream opens tells played);
-    lasts = answer_lasts conn moment (outcome.Answered (Ok given)) played.nexts old.lines new.lines played.plays;
-  }
-  asked_unchanging conn moment (outcome.Answered (Err error)) old new stream opens tells played = record {
-    calls = record { hows = serves_unchanging ∷ []; events = event.Answer conn moment ∷ []; outcomes = outcome.Answered (Err error) ∷ [] };
-    handled = (refl, tt);
-    asked = (refl, refl);
-    makes =
-        makes_beside custody (record { hows = serves_unchanging ∷ []; events = event.Answer conn moment ∷ []; outcomes = outcome.Answered (Err error) ∷ [] }) old new
-        (beside_unchanging custody old new conn moment (Err error) stream opens tells played);
-    lasts = answer_lasts conn moment (outcome.Answered (Err error)) played.nexts old.lines new.lines played.plays;
-  }
-  asked_unchanging conn moment (outcome.Begun result) old new stream opens tells played =
-      absurd (never_asked conn moment (outcome.Begun result) played.nexts old.lines new.lines (λ given e. absurd cc) played.plays)
-  asked_unchanging conn moment (outcome.Held result) old new stream opens tells played =
-      absurd (never_asked conn moment (outcome.Held result) played.nexts old.lines new.lines (λ given e. absurd cc) played.plays)
-  asked_unchanging conn moment (outcome.Finished result) old new stream opens tells played =
-      absurd (never_asked conn moment (outcome.Finished result) played.nexts old.lines new.lines (λ given e. absurd cc) played.plays)
-
-  -- nothing was handed on, and no answer was asked for, because there was nothing to; or it was dropped
   module _ (is_open : (s : R) → (custody s).sound → IsTrue (custody s).is_open) where
+    -- a piece was handed on: all of it came to the stream, or for want of memory none
+    pub fed_piece : (conn : Conn) (piece : Bor (List ℕ)) (result : Result (Unit {0}) FrontError) (old new : Front R)
+        → IsHeld conn piece.now old.lines result new.lines → new.server ≡ old.server
+        → FeedsBy custody conn piece.now (is_ok result) old new
+    fed_piece conn piece (Ok done) old new held same = record {
+      feeds = record {
+        read = piece.now;
+        dropped = [];
+        calls = record { hows = serves ∷ []; events = event.Piece conn piece ∷ []; outcomes = outcome.Held (Ok done) ∷ [] };
+        served = (tt, tt);
+        all = sym (append-nil piece.now);
+        fed = (refl, refl, refl);
+        makes =
+            makes_one custody (event.Piece conn piece) (outcome.Held (Ok done)) old new
+            (unasked_played custody is_open old new (event.Piece conn piece) (outcome.Held (Ok done)) (refl, held) same);
+        lasts = lasts_held conn piece.now old.lines new.lines (Ok done) held;
+      };
+      kept = λ whole. refl;
+    }
+    fed_piece conn piece (Err error) old new held same = record {
+      feeds = record {
+        read = [];
+        dropped = piece.now;
+        calls = record { hows = serves ∷ []; events = event.Piece conn piece ∷ []; outcomes = outcome.Held (Err error) ∷ [] };
+        served = (tt, tt);
+        all = refl;
+        fed = (refl, refl, refl);
+        makes =
+            makes_one custody (event.Piece conn piece) (outcome.Held (Err error)) old new
+            (unasked_played custody is_open old new (event.Piece conn piece) (outcome.Held (Err error)) (refl, held) same);
+        lasts = lasts_held conn piece.now old.lines new.lines (Err error) held;
+      };
+      kept = λ whole. absurd cc;
+    }
+
+    -- an answer is the call that is asked for by it
+    asked_of : (conn : Conn) (moment : ℤ) (result : Result (Option Answer) FrontError)
+        → IsAsked conn (answer_in result) (event.Answer conn moment ∷ []) (outcome.Answered result ∷ [])
+    asked_of conn moment (Ok given) = (refl, refl)
+    asked_of conn moment (Err error) = (refl, refl)
+
+    -- an answer was asked for, and whatever its message asked for was served
+    pub asked_next : (conn : Conn) (moment : ℤ) (result : Result (Option Answer) FrontError) (old new : Front R)
+        → AnswersLine custody conn moment old result new → Asks custody conn (AreAll serves) (answer_in result) old new
+    asked_next conn moment result old new line = record {
+      calls = record { hows = serves ∷ []; events = event.Answer conn moment ∷ []; outcomes = outcome.Answered result ∷ [] };
+      handled = (refl, tt);
+      asked = asked_of conn moment result;
+      makes =
+          makes_one custody (event.Answer conn moment) (outcome.Answered result) old new
+          (answer_played custody is_open conn moment old new result line);
+      lasts = lasts_answered conn old.lines new.lines line.0 result line.1;
+    }
+
+    -- and its message asked for no change
+    pub asked_unchanging : (conn : Conn) (moment : ℤ) (result : Result (Option Answer) FrontError) (old new : Front R)
+        (stream : Stream) → IsOpen conn old.lines stream → TellsChange stream false
+        → AnswersLine custody conn moment old result new
+        → Asks custody conn (AreAll serves_unchanging) (answer_in result) old new
+    asked_unchanging conn moment result old new stream opens tells line =
+        record {
+          calls = record { hows = serves_unchanging ∷ []; events = event.Answer conn moment ∷ []; outcomes = outcome.Answered result ∷ [] };
+          handled = (refl, tt);
+          asked = asked_of conn moment result;
+          makes =
+              makes_beside custody (record { hows = serves_unchanging ∷ []; events = event.Answer conn moment ∷ []; outcomes = outcome.Answered result ∷ [] }) old new
+              (beside_unchanging custody old new conn moment result stream opens tells
+              (answer_played custody is_open conn moment old new result line));
+          lasts = lasts_answered conn old.lines new.lines line.0 result line.1;
+        }
+
+    -- nothing was handed on, and no answer was asked for, because there was nothing to; or it was dropped
     abbrev pub fed_none : (conn : Conn) (piece : List ℕ) (front : Front R) → Feeds custody conn piece front front
     fed_none conn piece front = record {
       read = [];

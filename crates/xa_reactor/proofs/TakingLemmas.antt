@@ -1,18 +1,17 @@
 -- Who is taken, and who has to go for it.
-use Rattle.std.proofs.Common.{◌≡◌, ◌≢◌, ◌≤◌, ◌<◌, ◌⊎◌, inl, inr, ℕ, zero, suc, Bool, true, false, List, [], ◌∷◌, ◌++◌, length, get_or, set, Option, Some, None, Ok, Err, IsTrue, slice_set, refl, sym, ap, subst, ◌∙◌, arith}
+use Rattle.std.proofs.Common.{◌≡◌, ◌≢◌, ◌≤◌, ◌<◌, ◌⊎◌, inl, inr, ℕ, zero, suc, Bool, true, false, List, [], ◌∷◌, ◌++◌, length, get_or, set, Option, Some, None, Result, Ok, Err, IsTrue, slice_set, refl, sym, ap, subst, ◌∙◌, arith}
 use Rattle.std.proofs.lemmas.Bool.{cases_eq}
 use Rattle.std.proofs.lemmas.List.{get_or-set_other, set-set}
 use Rattle.xa_records.specs.Keeper.{Custody}
-use Rattle.xa_http.specs.declared.session.Next.{Next}
 use Rattle.xa_server.specs.declared.event.Event.TheVariants as event
-use Rattle.xa_server.specs.declared.event.Outcome.{Outcome}
 use Rattle.xa_server.specs.declared.event.Outcome.TheVariants as outcome
 use Rattle.xa_server.specs.declared.front.Front.{Front}
+use Rattle.xa_server.specs.declared.front_error.FrontError.{FrontError}
 use Rattle.xa_server.specs.declared.front_error.FrontError.TheVariants.{Memory, NoSuchConnection, TooManyConnections, Full}
-use Rattle.xa_server.specs.Front.{IsPlayed, Plays}
 use Rattle.xa_server.specs.declared.lines.Conn.{Conn}
-use Rattle.xa_server.specs.Lines.{Lines, first_free, line_at}
+use Rattle.xa_server.specs.Lines.{IsClosed, IsOpened, Lines, first_free, line_at, with_line}
 use Rattle.xa_server.specs.Transfers.{Grows}
+use Rattle.xa_server.proofs.PlayLemmas.{unasked_played}
 use Rattle.xa_reactor.specs.declared.access.Access.{Access}
 use Rattle.xa_reactor.specs.declared.access.Access.TheVariants.{All, Asks, Changes}
 use Rattle.xa_reactor.specs.declared.board.Board.{Board}
@@ -190,33 +189,39 @@ opened_fit split conn access deeds fits are = subst (λ (ds : List Deed). FitAll
 closed_fit : (split : Bool) (place : ℕ) (reason : Reason) (deeds : List Deed) → deeds ≡ closes (record { number = place }) reason ∷ [] → FitAll split deeds
 closed_fit split place reason deeds are = subst (λ (ds : List Deed). FitAll split ds) (sym are) tt
 
--- a connection of the front was opened, or closed, by one call
-pub begun_makes : {R : Type 0} (custody : R → Custody) (conn : Conn) (o : Outcome) (old new : Front R) → o ≡ outcome.Begun (Ok conn)
-    → IsPlayed custody old new (event.Begin ∷ []) (o ∷ []) → (access : Access) → Makes custody (calls_in (opens conn access)) old new
-begun_makes custody conn o old new is played access =
-    makes_one custody event.Begin (outcome.Begun (Ok conn)) old new (subst (λ (told : Outcome). IsPlayed custody old new (event.Begin ∷ []) (told ∷ [])) is played)
+-- a front refuses to open a connection only if all are open
+pub full_if_refused : (old new : Lines) (error : FrontError) → IsOpened old (Err error) new → first_free old ≡ None
+full_if_refused old new TooManyConnections is = is.0
+full_if_refused old new _ none = absurd none
 
-finished_so : {R : Type 0} (custody : R → Custody) (conn : Conn) (o : Outcome) (nexts : List (Option Next)) (old new : Lines) → line_at conn old ≢ None
-    → Plays (event.Finish conn ∷ []) (o ∷ []) nexts old new → o ≡ outcome.Finished (Ok tt)
-finished_so custody conn (outcome.Finished (Ok tt)) (given ∷ nexts) old new there (mid, does, plays) = refl
-finished_so custody conn (outcome.Finished (Err NoSuchConnection)) (given ∷ nexts) old new there (mid, does, plays) = absurd (there does.1.0)
-finished_so custody conn (outcome.Finished (Err Memory)) (given ∷ nexts) old new there (mid, does, plays) = absurd does.1
-finished_so custody conn (outcome.Finished (Err TooManyConnections)) (given ∷ nexts) old new there (mid, does, plays) = absurd does.1
-finished_so custody conn (outcome.Finished (Err Full)) (given ∷ nexts) old new there (mid, does, plays) = absurd does.1
-finished_so custody conn (outcome.Finished result) [] old new there none = absurd none
-finished_so custody conn (outcome.Begun result) [] old new there none = absurd none
-finished_so custody conn (outcome.Begun result) (given ∷ nexts) old new there (mid, none, plays) = absurd none
-finished_so custody conn (outcome.Held result) [] old new there none = absurd none
-finished_so custody conn (outcome.Held result) (given ∷ nexts) old new there (mid, none, plays) = absurd none
-finished_so custody conn (outcome.Answered result) [] old new there none = absurd none
-finished_so custody conn (outcome.Answered result) (given ∷ nexts) old new there (mid, none, plays) = absurd none
+-- a connection of the front that was open was closed
+finished_well : (conn : Conn) (result : Result (Unit {0}) FrontError) (old new : Lines) → line_at conn old ≢ None
+    → IsClosed conn old result new → (result ≡ Ok tt) × (new ≡ with_line conn None old)
+finished_well conn (Ok tt) old new there is = (refl, is.2)
+finished_well conn (Err NoSuchConnection) old new there is = absurd (there is.0)
+finished_well conn (Err Memory) old new there none = absurd none
+finished_well conn (Err TooManyConnections) old new there none = absurd none
+finished_well conn (Err Full) old new there none = absurd none
 
-pub finished_makes : {R : Type 0} (custody : R → Custody) (conn : Conn) (o : Outcome) (old new : Front R) → line_at conn old.lines ≢ None
-    → IsPlayed custody old new (event.Finish conn ∷ []) (o ∷ []) → (reason : Reason) → Makes custody (calls_in (closes conn reason)) old new
-finished_makes custody conn o old new there played reason =
-    let is : o ≡ outcome.Finished (Ok tt) = finished_so custody conn o played.nexts old.lines new.lines there played.plays in
-    makes_one custody (event.Finish conn) (outcome.Finished (Ok tt)) old new
-    (subst (λ (told : Outcome). IsPlayed custody old new (event.Finish conn ∷ []) (told ∷ [])) is played)
+pub finished_lines : (conn : Conn) (result : Result (Unit {0}) FrontError) (old new : Lines) → line_at conn old ≢ None
+    → IsClosed conn old result new → new ≡ with_line conn None old
+finished_lines conn result old new there is = (finished_well conn result old new there is).1
+
+-- each was one call
+module _ {R : Type 0} (custody : R → Custody) (is_open : (s : R) → (custody s).sound → IsTrue (custody s).is_open) where
+  pub begun_makes : (conn : Conn) (old new : Front R) → IsOpened old.lines (Ok conn) new.lines → new.server ≡ old.server
+      → (access : Access) → Makes custody (calls_in (opens conn access)) old new
+  begun_makes conn old new is same access =
+      makes_one custody event.Begin (outcome.Begun (Ok conn)) old new
+      (unasked_played custody is_open old new event.Begin (outcome.Begun (Ok conn)) (refl, is) same)
+
+  pub finished_makes : (conn : Conn) (result : Result (Unit {0}) FrontError) (old new : Front R)
+      → line_at conn old.lines ≢ None → IsClosed conn old.lines result new.lines → new.server ≡ old.server
+      → (reason : Reason) → Makes custody (calls_in (closes conn reason)) old new
+  finished_makes conn result old new there is same reason =
+      let well = finished_well conn result old.lines new.lines there is in
+      makes_one custody (event.Finish conn) (outcome.Finished (Ok tt)) old new
+      (unasked_played custody is_open old new (event.Finish conn) (outcome.Finished (Ok tt)) (refl, rw well.0 at is) same)
 
 put_by : (place : ℕ) (reason : Reason) (deeds : List Deed) (old new : Lanes) → deeds ≡ closes (record { number = place }) reason ∷ [] → AreDone deeds old new
     → new ≡ slice_set old place None

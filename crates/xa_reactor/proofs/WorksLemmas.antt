@@ -6,8 +6,8 @@ use Rattle.xa_server.specs.declared.event.Outcome.{Outcome}
 use Rattle.xa_server.specs.declared.front.Front.{Front}
 use Rattle.xa_server.specs.Front.{IsPlayed, front_is_sound}
 use Rattle.xa_server.specs.Transfers.{Grows}
-use Rattle.xa_server.specs.Turning.{IsPlayedBeside, serves}
-use Rattle.xa_server.proofs.TurningLemmas.{beside_none, beside_on, beside_one}
+use Rattle.xa_server.specs.TurningAway.{IsPlayedBeside, serves}
+use Rattle.xa_server.proofs.TurningAwayLemmas.{beside_none, beside_on, beside_one}
 use Rattle.xa_server.proofs.TransferLemmas.{grows_none, grows_trans}
 use Rattle.xa_reactor.specs.Step.{Calls, Keeps, Works, joined, no_calls}
 use Rattle.xa_reactor.specs.Traffic.{Traffic}

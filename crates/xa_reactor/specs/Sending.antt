@@ -1,6 +1,6 @@
 -- The reply that is under way to a peer, and what is sent of it.
 use Rattle.std.specs.Prelude.{◌≡◌, ◌⊎◌, ℕ, Bool, false, List, [], ◌++◌, length, Option, Some, None}
-use Rattle.xa_server.specs.declared.event.Answer.{Answer}
+use Rattle.xa_server.specs.declared.connection.Answer.{Answer}
 use Rattle.xa_server.specs.Replies.{bytes_of}
 use Rattle.xa_server.specs.Transfers.{Grows}
 use Rattle.xa_reactor.specs.declared.outgoing.Sending.{Sending}

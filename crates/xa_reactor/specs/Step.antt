@@ -5,18 +5,17 @@ use Rattle.std.specs.Duration.{as_nanos}
 use Rattle.std.specs.List.{Contains}
 use Rattle.xa_http.specs.Stream.{Stream}
 use Rattle.xa_records.specs.Keeper.{Custody}
-use Rattle.xa_server.specs.declared.event.Answer.{Answer}
+use Rattle.xa_server.specs.declared.connection.Answer.{Answer}
 use Rattle.xa_server.specs.declared.event.Event.{Event}
 use Rattle.xa_server.specs.declared.event.Event.TheVariants as event
 use Rattle.xa_server.specs.declared.event.Outcome.{Outcome}
 use Rattle.xa_server.specs.declared.event.Outcome.TheVariants as outcome
 use Rattle.xa_server.specs.declared.front.Front.{Front}
-use Rattle.xa_server.specs.declared.holding.Holding.TheVariants as holding
 use Rattle.xa_server.specs.declared.lines.Conn.{Conn}
 use Rattle.xa_server.specs.Front.{front_is_clean, front_is_open, front_is_sound}
 use Rattle.xa_server.specs.Lines.{IsOpen, Lines, with_line}
 use Rattle.xa_server.specs.Transfers.{Grows}
-use Rattle.xa_server.specs.Turning.{Handling, IsPlayedBeside, serves, serves_unchanging, turns_away}
+use Rattle.xa_server.specs.TurningAway.{Handling, IsPlayedBeside, serves, serves_unchanging, turns_away}
 use Rattle.xa_reactor.specs.declared.access.Access.{Access}
 use Rattle.xa_reactor.specs.declared.access.Access.TheVariants.{All, Asks, Changes}
 use Rattle.xa_reactor.specs.declared.lane.Lane.{Lane}
@@ -87,15 +86,15 @@ pub record Step : Type 0 where
   pub fed : Calls
   pub asked : Calls
 
--- why a connection is parted with behind a reply: that is its last; the program ends; or its session has ended
-abbrev pub PartsFor : Bool → Bool → Lane → Type 0
-PartsFor last ends lane = (last ≡ true) ⊎ ((ends ≡ true) ⊎ (lane.holding ≡ holding.Ended))
+-- why a connection is parted with behind a reply: that is its last, or the program ends
+abbrev pub PartsFor : Bool → Bool → Type 0
+PartsFor last ends = (last ≡ true) ⊎ (ends ≡ true)
 
 -- a connection was parted with behind a reply that was sent whole
 pub record PartsBehind (step : Step) (was : UnderWay) (new : Lane) : Type 0 where
   pub whole : new.outgoing.left ≡ []
   pub reply : (was.left ≢ []) ⊎ (step.answer ≢ None)
-  pub why : PartsFor (then_under_way was step.answer).last step.parts new
+  pub why : PartsFor (then_under_way was step.answer).last step.parts
 
 -- what a step does to its connection
 pub record IsStepOn (step : Step) (old new : Lane) : Type 0 where

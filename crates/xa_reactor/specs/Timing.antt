@@ -1,7 +1,7 @@
 -- For how long a connection is waited for. Times are nanoseconds.
 use Rattle.std.specs.Prelude.{◌≡◌, ◌≢◌, ◌⊎◌, ◌≤◌, ◌+◌, ◌-◌, ℕ, [], Option, Some, None, option_map}
 use Rattle.std.specs.Duration.{as_nanos}
-use Rattle.xa_server.specs.declared.event.Answer.{Answer}
+use Rattle.xa_server.specs.declared.connection.Answer.{Answer}
 use Rattle.xa_reactor.specs.declared.lane.Lane.{Lane}
 use Rattle.xa_reactor.specs.declared.limits.Stage.{Stage}
 use Rattle.xa_reactor.specs.declared.limits.Stage.TheVariants.{Quiet, Incoming, Outgoing, Parting}
@@ -47,16 +47,17 @@ abbrev pub KeepsTime : ℕ → Option Answer → Lane → Lane → Type 0
 KeepsTime at answer old new =
     ((new.stage ≡ old.stage) × (new.since ≡ old.since))
     ⊎ ((as_nanos new.since ≡ at) × ((answer ≢ None)
-    ⊎ (((old.stage ≡ Outgoing) × (new.stage ≢ Outgoing)) ⊎ ((old.stage ≡ Quiet) × (new.stage ≡ Incoming)))))
+    ⊎ (((old.stage ≡ Outgoing) × (new.stage ≢ Outgoing) × (new.outgoing.left ≡ []))
+    ⊎ ((old.stage ≡ Quiet) × (new.stage ≡ Incoming)))))
 
 -- Some bytes of a reply were taken. The ten seconds go on, and not more bytes are counted in them than were taken; or
--- they begin anew, since 65,536 bytes were taken in them.
+-- they begin anew, since 65,536 bytes were taken in them, and none is counted in the new ones.
 abbrev pub MarksAt : ℕ → ℕ → Lane → Lane → Type 0
 MarksAt at sent old new =
     ((new.mark ≡ old.mark) × (new.moved ≤ old.moved + sent))
-    ⊎ ((as_nanos new.mark ≡ at) × (65_536 ≤ old.moved + sent))
+    ⊎ ((as_nanos new.mark ≡ at) × (65_536 ≤ old.moved + sent) × (new.moved ≡ 0))
 
--- the ten seconds of a reply begin with it, and anew only by so many bytes
+-- the ten seconds of a reply begin with it, with no more bytes than were taken of it, and anew only by so many bytes
 abbrev pub KeepsMark : ℕ → ℕ → Option Answer → Lane → Lane → Type 0
 KeepsMark at sent None old new = MarksAt at sent old new
-KeepsMark at sent (Some answer) old new = as_nanos new.mark ≡ at
+KeepsMark at sent (Some answer) old new = (as_nanos new.mark ≡ at) × (new.moved ≤ sent)

@@ -11,7 +11,7 @@ use Rattle.xa_server.specs.declared.event.Outcome.TheVariants as outcome
 use Rattle.xa_server.specs.declared.front.Front.{Front}
 use Rattle.xa_server.specs.declared.lines.Conn.{Conn}
 use Rattle.xa_server.specs.Lines.{Lines}
-use Rattle.xa_server.specs.Turning.{serves}
+use Rattle.xa_server.specs.TurningAway.{serves}
 use Rattle.xa_reactor.specs.declared.access.Access.{Access}
 use Rattle.xa_reactor.specs.declared.access.Access.TheVariants.{All, Asks, Changes}
 use Rattle.xa_reactor.specs.declared.board.Board.{Board}

@@ -2,6 +2,7 @@
 ghost use Rattle.std.specs.Prelude.{◌≡◌, slice_set};
 ghost use Rattle.xa_reactor.specs.Turn.{ready_at};
 
+use crate::access::Access;
 use crate::lanes::PLACES;
 
 /// For what a socket was found ready. It may be spurious.
@@ -63,6 +64,24 @@ impl Board {
             ready.readable |= more.readable;
             ready.writable |= more.writable;
             ready.ends |= more.ends;
+        }
+    }
+
+    /// Whether a connection of that access may wait to be taken.
+    pub(crate) fn waits(&self, access: Access) -> bool {
+        match access {
+            Access::All | Access::Asks => self.door,
+            Access::Changes => self.changes,
+        }
+    }
+
+    /// Notes that none waits.
+    pub(crate) fn note_nobody(&mut self, access: Access)
+        ensures { self.new ≡ record self.old { door = self.new.door; changes = self.new.changes } }
+    {
+        match access {
+            Access::All | Access::Asks => self.door = false,
+            Access::Changes => self.changes = false,
         }
     }
 

@@ -1,4 +1,5 @@
-//! The door at which connections come: what is done if one can't be taken.
+//! The doors at which connections come: what is done if one can't be taken.
+use crate::access::Access;
 use crate::halt::Halt;
 use std::time::Duration;
 
@@ -8,24 +9,21 @@ const MAX_FAILURES: u32 = 1_000;
 /// After how many milliseconds it is tried again if there was no room.
 const PAUSE_MILLISECONDS: u64 = 10;
 
-/// The door.
+/// A door.
 #[derive(Clone, Copy)]
-pub struct Door {
+pub(crate) struct Door {
     /// How often in a row taking a connection failed.
     failures: u32,
     /// When it is tried again, if it isn't at once.
     again: Option<Duration>,
-    /// Whether no connection is taken any more.
-    pub is_shut: bool,
 }
 
 impl Door {
     /// Nothing has failed.
-    pub(crate) fn new() -> Door {
+    fn new() -> Door {
         Door {
             failures: 0,
             again: None,
-            is_shut: false,
         }
     }
 
@@ -56,6 +54,44 @@ impl Door {
         match self.again {
             Some(again) => again.saturating_sub(now),
             None => Duration::ZERO,
+        }
+    }
+}
+
+/// The only door, or the first of two, and that for changes.
+#[derive(Clone, Copy)]
+pub struct Doors {
+    /// The only one, or the first.
+    first: Door,
+    /// That for changes. Nobody comes there if it is no address of its own.
+    changes: Door,
+    /// Whether no connection is taken any more, at any.
+    pub are_shut: bool,
+}
+
+impl Doors {
+    /// Nothing has failed at any.
+    pub(crate) fn new() -> Doors {
+        Doors {
+            first: Door::new(),
+            changes: Door::new(),
+            are_shut: false,
+        }
+    }
+
+    /// The one at which connections of that access come.
+    pub(crate) fn at(&self, access: Access) -> &Door {
+        match access {
+            Access::All | Access::Asks => &self.first,
+            Access::Changes => &self.changes,
+        }
+    }
+
+    /// The same, to be changed.
+    pub(crate) fn at_mut(&mut self, access: Access) -> &mut Door {
+        match access {
+            Access::All | Access::Asks => &mut self.first,
+            Access::Changes => &mut self.changes,
         }
     }
 }

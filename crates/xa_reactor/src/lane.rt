@@ -114,6 +114,7 @@ impl Lane {
         ensures stage { self.new.stage ≡ stage }
         ensures since { self.new.since ≡ now }
         ensures mark { self.new.mark ≡ now }
+        ensures moved { self.new.moved ≡ 0 }
     {
         self.stage = stage;
         self.since = now;

@@ -12,7 +12,7 @@ mod sharing;
 mod taking;
 
 use crate::board::Board;
-use crate::door::Door;
+use crate::door::Doors;
 use crate::halt::Halt;
 use crate::lane::PIECE_BYTES;
 use crate::lanes::{Lanes, PLACES};
@@ -31,10 +31,8 @@ pub struct Reactor {
     lanes: Lanes,
     /// What is known to be ready.
     board: Board,
-    /// How taking connections goes.
-    door: Door,
-    /// How it goes at the address for changes.
-    changes: Door,
+    /// How taking connections goes at each address.
+    doors: Doors,
     /// Whether changes have an address of their own.
     is_split: bool,
     /// The place that comes first in the next turn, or this and a multiple of 64.
@@ -55,8 +53,7 @@ impl Reactor {
         Ok(Reactor {
             lanes: Lanes::new(alloc)?,
             board: Board::new(),
-            door: Door::new(),
-            changes: Door::new(),
+            doors: Doors::new(),
             is_split: false,
             first: 0,
             limits,
@@ -98,7 +95,7 @@ impl Reactor {
         ensures free { result ≡ true → AreFree self.now.lanes × (length self.now.lanes ≡ 64) }
         ensures told { result ≡ true → self.now.leaving ≢ None }
     {
-        self.leaving.is_some() && self.door.is_shut && self.lanes.is_empty()
+        self.leaving.is_some() && self.doors.are_shut && self.lanes.is_empty()
     }
 
     /// Notes that the program was told to end, if it was.
@@ -115,15 +112,15 @@ impl Reactor {
     /// Takes no more connections, if the program was told to end: once nobody waits at the door, or a second
     /// later.
     fn look_at_door<N: Network>(&mut self, network: &mut N, now: Duration)
-        ensures same { self.new ≡ record self.old { door = self.new.door } }
+        ensures same { self.new ≡ record self.old { doors = self.new.doors } }
         ensures done { N.done network.new ≡ N.done network.old }
     {
         let Some(since) = self.leaving else {
             return;
         };
-        if !self.door.is_shut && (!self.one_waits() || leaving_left(since, now).is_zero()) {
+        if !self.doors.are_shut && (!self.one_waits() || leaving_left(since, now).is_zero()) {
             network.shut_door();
-            self.door.is_shut = true;
+            self.doors.are_shut = true;
         }
     }
 

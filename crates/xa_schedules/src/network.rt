@@ -111,15 +111,15 @@ impl Memory {
     }
 
     /// The first peer that waits at a door, if one does.
-    fn first_at(&self, changes: bool) -> Option<usize> {
+    fn first_at(&self, at_changes: bool) -> Option<usize> {
         self.peers
             .iter()
-            .position(|peer| !peer.is_taken && peer.is_at_changes == changes)
+            .position(|peer| !peer.is_taken && peer.is_at_changes == at_changes)
     }
 
     /// Takes the first that waits at a door.
-    fn take_at(&mut self, changes: bool) -> Arrival {
-        let Some(number) = self.first_at(changes) else {
+    fn take_at(&mut self, at_changes: bool) -> Arrival {
+        let Some(number) = self.first_at(at_changes) else {
             return Arrival::Nobody;
         };
         if self.is_shut {

@@ -15,7 +15,7 @@ use Rattle.xa_records.specs.declared.refusal.Failure.TheVariants as failure
 use Rattle.xa_records.specs.Keeper.{Custody}
 use Rattle.xa_server.specs.declared.drive_end.DriveEnd.{DriveEnd}
 use Rattle.xa_server.specs.declared.drive_end.DriveEnd.TheVariants.{Ended, WriteFault, NoClock, Memory, Shut}
-use Rattle.xa_server.specs.declared.event.Answer.{Answer}
+use Rattle.xa_server.specs.declared.connection.Answer.{Answer}
 use Rattle.xa_server.specs.declared.replies.Reply.{Reply}
 use Rattle.xa_server.specs.declared.replies.Reply.TheVariants.{Refused}
 use Rattle.xa_server.specs.Alone.{Event}

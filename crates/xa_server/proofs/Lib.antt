@@ -30,5 +30,5 @@ pub mod InterruptionLemmas
 pub mod ServingLemmas
 pub mod StepLemmas
 pub mod PeerLemmas
-pub mod TurningLemmas
+pub mod TurningAwayLemmas
 pub mod UnchangingLemmas

@@ -13,7 +13,7 @@ use Rattle.xa_records.specs.Keeper.{Custody}
 use Rattle.xa_server.specs.Connection.{AnswersNext, AnswersNow, EndsBy, answer_of}
 use Rattle.xa_server.specs.declared.connection.Answered.{Answered}
 use Rattle.xa_server.specs.declared.connection.Answered.TheVariants as answered
-use Rattle.xa_server.specs.declared.event.Answer.{Answer}
+use Rattle.xa_server.specs.declared.connection.Answer.{Answer}
 use Rattle.xa_server.specs.declared.front.Front.{Front}
 use Rattle.xa_server.specs.declared.front_error.FrontError.TheVariants.{Memory}
 use Rattle.xa_server.specs.declared.lines.Conn.{Conn}

@@ -6,12 +6,36 @@ use Rattle.xa_server.specs.Alone.{Event}
 use Rattle.xa_server.specs.declared.replies.Reply.{Reply}
 use Rattle.xa_server.specs.declared.replies.Reply.TheVariants.{Sent, Refused}
 use Rattle.xa_server.specs.Interruption.{ServesMessage}
+use Rattle.xa_server.specs.Decisions.{DecisionsModel}
 use Rattle.xa_server.specs.Served.{IsRun, may_go_on}
-use Rattle.xa_server.specs.Serving.{AreServed, HaveServed, LeavesKeeper, ServesEach, opens_in, until_shut}
+use Rattle.xa_server.specs.Serving.{AreServed, HaveServed, IsOneRun, LeavesKeeper, ServesEach, opens_in, until_shut}
 use Rattle.xa_server.specs.Work.{IsWorkOfRun}
-use Rattle.xa_server.specs.World.{ServerModel, World, server_state, world}
-use Rattle.xa_server.proofs.ConnectionLemmas.{one_run}
-use Rattle.xa_server.proofs.IsolationLemmas.{isolated}
+use Rattle.xa_server.specs.World.{ServerModel, ServerState, World, server_state, world}
+use Rattle.xa_server.proofs.IsolationLemmas.{headline, isolated}
+
+-- ---- one run
+
+-- a run, without its work
+without_work : (old new : World) (held left : DecisionsModel) (events : List Event) (replies : List Reply)
+    → IsWorkOfRun old held events replies new left → IsRun old events replies new
+without_work old new held left [] [] run = run.0
+without_work old new held left (e ∷ events) (r ∷ replies) run =
+    (run.0, run.2, without_work run.0 new run.1 left events replies run.4)
+without_work old new held left _ _ none = absurd none
+
+-- so the headline holds of it
+one_run : (a b : ServerState) (es : List Event) (rs : List Reply)
+    → IsWorkOfRun a.world a.decisions es rs b.world b.decisions → IsOneRun a b es rs
+one_run a b es rs work =
+    let run = without_work a.world b.world a.decisions b.decisions es rs work in
+    record {
+      is_run = run;
+      work = work;
+      headline = headline a.world b.world es rs run;
+      beside_refusals = λ domain. isolated domain a.world b.world es rs run;
+    }
+
+-- ---- up to where the keeper was shut
 
 -- after a reply after which nothing may go on, nothing has changed
 refused_last : (reply : Reply) (is_open : Bool) → may_go_on reply is_open ≡ false → (old : World) (event : Event)

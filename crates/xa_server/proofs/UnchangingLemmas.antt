@@ -22,7 +22,7 @@ use Rattle.xa_server.specs.declared.error_code.ErrorCode.TheVariants.{Keeper}
 use Rattle.xa_server.specs.DocumentKey.{key_of_parts}
 use Rattle.xa_server.specs.Machine.{MachineAnswer, admitted, answer, by_route, next_state, reply_and_state, response_to, route_or_error, step, text_reply, told}
 use Rattle.xa_server.specs.Replies.{json_reply}
-use Rattle.xa_server.specs.Turning.{LeavesState}
+use Rattle.xa_server.specs.TurningAway.{LeavesState}
 
 -- an answer leaves the state
 abbrev Leaves : Option DomainState → MachineAnswer → Type 0

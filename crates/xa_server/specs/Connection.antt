@@ -16,7 +16,7 @@ use Rattle.xa_server.specs.declared.connection.Answered.TheVariants as answered
 use Rattle.xa_server.specs.declared.drive_end.DriveEnd.{DriveEnd}
 use Rattle.xa_server.specs.declared.drive_end.DriveEnd.TheVariants as end
 use Rattle.xa_server.specs.declared.drive_end.DriveEnd.TheVariants.{NoClock}
-use Rattle.xa_server.specs.declared.event.Answer.{Answer}
+use Rattle.xa_server.specs.declared.connection.Answer.{Answer}
 use Rattle.xa_server.specs.declared.front_error.FrontError.{FrontError}
 use Rattle.xa_server.specs.declared.front_error.FrontError.TheVariants.{Memory, Full}
 use Rattle.xa_server.specs.declared.holding.Holding.{Holding}
@@ -25,12 +25,9 @@ use Rattle.xa_server.specs.declared.replies.Reply.{Reply}
 use Rattle.xa_server.specs.declared.replies.Reply.TheVariants.{Sent}
 use Rattle.xa_server.specs.ErrorCode.{code_of_session_fault, error_reply}
 use Rattle.xa_server.specs.Interruption.{ServesMessage}
-use Rattle.xa_server.specs.Isolation.{IsIsolated, IsIsolatedBesideRefusals}
 use Rattle.xa_server.specs.Replies.{bytes_of}
-use Rattle.xa_server.specs.Served.{IsRun}
 use Rattle.xa_server.specs.Transfers.{Grows}
-use Rattle.xa_server.specs.Work.{IsWorkOfRun}
-use Rattle.xa_server.specs.World.{ServerModel, ServerState}
+use Rattle.xa_server.specs.World.{ServerModel}
 
 -- ---- one piece
 
@@ -125,14 +122,6 @@ EndsBy fault old answer new = IsNext old (next.Fault fault) new × (answer ≡ f
 -- the messages of events
 abbrev pub messages_of : List Event → List Message
 messages_of events = map message_of events
-
--- messages were answered by one run of the server, with its work; and each domain's replies in it are those of its own
--- machine, used by it alone
-pub record IsOneRun (old new : ServerState) (events : List Event) (replies : List Reply) : Type 0 where
-  pub is_run : IsRun old.world events replies new.world
-  pub work : IsWorkOfRun old.world old.decisions events replies new.world new.decisions
-  pub headline : IsIsolated old.world new.world events replies
-  pub beside_refusals : IsIsolatedBesideRefusals old.world new.world events replies
 
 -- what a session answers after the last whole message: the fault by which it ends, or that it wants more bytes, or
 -- that it has ended with that message

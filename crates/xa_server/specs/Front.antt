@@ -9,7 +9,7 @@ use Rattle.xa_records.specs.Keeper.{Custody}
 use Rattle.xa_server.specs.Alone as messages
 use Rattle.xa_server.specs.Connection.{IsGiven, ServesNext, answer_of}
 use Rattle.xa_server.specs.declared.connection.Answered.{Answered}
-use Rattle.xa_server.specs.declared.event.Answer.{Answer}
+use Rattle.xa_server.specs.declared.connection.Answer.{Answer}
 use Rattle.xa_server.specs.declared.event.Event.{Event}
 use Rattle.xa_server.specs.declared.event.Event.TheVariants as event
 use Rattle.xa_server.specs.declared.event.Outcome.{Outcome}

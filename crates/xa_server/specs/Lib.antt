@@ -26,4 +26,4 @@ pub mod Transfers
 pub mod Driven
 pub mod Peers
 pub mod handling
-pub mod Turning
+pub mod TurningAway

@@ -5,13 +5,21 @@ use Rattle.std.specs.List.{AllByRecursion}
 use Rattle.xa_records.specs.declared.refusal.Failure.TheVariants.{Store}
 use Rattle.xa_records.specs.Keeper.{Custody}
 use Rattle.xa_server.specs.Alone.{Event}
-use Rattle.xa_server.specs.Connection.{IsOneRun}
 use Rattle.xa_server.specs.declared.replies.Reply.{Reply}
 use Rattle.xa_server.specs.declared.replies.Reply.TheVariants.{Refused}
 use Rattle.xa_server.specs.Interruption.{ServesMessage}
-use Rattle.xa_server.specs.Isolation.{IsIsolatedBesideRefusals}
+use Rattle.xa_server.specs.Isolation.{IsIsolated, IsIsolatedBesideRefusals}
 use Rattle.xa_server.specs.Served.{CountsReply, IsRun, may_go_on}
-use Rattle.xa_server.specs.World.{ServerModel, World, server_state, world}
+use Rattle.xa_server.specs.Work.{IsWorkOfRun}
+use Rattle.xa_server.specs.World.{ServerModel, ServerState, World, server_state, world}
+
+-- messages were answered by one run of the server, with its work; and each domain's replies in it are those of its own
+-- machine, used by it alone
+pub record IsOneRun (old new : ServerState) (events : List Event) (replies : List Reply) : Type 0 where
+  pub is_run : IsRun old.world events replies new.world
+  pub work : IsWorkOfRun old.world old.decisions events replies new.world new.decisions
+  pub headline : IsIsolated old.world new.world events replies
+  pub beside_refusals : IsIsolatedBesideRefusals old.world new.world events replies
 
 -- the first of these, by the replies and by whether the keeper was open after each: up to the first message that was
 -- refused for want of storage and after which it was shut, with that one; all, if there is none

@@ -33,6 +33,7 @@ pub struct RefusedMessage {
     pub cause: Unanswered,
     /// The domain that its path names; none if it names none, or if that couldn't be told for want of memory.
     pub domain: Option<Text>,
-    /// How many others were refused since the last one that was taken (`Server::take_refused`).
+    /// How many others were refused or turned away since the last one that was taken
+    /// (`Server::take_refused`).
     pub others: u64,
 }

@@ -1,17 +1,19 @@
 //! A connection: the messages of its own bytes, each answered by a server.
 //!
 //! `answer` is its step: it cuts off the first message and has it served, or ends the session by a fault.
+//! `answer_now` is the same at a clock's moment.
 ghost use Rattle.std.specs.Prelude.{◌≡◌, true, IfOk, MatchResult, Ok};
 ghost use Rattle.xa_http.specs.declared.session.Look.TheVariants as look;
 ghost use Rattle.xa_http.specs.Messages.{IsLook};
-ghost use Rattle.xa_server.specs.Connection.{AnswersNext, EndsBy, IsHolding, TakesPiece};
+ghost use Rattle.xa_server.specs.Connection.{AnswersNext, AnswersNow, EndsBy, IsHolding, TakesPiece};
 ghost use Rattle.xa_server.specs.Connection.{answer_of, empty_stream};
 ghost use Rattle.xa_server.specs.Interruption.{ServesMessage};
 
-mod turning;
+mod turning_away;
 
+use crate::clock::Clock;
+use crate::drive_end::DriveEnd;
 use crate::error_code::fault_reply;
-use crate::event::Answer;
 use crate::front_error::FrontError;
 use crate::holding::Holding;
 use crate::replies::Reply;
@@ -26,6 +28,15 @@ use xa_value::Moment;
 /// 524,288 of a body, and a piece of 65,536. So one that waits for the rest of a message has room for each
 /// piece that is read.
 const MAX_CONNECTION_BYTES: usize = 1_048_576;
+
+/// The reply to a message of a connection, or to the fault by which its stream ends.
+#[derive(Debug, Drop)]
+pub struct Answer {
+    /// The reply.
+    pub reply: Reply,
+    /// Whether it is the last of its connection: its session has ended with it (RFC 9112, section 9.6).
+    pub last: bool,
+}
 
 /// What a connection is answered.
 #[derive(Debug, Drop)]
@@ -57,6 +68,8 @@ pub struct Connection {
     alloc: Global,
     /// The session of its stream.
     session: Session,
+    /// Whether that has ended by a fault.
+    by_fault: bool,
 }
 
 impl Model for Connection {
@@ -75,7 +88,13 @@ impl Connection {
         Connection {
             alloc,
             session: Session::new(alloc),
+            by_fault: false,
         }
+    }
+
+    /// Whether its session has ended by a fault.
+    pub(crate) fn has_ended_by_fault(&self) -> bool {
+        self.by_fault
     }
 
     /// Whether its session has ended: no message of it is answered any more.
@@ -141,6 +160,30 @@ impl Connection {
         }
     }
 
+    /// `answer`, a message at the clock's moment. No clock is asked for anything else. Fails with `NoClock`,
+    /// if it tells no moment for a message, or with `Memory`: then the server and the connection are as they
+    /// were.
+    pub fn answer_now<R: Records, C: Clock>(
+        &mut self,
+        server: &mut Server<R>,
+        clock: &mut C,
+    ) -> Result<Answered, DriveEnd>
+        ensures { AnswersNow R.custody (C.told clock.old) (C.told clock.new) server.old self.old result
+            server.new self.new }
+    {
+        match self.look()? {
+            Look::Message => {
+                let Some(moment) = clock.now() else {
+                    return Err(DriveEnd::NoClock);
+                };
+                Ok(self.answer(server, moment)?)
+            }
+            Look::Fault(fault) => Ok(Answered::Reply(self.end_by(fault)?)),
+            Look::More => Ok(Answered::Waits),
+            Look::Ended => Ok(Answered::Ended),
+        }
+    }
+
     /// Has a message that was cut off answered by the server, at that moment.
     fn serve<R: Records>(&self, server: &mut Server<R>, moment: Moment, message: &Message) -> Answer
         ensures last { result.last ≡ self.now.ended }
@@ -153,13 +196,14 @@ impl Connection {
 
     /// Ends its session by the fault that stands at the front of its stream, and gives the reply to it.
     /// Without memory for that the session hasn't ended.
-    pub(crate) fn end_by(&mut self, fault: SessionFault) -> Result<Answer, AllocError>
+    fn end_by(&mut self, fault: SessionFault) -> Result<Answer, AllocError>
         requires { IsLook self.old (look.Fault fault) }
         ensures { MatchResult result (λ answer. EndsBy fault self.old answer self.new)
             (λ _. self.new ≡ self.old) }
     {
         let reply = Reply::Sent(fault_reply(self.alloc, fault)?);
         self.session.end();
+        self.by_fault = true;
         Ok(Answer { reply, last: true })
     }
 }

@@ -9,7 +9,6 @@
 //!    is answered at the clock's moment, a fault at any (`AnswersNow`).
 //! 6. `send_answer`: is the reply sent whole, and does the connection go on? (`IsSentAs`)
 ghost use Rattle.std.specs.Prelude.{◌≡◌, ◌<◌, ℕ, true, List, length, Option, Ok};
-ghost use Rattle.xa_server.specs.Connection.{AnswersNow};
 ghost use Rattle.xa_server.specs.Driven.{IsConnection, IsDrivenWithin, IsWaiting, seen_by, situation};
 ghost use Rattle.xa_server.specs.handling.Driving.{IsNextAnswered, IsSentAs, ReadsOnce};
 ghost use Rattle.xa_server.specs.Replies.{bytes_of};
@@ -17,9 +16,8 @@ ghost use Rattle.xa_server.specs.Served.{may_go_on};
 ghost use Rattle.xa_server.specs.Transfers.{IsWritten, ReadEnd};
 
 use crate::clock::Clock;
-use crate::connection::{Answered, Connection};
+use crate::connection::{Answer, Answered, Connection};
 use crate::drive_end::DriveEnd;
-use crate::event::Answer;
 use crate::front::Front;
 use crate::lines::Conn;
 use crate::reader::Reader;
@@ -28,7 +26,6 @@ use crate::sending::send_whole;
 use crate::server::Server;
 use crate::writer::Writer;
 use std::io::ErrorKind;
-use xa_http::Look;
 use xa_records::{Failure, Records};
 
 /// How many bytes are read at once, so that one call of the system gives many small messages. The room for
@@ -72,32 +69,6 @@ fn send_answer<R: Records, W: Writer>(
         return Err(DriveEnd::Ended);
     }
     Ok(true)
-}
-
-impl Connection {
-    /// `answer`, a message at the clock's moment. No clock is asked for anything else. Fails with `NoClock`,
-    /// if it tells no moment for a message, or with `Memory`: then the server and the connection are as they
-    /// were.
-    pub fn answer_now<R: Records, C: Clock>(
-        &mut self,
-        server: &mut Server<R>,
-        clock: &mut C,
-    ) -> Result<Answered, DriveEnd>
-        ensures { AnswersNow R.custody (C.told clock.old) (C.told clock.new) server.old self.old result
-            server.new self.new }
-    {
-        match self.look()? {
-            Look::Message => {
-                let Some(moment) = clock.now() else {
-                    return Err(DriveEnd::NoClock);
-                };
-                Ok(self.answer(server, moment)?)
-            }
-            Look::Fault(fault) => Ok(Answered::Reply(self.end_by(fault)?)),
-            Look::More => Ok(Answered::Waits),
-            Look::Ended => Ok(Answered::Ended),
-        }
-    }
 }
 
 /// Has the next of a connection answered, and sends the reply. Whether there was one; if not, more bytes are

@@ -1,17 +1,8 @@
 //! Calls of `Front` as values, which `play` makes one after another, and what they have given.
+use crate::connection::Answer;
 use crate::front_error::FrontError;
 use crate::lines::Conn;
-use crate::replies::Reply;
 use xa_value::Moment;
-
-/// The reply to a message of a connection, or to the fault by which its stream ends.
-#[derive(Debug, Drop)]
-pub struct Answer {
-    /// The reply.
-    pub reply: Reply,
-    /// Whether it is the last of its connection: its session has ended with it (RFC 9112, section 9.6).
-    pub last: bool,
-}
 
 /// Something that comes of a connection, or is to be done for it: a call of `Front`, with its arguments.
 #[derive(Clone, Copy)]

@@ -9,15 +9,16 @@ ghost use Rattle.xa_server.specs.Front.{AnswersLine, IsPlayed};
 ghost use Rattle.xa_server.specs.FrontLaws.{LinesAreStreams, PlaysGoOn};
 ghost use Rattle.xa_server.specs.Lines.{IsClosed, IsHeld, IsOpened, all_open, line_at, none_open};
 
-mod turning;
+mod turning_away;
 
-use crate::event::{Answer, Event, Outcome};
+use crate::connection::Answer;
+use crate::event::{Event, Outcome};
 use crate::front_error::FrontError;
 use crate::holding::Holding;
 use crate::lines::{Conn, Lines};
 use crate::server::Server;
 use std::alloc::{AllocError, AllocFailed, Global};
-pub use turning::unchanging_messages_leave_the_state;
+pub use turning_away::unchanging_messages_leave_the_state;
 use xa_records::Records;
 use xa_value::Moment;
 

@@ -9,11 +9,12 @@
 //! `limits` of a message. What is not answered with success is a `handling_error`: an error answer, or a
 //! `cause` of a refusal. The bytes of replies come from `replies` and `error_code`.
 //!
-//! Files of connections: a `connection` cuts its messages from its own bytes, and has a server answer them. A
-//! `front` is a server beside its connections, the `lines`. Its calls are values of `event`, its refusals are
-//! `front_error`. `driving` reads a connection from a `reader` until it ends as `drive_end` says, asks the
-//! `clock`, and sends each reply by `sending` to a `writer`. `peers` give connections, or an `accept_error`.
-//! `interruption` has the law of a crash at any moment.
+//! Files of connections: a `connection` cuts its messages from its own bytes, tells its `holding`, and has a
+//! server answer them, at a moment or at a `clock`'s. A `front` is a server beside its connections, the
+//! `lines`. Its calls are values of `event`, its refusals are `front_error`. In the folders of both,
+//! `turning_away` answers a message without a server. `driving` reads a connection from a `reader` until it
+//! ends as `drive_end` says, and sends each reply by `sending` to a `writer`. `peers` give connections, or an
+//! `accept_error`. `interruption` has the law of a crash at any moment.
 //!
 //! In a file of functions each stands after those that it calls. In a file of a type its methods come first.
 #![tactic(auto)]
@@ -60,11 +61,11 @@ mod writer;
 pub use accept_error::AcceptError;
 pub use cause::{Cause, RefusedMessage, Unanswered};
 pub use clock::Clock;
-pub use connection::{Answered, Connection};
+pub use connection::{Answer, Answered, Connection};
 pub use drive_end::DriveEnd;
 pub use driving::drive;
 pub use error_code::{ErrorCode, fault_reply};
-pub use event::{Answer, Event, Outcome};
+pub use event::{Event, Outcome};
 pub use front::{Front, lines_are_streams, unchanging_messages_leave_the_state};
 pub use front_error::FrontError;
 pub use holding::Holding;

@@ -41,8 +41,9 @@ pub trait Peers {
             (λ _. came self.new ≡ came self.old) }
         ensures parted { parted self.new ≡ parted self.old };
 
-    /// Takes a connection back that has ended.
-    fn part(&mut self, input: Self::Input, output: Self::Output)
+    /// Takes a connection back that has ended. Whether it did by a fault, to which the reply was sent: then
+    /// its peer may still send, and lose that reply by a reset (RFC 9112, section 9.6).
+    fn part(&mut self, input: Self::Input, output: Self::Output, by_fault: bool)
         ensures came { came self.new ≡ came self.old }
         ensures parted { Grows (parted self.old) (parted self.new)
             (record {
@@ -51,6 +52,11 @@ pub trait Peers {
               contents = Self.Output.contents output;
               writes = Self.Output.writes output;
             } ∷ []) };
+}
+
+/// Whether a connection has ended so by a fault, to which the reply was sent.
+fn ends_by_fault(end: DriveEnd, connection: &Connection) -> bool {
+    end == DriveEnd::Ended && connection.has_ended_by_fault()
 }
 
 /// Takes the next connection, drives it from its first byte to its end, as `drive` does, and hands it back.
@@ -68,6 +74,6 @@ pub fn drive_next<R: Records, P: Peers, C: Clock>(
     let (mut input, mut output) = peers.next(is_last)?;
     let mut connection = Connection::new(server.alloc);
     let end = drive_open(server, &mut connection, &mut input, &mut output, clock);
-    peers.part(input, output);
+    peers.part(input, output, ends_by_fault(end, &connection));
     Ok(end)
 }

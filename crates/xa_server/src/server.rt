@@ -198,8 +198,8 @@ impl<R: Records> Server<R> {
         self.resources.texts.shelf.readings()
     }
 
-    /// The last message that was refused, if one was since this was asked: why, and of which domain it was. A
-    /// reply tells neither, so that it tells nobody how the machine fares.
+    /// The last message that was refused or turned away, if one was since this was asked: why, and of which
+    /// domain it was. A reply tells neither, so that it tells nobody how the machine fares.
     pub fn take_refused(&mut self) -> Option<RefusedMessage>
         ensures { self.new ≡ self.old }
     {
@@ -336,7 +336,7 @@ fn note_refused(
     note(alloc, routes, refused, Unanswered::Refused(cause), message);
 }
 
-/// Notes the message as the last one that was refused, for that cause.
+/// Notes the message as the last one that was refused or turned away, for that cause.
 fn note(
     alloc: Global,
     routes: &Routes,

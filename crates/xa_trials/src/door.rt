@@ -71,7 +71,7 @@ impl Peers for Door {
         Ok((sender, receiver))
     }
 
-    fn part(&mut self, input: Sender, output: Receiver) {
+    fn part(&mut self, input: Sender, output: Receiver, _by_fault: bool) {
         // Without memory it is lost, and so is its part of the row's answer.
         let _parted = self.parted.push_back(Ends {
             sender: input,

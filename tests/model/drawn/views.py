@@ -6,6 +6,7 @@ from combinations import Combinations, Findings
 from documents import DocumentFault, document_of
 from drafts import PATTERNS, SHORT, VERSIONS, Drafts, written
 from rows import encoded
+from versions import numbers
 from worlds import CATEGORIES, World
 
 BEGINNING = "urn:oasis:names:tc:xacml:3.0:"
@@ -29,8 +30,9 @@ def key_of(draft):
 
 
 def distinct(drafts):
-    """The documents, the last alone of those of one kind, id and version."""
-    return list({(*key_of(draft), held["Version"]): draft for draft in drafts for held in draft.values()}.values())
+    """The documents, the last alone of those of one kind, id and version, however that is written."""
+    return list({(*key_of(draft), *numbers(held["Version"])): draft
+                 for draft in drafts for held in draft.values()}.values())
 
 
 def to_set(name, **bounds):

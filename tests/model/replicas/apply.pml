@@ -2,14 +2,15 @@
 
    Entries are numbers here: append.pml shows that the log only grows at its end. The daemon may be killed, or the
    machine may crash, before any step: what a daemon has sent stays under way (on a connection whose other end has gone),
-   and may be answered at any later moment, before or behind what comes on other connections, also more than once. pdpd
-   may be killed too, with all that it has under way; what it has made it keeps. That an entry applied twice in succession
-   leaves what it leaves once is pdpd's theorem; that it is never applied otherwise is shown here.
+   and may be answered at any later moment, also more than once, but before what comes later: pdpd takes connections for
+   changes one by one, as they come. It may be killed too, with all that it has under way; what it has made it keeps. That
+   an entry applied twice in succession leaves what it leaves once is pdpd's theorem; that it is never applied otherwise
+   is shown here.
 
-   It matches deploy/replica/core.py, Applying, and deploy/log/daemon.py, `sent` and `settle`.
-   Wrong models: SYNC_LATER (the position before fdatasync), LATE_MESSAGE (an entry is sent again while a message that
-   was left behind is under way: that is answered behind entry n + 1), SENT_FIRST (an entry is sent before its record is
-   on the disk). */
+   It matches deploy/replica/core.py, Applying, and deploy/log/daemon.py, `sent`.
+   Wrong models: SYNC_LATER (the position before fdatasync), LATE_MESSAGE (pdpd answers connections in any order: a
+   message that was left behind is answered behind entry n + 1), SENT_FIRST (an entry is sent before its record is on the
+   disk). */
 
 #define REPLICAS 3
 #define ENTRIES 3
@@ -36,10 +37,10 @@ byte i;
 #define OLD(r, n) late[r * (ENTRIES + 1) + n]
 #define IS_NONE_LEFT(r) (!OLD(r, 1) && !OLD(r, 2) && !OLD(r, 3))
 #ifdef LATE_MESSAGE
-#define IS_SETTLED(r) true
+#define HAS_TURN(r) true
 #else
-/* an entry that may have been sent before is sent once pdpd has ended all connections that were left behind */
-#define IS_SETTLED(r) (!again[r] || IS_NONE_LEFT(r))
+/* the daemon's message is answered once all is answered, or gone, that was left behind */
+#define HAS_TURN(r) IS_NONE_LEFT(r)
 #endif
 
 /* pdpd makes an entry: the one behind the last, or the last one once more */
@@ -72,7 +73,7 @@ end:
 #endif
        }
     :: d_step { state[r] == idle && pending[r] -> again[r] = 1; state[r] = recorded }
-    :: d_step { state[r] == recorded && IS_SETTLED(r) -> state[r] = sent }
+    :: d_step { state[r] == recorded -> state[r] = sent }
     :: d_step { state[r] == sent && reply[r] != none ->
         /* a reply that counts as the first one is one */
         assert(again[r] || reply[r] == first);
@@ -80,8 +81,9 @@ end:
     /* the connection was lost: it is sent once more */
     :: d_step { state[r] == sent -> leave_behind(r); again[r] = 1; state[r] = recorded }
     /* 503: nothing was made, or all, once pdpd is started again, and nothing is under way: it is sent once more */
-    :: d_step { state[r] == sent && reply[r] == none -> again[r] = 1; state[r] = recorded }
-    :: d_step { state[r] == sent && reply[r] == none -> make(r, AT(r) + 1); again[r] = 1; state[r] = recorded }
+    :: d_step { state[r] == sent && reply[r] == none && HAS_TURN(r) -> again[r] = 1; state[r] = recorded }
+    :: d_step { state[r] == sent && reply[r] == none && HAS_TURN(r) ->
+        make(r, AT(r) + 1); again[r] = 1; state[r] = recorded }
 #ifdef SYNC_LATER
     :: d_step { state[r] == answered -> memory[r]++; pending[r] = 0; again[r] = 0; state[r] = idle }
     :: d_step { position[r] < memory[r] -> position[r] = memory[r] }
@@ -98,7 +100,7 @@ end:
     :: d_step { state[r] == answered -> leave_behind(r); position[r]++; pending[r] = 0 }
 #endif
     /* ---- pdpd */
-    :: d_step { state[r] == sent && reply[r] == none ->
+    :: d_step { state[r] == sent && reply[r] == none && HAS_TURN(r) ->
         if :: store[r] == AT(r) -> reply[r] = first :: else -> reply[r] = second fi;
         make(r, AT(r) + 1) }
     :: d_step { OLD(r, 1) -> make(r, 1) }

@@ -96,25 +96,22 @@ impl Listening {
 pub struct SharedStream {
     /// The socket.
     stream: Rc<TcpStream>,
-    /// Whether the peer sends nothing more, or a call failed.
-    is_over: bool,
+    /// How often it was read from.
+    reads: u32,
 }
 
 impl Read for SharedStream {
     fn read(&mut self, room: &mut [u8]) -> io::Result<usize> {
         let mut stream = &*self.stream;
-        let given = stream.read(room);
-        self.is_over = !matches!(given, Ok(1..));
-        given
+        self.reads = self.reads.saturating_add(1);
+        stream.read(room)
     }
 }
 
 impl Write for SharedStream {
     fn write(&mut self, bytes: &[u8]) -> io::Result<usize> {
         let mut stream = &*self.stream;
-        let taken = stream.write(bytes);
-        self.is_over = taken.is_err();
-        taken
+        stream.write(bytes)
     }
 
     fn flush(&mut self) -> io::Result<()> {
@@ -136,11 +133,11 @@ fn shared(alloc: Global, stream: TcpStream) -> Result<(SharedStream, SharedStrea
     Ok((
         SharedStream {
             stream: input,
-            is_over: false,
+            reads: 0,
         },
         SharedStream {
             stream: output,
-            is_over: false,
+            reads: 0,
         },
     ))
 }
@@ -158,9 +155,9 @@ impl Peers for Listening {
         shared(self.rt.alloc(), stream)
     }
 
-    fn part(&mut self, input: SharedStream, output: SharedStream) {
-        if !input.is_over && !output.is_over {
-            part_with(&self.rt, &input.stream);
+    fn part(&mut self, input: SharedStream, _output: SharedStream, by_fault: bool) {
+        if by_fault {
+            part_with(&self.rt, &input.stream, input.reads);
         }
     }
 }

@@ -1,4 +1,4 @@
-//! Parting with a connection, so that its last reply isn't lost by a reset.
+//! Parting with a connection behind the reply to a fault, so that this isn't lost by a reset.
 use std::io::{ErrorKind, Read};
 use std::net::{Shutdown, TcpStream};
 use std::rt::{Clock, HostRuntime};
@@ -7,8 +7,11 @@ use std::time::Duration;
 /// For how many seconds what comes is dropped.
 const PARTING_SECONDS: u64 = 2;
 
-/// How often it is read then at most: 64 MiB, as by `listen`.
-const MAX_READS: u32 = 1_024;
+/// How often a connection is read from in all, before and then (`drive` of `xa_server`).
+const MAX_READS: u32 = 1_000_000;
+
+/// How often it is then at most: 64 MiB, as by `listen`.
+const MAX_DROPPED: u32 = 1_024;
 
 /// How many bytes are read at once.
 const PIECE_BYTES: usize = 65_536;
@@ -33,9 +36,10 @@ fn drops(mut stream: &TcpStream, left: Duration, room: &mut [u8; PIECE_BYTES]) -
 }
 
 /// Tells the peer that nothing more is sent, and drops what still comes, until its stream ends: for two
-/// seconds and 1,024 reads at most. A socket that is closed before it is empty resets its connection, and the
-/// peer may lose what was sent last (RFC 9112, section 9.6).
-pub(super) fn part_with(rt: &HostRuntime, stream: &TcpStream) {
+/// seconds and 1,024 reads at most, which are among those of `MAX_READS`, as the `reads` before them are. A
+/// socket that is closed before it is empty resets its connection, and the peer may lose what was sent last
+/// (RFC 9112, section 9.6). Behind its last message a peer sends nothing, so it isn't waited for there.
+pub(super) fn part_with(rt: &HostRuntime, stream: &TcpStream, reads: u32) {
     let Ok(began) = rt.monotonic() else {
         return;
     };
@@ -43,7 +47,7 @@ pub(super) fn part_with(rt: &HostRuntime, stream: &TcpStream) {
         return;
     }
     let mut room = [0; PIECE_BYTES];
-    for _ in 0..MAX_READS {
+    for _ in 0..MAX_READS.saturating_sub(reads).min(MAX_DROPPED) {
         if !drops(stream, time_left(rt, began), &mut room) {
             return;
         }

@@ -1,16 +1,14 @@
 -- What is done for one connection, call by call: a write, a read, an answer, and another write.
-use Rattle.std.specs.Prelude.{◌≡◌, ◌≢◌, ◌<◌, ◌≤◌, ◌⊎◌, ℕ, Bool, true, false, List, [], ◌∷◌, ◌++◌, length}
+use Rattle.std.specs.Prelude.{◌≡◌, ◌≢◌, ◌<◌, ◌≤◌, ◌⊎◌, ℕ, Bool, true, List, [], ◌∷◌, ◌++◌, length}
 use Rattle.std.specs.Prelude.{Option, Some, None, Result, Ok, Err}
 use Rattle.std.specs.Duration.{as_nanos}
 use Rattle.xa_records.specs.Keeper.{Custody}
-use Rattle.xa_server.specs.declared.event.Answer.{Answer}
-use Rattle.xa_server.specs.declared.event.Outcome.{Outcome}
-use Rattle.xa_server.specs.declared.event.Outcome.TheVariants as outcome
+use Rattle.xa_server.specs.declared.connection.Answer.{Answer}
 use Rattle.xa_server.specs.declared.front.Front.{Front}
 use Rattle.xa_server.specs.declared.front_error.FrontError.{FrontError}
 use Rattle.xa_server.specs.declared.lines.Conn.{Conn}
 use Rattle.xa_server.specs.Transfers.{Grows}
-use Rattle.xa_server.specs.Turning.{Handling, IsPlayedBeside}
+use Rattle.xa_server.specs.TurningAway.{Handling, IsPlayedBeside}
 use Rattle.xa_reactor.specs.declared.access.Access.{Access}
 use Rattle.xa_reactor.specs.declared.access.Access.TheVariants.{All}
 use Rattle.xa_reactor.specs.declared.halt.Halt.{Halt}
@@ -77,10 +75,10 @@ ReadsInTime now old new =
     ⊎ ((old.stage ≡ stage.Quiet) × (new.stage ≡ stage.Incoming) × (as_nanos new.since ≡ now))
 
 -- behind an answer the time of its reply begins
-abbrev pub AnswersInTime : ℕ → Option Answer → Lane → Lane → Type 0
-AnswersInTime at None old new = new ≡ record old { holding = new.holding }
-AnswersInTime at (Some answer) old new =
-    (as_nanos new.since ≡ at) × (new.stage ≡ stage.Outgoing → as_nanos new.mark ≡ at)
+abbrev pub AnswersInTime : ℕ → ℕ → Option Answer → Lane → Lane → Type 0
+AnswersInTime at sent None old new = new ≡ record old { holding = new.holding }
+AnswersInTime at sent (Some answer) old new =
+    (as_nanos new.since ≡ at) × (new.stage ≡ stage.Outgoing → (as_nanos new.mark ≡ at) × (new.moved ≤ sent))
 
 -- behind an answer its reply is held; without one nothing else is than before
 abbrev pub HoldsAnswer : Option Answer → Lane → Lane → Type 0
@@ -94,7 +92,7 @@ TakesAnswer None at progress old new =
     (progress ≢ Goes) × (new ≡ record old { holding = new.holding }) × ((place : ℕ) → IsEnd place [] new progress)
 TakesAnswer (Some answer) at progress old new =
     (progress ≡ Goes) × (new.outgoing ≡ under_way_of (Some answer)) × (new.stage ≡ stage.Outgoing)
-    × (as_nanos new.since ≡ at) × (as_nanos new.mark ≡ at)
+    × (as_nanos new.since ≡ at) × (as_nanos new.mark ≡ at) × (new.moved ≡ 0)
 
 -- ---- calls of the front
 
@@ -115,11 +113,6 @@ pub record Feeds {R : Type 0} (custody : R → Custody) (conn : Conn) (piece : L
   pub makes : Makes custody calls front_old front_new
   pub lasts : Lasts conn front_old.lines front_new.lines
 
--- a piece was held whole, by the outcome of a step
-abbrev pub held_in : Outcome → Bool
-held_in (outcome.Held (Ok done)) = true
-held_in _ = false
-
 -- that, and whether all of it came to the stream
 pub record FeedsBy {R : Type 0} (custody : R → Custody) (conn : Conn) (piece : List ℕ) (whole : Bool)
     (front_old front_new : Front R) : Type 0 where
@@ -135,11 +128,6 @@ answer_in (Err error) = None
 abbrev pub answer_asked : Result (Result (Option Answer) FrontError) Halt → Option Answer
 answer_asked (Ok given) = answer_in given
 answer_asked (Err halt) = None
-
--- what a front gave for an answer, by the outcome of a step, if it gave one
-abbrev pub answer_of_outcome : Outcome → Option Answer
-answer_of_outcome (outcome.Answered result) = answer_in result
-answer_of_outcome _ = None
 
 -- these are all of one handling
 abbrev pub AreAll : Handling → List Handling → Type 0
@@ -174,7 +162,7 @@ pub record Sends {N : Type 0} (done : N → Option (List Traffic)) (share : Shar
   pub nothing_read : received_at share.conn.number traffic ≡ []
   pub balance : old.outgoing.left ≡ sent_at share.conn.number traffic ++ new.outgoing.left
   pub held : IsHeldOn old.outgoing new.outgoing
-  pub parts : new.stage ≡ stage.Parting → (old.stage ≡ stage.Parting) ⊎ PartsFor old.outgoing.last share.parts new
+  pub parts : new.stage ≡ stage.Parting → (old.stage ≡ stage.Parting) ⊎ PartsFor old.outgoing.last share.parts
   pub time : SendsInTime (as_nanos share.now) old new
   pub marks : new.stage ≡ stage.Outgoing
       → MarksAt (as_nanos share.now) (length (sent_at share.conn.number traffic)) old new
@@ -186,7 +174,6 @@ pub record Takes {R : Type 0} (custody : R → Custody) (share : Share) (progres
     (old new : Lane) (front_old front_new : Front R) : Type 0 where
   pub feeds : Feeds custody share.conn piece front_old front_new
   pub parted : old.stage ≡ stage.Parting → feeds.read ≡ []
-  pub unlooked : old.stage ≡ stage.Parting → new.holding ≡ old.holding
   pub kept : new.outgoing ≡ old.outgoing
   pub time : ReadsInTime (as_nanos share.now) old new
   pub ends : IsEnd share.conn.number [] new progress
@@ -203,7 +190,6 @@ pub record Reads {R N : Type 0} (custody : R → Custody) (done : N → Option (
     pub received : received_at share.conn.number traffic ≡ piece
     pub feeds : Feeds custody share.conn piece front_old front_new
     pub parted : old.stage ≡ stage.Parting → feeds.read ≡ []
-    pub unlooked : old.stage ≡ stage.Parting → new.holding ≡ old.holding
     pub kept : new.outgoing ≡ old.outgoing
     pub time : ReadsInTime (as_nanos share.now) old new
     pub ends : new.outgoing.left ≡ [] → IsEnd share.conn.number traffic new progress
@@ -225,7 +211,7 @@ pub record SendsAndReads {R N : Type 0} (custody : R → Custody) (done : N → 
     pub held : IsHeldOn old.outgoing new.outgoing
     pub parts : new.stage ≡ stage.Parting
         → (old.stage ≡ stage.Parting)
-        ⊎ ((new.outgoing.left ≡ []) × (old.outgoing.left ≢ []) × PartsFor old.outgoing.last share.parts new)
+        ⊎ ((new.outgoing.left ≡ []) × (old.outgoing.left ≢ []) × PartsFor old.outgoing.last share.parts)
     pub time : KeepsTime (as_nanos share.now) None old new
     pub marks : new.stage ≡ stage.Outgoing
         → MarksAt (as_nanos share.now) (length (sent_at share.conn.number traffic)) old new
@@ -248,7 +234,7 @@ pub record AnswersAndSends {R N : Type 0} (custody : R → Custody) (done : N �
   pub held : HoldsAnswer answer old new
   pub parts : new.stage ≡ stage.Parting
       → (old.stage ≡ stage.Parting)
-      ⊎ ((new.outgoing.left ≡ []) × (answer ≢ None) × PartsFor (is_last answer) share.parts new)
-  pub time : AnswersInTime at answer old new
+      ⊎ ((new.outgoing.left ≡ []) × (answer ≢ None) × PartsFor (is_last answer) share.parts)
+  pub time : AnswersInTime at (length (sent_at share.conn.number traffic)) answer old new
   pub ends : EndsAs share.conn.number traffic new result
   pub grows : Grows (done network_old) (done network_new) traffic

@@ -2,26 +2,16 @@
 ghost use Rattle.std.specs.Prelude.{◌≡◌, false, true, IfOk, IsSomeAnd};
 ghost use Rattle.xa_http.specs.Changing.{TellsChange};
 ghost use Rattle.xa_server.specs.Lines.{line_at};
-ghost use Rattle.xa_server.specs.Turning.{serves, serves_unchanging, turns_away};
+ghost use Rattle.xa_server.specs.TurningAway.{serves, serves_unchanging, turns_away};
 ghost use Rattle.xa_reactor.specs.declared.access.Access.TheVariants as access;
 ghost use Rattle.xa_reactor.specs.Step.{AreHandledBy};
-ghost use Rattle.xa_reactor.specs.handling.Going.{AreAll, Asks, answer_asked, answer_in, answer_of_outcome};
+ghost use Rattle.xa_reactor.specs.handling.Going.{AreAll, Asks, answer_asked, answer_in};
 
 use crate::access::Access;
 use crate::halt::Halt;
 use crate::lane::Share;
 use xa_records::Records;
-use xa_server::{Answer, Clock, Conn, Event, Front, FrontError, Outcome};
-
-/// What a step has given, if it was asked for an answer.
-fn answer_of(outcome: Outcome) -> Result<Option<Answer>, FrontError>
-    ensures { answer_in result ≡ answer_of_outcome outcome }
-{
-    match outcome {
-        Outcome::Answered(answered) => answered,
-        Outcome::Begun(_) | Outcome::Held(_) | Outcome::Finished(_) => Err(FrontError::Memory),
-    }
-}
+use xa_server::{Answer, Clock, Conn, Front, FrontError};
 
 /// Asks for the next answer to a connection, at the clock's moment.
 fn ask<R: Records, C: Clock>(
@@ -36,7 +26,7 @@ fn ask<R: Records, C: Clock>(
     let Some(moment) = clock.now() else {
         return Err(Halt::NoClock);
     };
-    Ok(answer_of(front.step(&Event::Answer(conn, moment))))
+    Ok(front.answer(conn, moment))
 }
 
 /// Turns away the next message of a connection, which asks for a change.

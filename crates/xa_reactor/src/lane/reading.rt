@@ -5,7 +5,7 @@ ghost use Rattle.xa_reactor.specs.declared.limits.Stage.TheVariants as stages;
 ghost use Rattle.xa_reactor.specs.declared.progress.Progress.TheVariants as progress;
 ghost use Rattle.xa_reactor.specs.declared.progress.Reason.TheVariants as reasons;
 ghost use Rattle.xa_reactor.specs.Step.{IsEnd};
-ghost use Rattle.xa_reactor.specs.handling.Going.{FeedsBy, Reads, ReadsInTime, StaysInStage, Takes, held_in};
+ghost use Rattle.xa_reactor.specs.handling.Going.{FeedsBy, Reads, ReadsInTime, StaysInStage, Takes};
 
 use crate::board::Ready;
 use crate::lane::{Lane, PIECE_BYTES, Share};
@@ -14,27 +14,16 @@ use crate::network::Network;
 use crate::progress::{Progress, Reason};
 use std::io::ErrorKind;
 use xa_records::Records;
-use xa_server::{Conn, Event, Front, Outcome};
+use xa_server::{Conn, Front};
 
 /// How many bytes are dropped at most behind the last reply.
 const MOST_DROPPED: usize = 67_108_864;
-
-/// Whether a piece was held whole, by what its step has given.
-fn is_held(outcome: Outcome) -> bool
-    ensures { result ≡ held_in outcome }
-{
-    match outcome {
-        Outcome::Held(Ok(())) => true,
-        Outcome::Held(Err(_)) => false,
-        Outcome::Begun(_) | Outcome::Answered(_) | Outcome::Finished(_) => false,
-    }
-}
 
 /// Hands a piece to a connection's stream. Whether there was memory for it.
 fn feed<R: Records>(front: &mut Front<R>, piece: &[u8], conn: Conn) -> bool
     ensures { FeedsBy R.custody conn piece.now result front.old front.new }
 {
-    is_held(front.step(&Event::Piece(conn, piece)))
+    front.piece(conn, piece).is_ok()
 }
 
 impl Lane {
@@ -42,7 +31,6 @@ impl Lane {
     fn drop_piece(&mut self, count: usize) -> Progress
         requires { self.old.stage ≡ stages.Parting }
         ensures outgoing { self.new.outgoing ≡ self.old.outgoing }
-        ensures holding { self.new.holding ≡ self.old.holding }
         ensures stays { StaysInStage self.old self.new }
         ensures ends { (result ≡ progress.Goes) ⊎ (result ≡ progress.Ends reasons.Ended) }
     {

@@ -1,7 +1,6 @@
 //! How the reply that is under way to a peer is sent, and what is waited for behind it.
 ghost use Rattle.std.specs.Prelude.{◌≡◌, ◌≢◌, ◌<◌, [], length};
 ghost use Rattle.std.specs.Duration.{as_nanos};
-ghost use Rattle.xa_server.specs.declared.holding.Holding.TheVariants as holdings;
 ghost use Rattle.xa_server.specs.Transfers.{Grows};
 ghost use Rattle.xa_reactor.specs.declared.limits.Stage.TheVariants as stages;
 ghost use Rattle.xa_reactor.specs.Sending.{none_under_way};
@@ -49,48 +48,40 @@ impl Lane {
         self.enter(Stage::Parting, share.now);
     }
 
-    /// What is waited for by what it holds. It is parted with if its stream has ended.
-    fn wait_by<N: Network>(&mut self, network: &mut N, holding: Holding, share: Share)
+    /// What is waited for by what it holds. Behind a reply that isn't the last no session has ended, so it
+    /// never waits for what can't come.
+    fn wait_by(&mut self, holding: Holding, now: Duration)
         ensures outgoing { self.new.outgoing ≡ self.old.outgoing }
         ensures holding { self.new.holding ≡ self.old.holding }
         ensures stage { self.new.stage ≢ stages.Outgoing }
-        ensures since { self.new.since ≡ share.now }
-        ensures parts { self.new.stage ≡ stages.Parting → holding ≡ holdings.Ended }
-        ensures done { Grows (N.done network.old) (N.done network.new)
-            (finish_by share.conn.number self.new.stage) }
+        ensures stays { self.new.stage ≢ stages.Parting }
+        ensures since { self.new.since ≡ now }
     {
         match holding {
-            Holding::Nothing => self.enter(Stage::Quiet, share.now),
-            Holding::Part | Holding::Whole => self.enter(Stage::Incoming, share.now),
-            Holding::Ended => self.part_with(network, share),
+            Holding::Nothing => self.enter(Stage::Quiet, now),
+            Holding::Part | Holding::Whole | Holding::Ended => self.enter(Stage::Incoming, now),
         }
     }
 
     /// What it holds now, and what is waited for by it.
-    fn look<R: Records, N: Network>(
-        &mut self,
-        front: &mut Front<R>,
-        network: &mut N,
-        share: Share,
-    ) -> Progress
+    fn look<R: Records>(&mut self, front: &mut Front<R>, share: Share) -> Progress
         requires { self.old.stage ≡ stages.Outgoing }
         ensures same { front.new ≡ front.old }
         ensures outgoing { self.new.outgoing ≡ self.old.outgoing }
-        ensures done { Grows (N.done network.old) (N.done network.new)
-            (finish_by share.conn.number self.new.stage) }
+        ensures stays { self.new.stage ≢ stages.Parting }
         ensures time { EndsReply (as_nanos share.now) self.old self.new }
-        ensures parts { self.new.stage ≡ stages.Parting → self.new.holding ≡ holdings.Ended }
         ensures ends { IsEnd share.conn.number [] self.new result }
     {
         let Ok(holding) = front.holding(share.conn) else {
             return Progress::Ends(Reason::WantOfMemory);
         };
         self.holding = holding;
-        self.wait_by(network, holding, share);
+        self.wait_by(holding, share.now);
         Progress::Goes
     }
 
     /// What comes behind a reply that was sent whole: the next message, or the end.
+    #[tactic(auto, using(crate::proofs::GoingLemmas::finish_other))]
     fn end_reply<R: Records, N: Network>(
         &mut self,
         front: &mut Front<R>,
@@ -103,8 +94,7 @@ impl Lane {
         ensures done { Grows (N.done network.old) (N.done network.new)
             (finish_by share.conn.number self.new.stage) }
         ensures time { EndsReply (as_nanos share.now) self.old self.new }
-        ensures parts { self.new.stage ≡ stages.Parting
-            → PartsFor self.old.outgoing.last share.parts self.new }
+        ensures parts { self.new.stage ≡ stages.Parting → PartsFor self.old.outgoing.last share.parts }
         ensures ends { IsEnd share.conn.number [] self.new result }
     {
         let parts = self.outgoing.is_last() || share.parts;
@@ -113,7 +103,7 @@ impl Lane {
             self.part_with(network, share);
             return Progress::Goes;
         }
-        self.look(front, network, share)
+        self.look(front, share)
     }
 
     /// Sends some of what is under way, by one write.

@@ -99,8 +99,8 @@ impl Lanes {
         self.has_more_free(0) && !self.has_more_free(1)
     }
 
-    /// Whether another connection may have the place of one that is driven out for it, by the address at
-    /// which it comes.
+    /// Whether so few places are free that one may be driven out for another connection, by the address at
+    /// which that comes.
     #[tactic(auto, using(crate::proofs::KeepingLemmas::all_open))]
     pub(crate) fn is_full_for(&self, access: Access) -> bool
         ensures { result ≡ true → IsFullFor access self.now }

@@ -1,10 +1,9 @@
 //! Who is taken, and who has to go for it.
-ghost use Rattle.std.specs.Prelude.{◌≡◌, ◌≢◌, true, None, IfSome, Some};
+ghost use Rattle.std.specs.Prelude.{◌≡◌, ◌≢◌, None, IfSome, Some};
 ghost use Rattle.std.specs.Duration.{as_nanos};
 ghost use Rattle.xa_server.specs.Connection.{empty_stream};
 ghost use Rattle.xa_server.specs.Lines.{first_free, line_at, with_line};
 ghost use Rattle.xa_reactor.specs.declared.access.Access.{Access};
-ghost use Rattle.xa_reactor.specs.declared.access.Access.TheVariants.{Changes};
 ghost use Rattle.xa_reactor.specs.declared.board.Board.{Board};
 ghost use Rattle.xa_reactor.specs.handling.Going.{Makes};
 ghost use Rattle.xa_reactor.specs.handling.Taking.{Follows, IsRoom, Opens, TakesOn};
@@ -22,30 +21,40 @@ use crate::progress::Reason;
 use crate::reactor::Reactor;
 use std::time::Duration;
 use xa_records::Records;
-use xa_server::{Conn, Event, Front, Outcome};
+use xa_server::{Conn, Front};
 
 /// Opens a connection of the front, the least that is free.
-#[tactic(auto, using(crate::proofs::TakingLemmas::begun_makes))]
+#[tactic(auto, using(crate::proofs::TakingLemmas::full_if_refused))]
 fn begin<R: Records>(front: &mut Front<R>) -> Conn
     requires { first_free front.old.lines ≢ None }
     ensures first { first_free front.old.lines ≡ Some result.number }
     ensures lines { front.new.lines ≡ with_line result (Some empty_stream) front.old.lines }
     ensures makes { (access : Access) → Makes R.custody (calls_in (opens result access)) front.old front.new }
 {
-    let Outcome::Begun(Ok(conn)) = front.step(&Event::Begin) else {
+    let Ok(conn) = front.open() else {
         unreachable!()
     };
     conn
 }
 
 /// Closes a connection of the front.
-#[tactic(auto, using(crate::proofs::TakingLemmas::finished_makes))]
+#[tactic(auto, using(crate::proofs::TakingLemmas::finished_lines))]
 fn finish<R: Records>(front: &mut Front<R>, conn: Conn)
     requires { line_at conn front.old.lines ≢ None }
     ensures lines { front.new.lines ≡ with_line conn None front.old.lines }
     ensures makes { (reason : Reason) → Makes R.custody (calls_in (closes conn reason)) front.old front.new }
 {
-    let _closed = front.step(&Event::Finish(conn));
+    let _closed = front.close(conn);
+}
+
+/// Takes a connection that waits at a door.
+fn accept_at<N: Network>(network: &mut N, access: Access) -> Arrival
+    ensures { N.done network.new ≡ N.done network.old }
+{
+    match access {
+        Access::All | Access::Asks => network.accept(),
+        Access::Changes => network.accept_change(),
+    }
 }
 
 impl Reactor {
@@ -61,12 +70,15 @@ impl Reactor {
         }
     }
 
-    /// Whether there is a place for another connection: a free one, or that of the one that is driven out
-    /// for it.
+    /// Whether a connection may be taken: one may wait at its door, no pause is left there, and there is a
+    /// place for it: a free one, or that of the one that is driven out for it.
     fn room_for_one(&self, access: Access, now: Duration) -> Option<Option<usize>>
         ensures { IfSome result
             (λ driven_out. IsRoom self.now.board (as_nanos now) driven_out access self.now.lanes) }
     {
+        if !self.board.waits(access) || !self.doors.at(access).pause_left(now).is_zero() {
+            return None;
+        }
         if self.lanes.has_place(access) {
             return Some(None);
         }
@@ -167,125 +179,77 @@ impl Reactor {
         }
     }
 
-    /// Takes one connection at the first door, if one waits and there is a place for it. Whether another may
-    /// be tried.
+    /// Takes one connection at a door, if one waits there and there is a place for it. Whether another may be
+    /// tried.
     fn take_one<R: Records, N: Network>(
         &mut self,
         front: &mut Front<R>,
         network: &mut N,
+        access: Access,
         now: Duration,
     ) -> Result<bool, Halt>
-        requires { AreAlike self.old.lanes front.old.lines }
+        requires alike { AreAlike self.old.lanes front.old.lines }
+        requires fits { Fits self.old.is_split access }
         ensures taken { TakesOn R.custody N.done self.old.is_split (as_nanos now) self.old.board
             self.new.board self.old.lanes self.new.lanes front.old front.new network.old network.new }
         ensures alike { AreAlike self.new.lanes front.new.lines }
         ensures same { self.new
-            ≡ record self.old { lanes = self.new.lanes; board = self.new.board; door = self.new.door } }
+            ≡ record self.old { lanes = self.new.lanes; board = self.new.board; doors = self.new.doors } }
     {
-        let access = self.access();
         let Some(driven_out) = self.room_for_one(access, now) else {
             return Ok(false);
         };
-        match network.accept() {
+        match accept_at(network, access) {
             Arrival::Came => {
-                self.door.succeed();
+                self.doors.at_mut(access).succeed();
                 self.welcome(front, network, driven_out, access, now);
                 Ok(true)
             }
             Arrival::Nobody => {
-                self.board.door = false;
+                self.board.note_nobody(access);
                 Ok(false)
             }
             Arrival::Passed => {
-                self.door.pass_over()?;
+                self.doors.at_mut(access).pass_over()?;
                 Ok(true)
             }
             Arrival::NoRoom => {
-                self.door.wait(self.lanes.is_empty(), now)?;
+                let is_alone = self.lanes.is_empty();
+                self.doors.at_mut(access).wait(is_alone, now)?;
                 Ok(false)
             }
             Arrival::Failed => Err(Halt::Door),
         }
     }
 
-    /// Takes connections at the first door, as far as some wait and there are places for them.
-    fn take_at_door<R: Records, N: Network>(
+    /// Takes connections at a door, at most so many, as far as some wait there and there are places for them.
+    fn take_at<R: Records, N: Network>(
         &mut self,
         front: &mut Front<R>,
         network: &mut N,
+        access: Access,
+        most: usize,
         now: Duration,
     ) -> Result<(), Halt>
-        requires { AreAlike self.old.lanes front.old.lines }
+        requires alike { AreAlike self.old.lanes front.old.lines }
+        requires fits { Fits self.old.is_split access }
         ensures taken { TakesOn R.custody N.done self.old.is_split (as_nanos now) self.old.board
             self.new.board self.old.lanes self.new.lanes front.old front.new network.old network.new }
         ensures alike { AreAlike self.new.lanes front.new.lines }
         ensures same { self.new
-            ≡ record self.old { lanes = self.new.lanes; board = self.new.board; door = self.new.door } }
+            ≡ record self.old { lanes = self.new.lanes; board = self.new.board; doors = self.new.doors } }
     {
-        if !self.door.pause_left(now).is_zero() {
-            return Ok(());
-        }
-        for _ in 0..PLACES {
-            if !self.board.door {
-                return Ok(());
-            }
-            if !self.take_one(front, network, now)? {
+        for _ in 0..most {
+            if !self.take_one(front, network, access, now)? {
                 return Ok(());
             }
         }
         Ok(())
     }
 
-    /// Whether a connection may be taken at the address for changes: one may wait there, no other that came
-    /// there is open, and a place is free.
-    fn may_take_change(&self, now: Duration) -> bool
-        ensures split { result ≡ true → self.now.is_split ≡ true }
-        ensures room { result ≡ true → IsRoom self.now.board (as_nanos now) None Changes self.now.lanes }
-    {
-        if !self.is_split || !self.board.changes {
-            return false;
-        }
-        if !self.changes.pause_left(now).is_zero() {
-            return false;
-        }
-        self.lanes.has_place(Access::Changes)
-    }
-
-    /// Takes a connection at the address for changes, if one waits there and the last has gone.
-    #[tactic(auto, using(crate::proofs::KeepingLemmas::fits_changes))]
-    fn take_change<R: Records, N: Network>(
-        &mut self,
-        front: &mut Front<R>,
-        network: &mut N,
-        now: Duration,
-    ) -> Result<(), Halt>
-        requires { AreAlike self.old.lanes front.old.lines }
-        ensures taken { TakesOn R.custody N.done self.old.is_split (as_nanos now) self.old.board
-            self.new.board self.old.lanes self.new.lanes front.old front.new network.old network.new }
-        ensures alike { AreAlike self.new.lanes front.new.lines }
-        ensures same { self.new
-            ≡ record self.old { lanes = self.new.lanes; board = self.new.board; changes = self.new.changes } }
-    {
-        if !self.may_take_change(now) {
-            return Ok(());
-        }
-        match network.accept_change() {
-            Arrival::Came => {
-                self.changes.succeed();
-                self.welcome(front, network, None, Access::Changes, now);
-                Ok(())
-            }
-            Arrival::Nobody => {
-                self.board.changes = false;
-                Ok(())
-            }
-            Arrival::Passed => self.changes.pass_over(),
-            Arrival::NoRoom => self.changes.wait(self.lanes.is_empty(), now),
-            Arrival::Failed => Err(Halt::Door),
-        }
-    }
-
-    /// Takes connections: one that asks for changes, if it may be, and others.
+    /// Takes connections. Where changes have an address of their own, one is taken there in a turn: there one
+    /// is served at a time.
+    #[tactic(auto, using(crate::proofs::KeepingLemmas::fits_all, crate::proofs::KeepingLemmas::fits_asks, crate::proofs::KeepingLemmas::fits_changes))]
     pub(super) fn take_some<R: Records, N: Network>(
         &mut self,
         front: &mut Front<R>,
@@ -296,17 +260,16 @@ impl Reactor {
         ensures taken { TakesSome R.custody N.done self.old.is_split self.old.board (as_nanos now)
             self.old.lanes self.new.lanes front.old front.new network.old network.new }
         ensures alike { AreAlike self.new.lanes front.new.lines }
-        ensures same { self.new ≡ record self.old {
-          lanes = self.new.lanes;
-          board = self.new.board;
-          door = self.new.door;
-          changes = self.new.changes;
-        } }
+        ensures same { self.new
+            ≡ record self.old { lanes = self.new.lanes; board = self.new.board; doors = self.new.doors } }
     {
-        if self.door.is_shut {
+        if self.doors.are_shut {
             return Ok(());
         }
-        self.take_change(front, network, now)?;
-        self.take_at_door(front, network, now)
+        if !self.is_split {
+            return self.take_at(front, network, Access::All, PLACES, now);
+        }
+        self.take_at(front, network, Access::Changes, 1, now)?;
+        self.take_at(front, network, Access::Asks, PLACES, now)
     }
 }

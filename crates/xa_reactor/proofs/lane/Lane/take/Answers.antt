@@ -7,7 +7,7 @@ use Rattle.xa_reactor.proofs.lane.Lane.take.Goals as goal
 pub returns-then-eq : goal.returns-then-eq
 returns-then-eq g c =
     let parts : c.args.self.now.stage ≡ stages.Parting = search rules in
-    takes_dropped g.R.Records.custody g.met.R.Records.open_if_sound _ _ _ _ _ _ parts c.drop_piece.ensures.outgoing c.drop_piece.ensures.holding c.drop_piece.ensures.stays c.drop_piece.ensures.ends
+    takes_dropped g.R.Records.custody g.met.R.Records.open_if_sound _ _ _ _ _ _ parts c.drop_piece.ensures.outgoing c.drop_piece.ensures.stays c.drop_piece.ensures.ends
 
 pub returns-then-not-feed : goal.returns-then-not-feed
 returns-then-not-feed g c =

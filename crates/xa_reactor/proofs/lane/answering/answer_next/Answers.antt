@@ -1,4 +1,4 @@
-use Rattle.xa_server.specs.Turning.{serves}
+use Rattle.xa_server.specs.TurningAway.{serves}
 use Rattle.xa_reactor.specs.Step.{AreHandledBy}
 use Rattle.xa_reactor.specs.handling.Going.{AreAll}
 use Rattle.xa_reactor.proofs.StepLemmas.{all_by, asked_by, serves_by}

@@ -1,5 +1,5 @@
 use Rattle.std.proofs.Common.{true, false}
-use Rattle.xa_server.specs.Turning.{serves_unchanging, turns_away}
+use Rattle.xa_server.specs.TurningAway.{serves_unchanging, turns_away}
 use Rattle.xa_reactor.specs.declared.access.Access.TheVariants as access
 use Rattle.xa_reactor.specs.Step.{AreHandledBy}
 use Rattle.xa_reactor.specs.handling.Going.{AreAll}

@@ -1,5 +1,4 @@
-use Rattle.std.proofs.Common.{◌≡◌}
-use Rattle.xa_server.specs.Turning.{serves, serves_unchanging}
+use Rattle.xa_server.specs.TurningAway.{serves, serves_unchanging}
 use Rattle.xa_reactor.specs.handling.Going.{AreAll}
 use Rattle.xa_reactor.proofs.StepLemmas.{asked_next, asked_none, asked_unchanging, some_and}
 use Rattle.xa_reactor.proofs.lane.answering.ask.Goals as goal
@@ -13,11 +12,11 @@ returns-in_default-clause-unchanging g c = λ tells. asked_none g.R.Records.cust
 
 pub returns-clause-serves : goal.returns-clause-serves
 returns-clause-serves g c =
-    rw c.answer_of.ensures
-    (asked_next g.R.Records.custody c.args.conn c.in-Some.moment c.step.result c.args.front.now c.step.new.self c.step.ensures)
+    asked_next g.R.Records.custody g.met.R.Records.open_if_sound c.args.conn c.in-Some.moment c.answer.result c.args.front.now c.answer.new.self
+    c.answer.ensures.answered
 
 pub returns-clause-unchanging : goal.returns-clause-unchanging
 returns-clause-unchanging g c = λ tells.
     let it = some_and _ _ tells in
-    rw c.answer_of.ensures
-    (asked_unchanging g.R.Records.custody c.args.conn c.in-Some.moment c.step.result c.args.front.now c.step.new.self it.0 it.1 it.2 c.step.ensures)
+    asked_unchanging g.R.Records.custody g.met.R.Records.open_if_sound c.args.conn c.in-Some.moment c.answer.result c.args.front.now c.answer.new.self
+    it.0 it.1 it.2 c.answer.ensures.answered

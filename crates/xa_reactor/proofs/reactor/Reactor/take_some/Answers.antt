@@ -8,12 +8,16 @@ pub returns-then-self-clause-taken : goal.returns-then-self-clause-taken
 returns-then-self-clause-taken g c =
     takes_none g.R.Records.custody g.N.Network.done g.met.R.Records.open_if_sound c.args.self.now.is_split c.args.self.now.board (as_nanos c.args.now) _ _ _ _ _ _ refl refl refl
 
-pub returns-in_err-take_change-clause-taken : goal.returns-in_err-take_change-clause-taken
-returns-in_err-take_change-clause-taken g c =
-    from_first g.R.Records.custody g.N.Network.done g.met.R.Records.open_if_sound c.args.self.now.is_split (as_nanos c.args.now) _ _ _ _ _ _ _ _ c.take_change.ensures.taken
+pub returns-then-not-self-clause-taken : goal.returns-then-not-self-clause-taken
+returns-then-not-self-clause-taken g c =
+    from_first g.R.Records.custody g.N.Network.done g.met.R.Records.open_if_sound c.args.self.now.is_split (as_nanos c.args.now) _ _ _ _ _ _ _ _ c.take_at.ensures.taken
+
+pub returns-in_err-take_at-clause-taken : goal.returns-in_err-take_at-clause-taken
+returns-in_err-take_at-clause-taken g c =
+    from_first g.R.Records.custody g.N.Network.done g.met.R.Records.open_if_sound c.args.self.now.is_split (as_nanos c.args.now) _ _ _ _ _ _ _ _ c.take_at-2.ensures.taken
 
 pub returns-clause-taken : goal.returns-clause-taken
 returns-clause-taken g c =
     from_first g.R.Records.custody g.N.Network.done g.met.R.Records.open_if_sound c.args.self.now.is_split (as_nanos c.args.now) _ _ _ _ _ _ _ _
-    (on_more g.R.Records.custody g.N.Network.done g.met.R.Records.open_if_sound c.args.self.now.is_split (as_nanos c.args.now) _ _ _ _ _ _ _ _ _ _ _ _ c.take_change.ensures.taken
-    (rw (ap (λ (r : Reactor). r.is_split) c.take_change.ensures.same) at c.take_at_door.ensures.taken))
+    (on_more g.R.Records.custody g.N.Network.done g.met.R.Records.open_if_sound c.args.self.now.is_split (as_nanos c.args.now) _ _ _ _ _ _ _ _ _ _ _ _ c.take_at-2.ensures.taken
+    (rw (ap (λ (r : Reactor). r.is_split) c.take_at-2.ensures.same) at c.take_at-3.ensures.taken))

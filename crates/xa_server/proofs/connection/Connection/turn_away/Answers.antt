@@ -1,4 +1,4 @@
-use Rattle.xa_server.proofs.TurningLemmas.{uncut}
+use Rattle.xa_server.proofs.TurningAwayLemmas.{uncut}
 use Rattle.xa_server.proofs.connection.Connection.turn_away.Goals as goal
 
 pub returns-in_default : goal.returns-in_default

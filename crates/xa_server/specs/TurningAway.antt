@@ -10,8 +10,8 @@ use Rattle.xa_records.specs.DomainState.{DomainState}
 use Rattle.xa_records.specs.Keeper.{Custody}
 use Rattle.xa_server.specs.Alone as messages
 use Rattle.xa_server.specs.Connection.{answer_after}
-use Rattle.xa_server.specs.declared.connection.turning.TurnedAway.{TurnedAway}
-use Rattle.xa_server.specs.declared.event.Answer.{Answer}
+use Rattle.xa_server.specs.declared.connection.turning_away.TurnedAway.{TurnedAway}
+use Rattle.xa_server.specs.declared.connection.Answer.{Answer}
 use Rattle.xa_server.specs.declared.event.Event.{Event}
 use Rattle.xa_server.specs.declared.event.Outcome.{Outcome}
 use Rattle.xa_server.specs.declared.event.Outcome.TheVariants as outcome

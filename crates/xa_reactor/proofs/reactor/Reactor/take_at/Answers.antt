@@ -2,21 +2,17 @@ use Rattle.std.proofs.Common.{refl, ap, ◌∙◌}
 use Rattle.std.specs.Duration.{as_nanos}
 use Rattle.xa_reactor.specs.declared.reactor.Reactor.{Reactor}
 use Rattle.xa_reactor.proofs.TakingLemmas.{on_more, on_none}
-use Rattle.xa_reactor.proofs.reactor.Reactor.take_at_door.Goals as goal
-
-pub returns-then-not-is_zero-clause-taken : goal.returns-then-not-is_zero-clause-taken
-returns-then-not-is_zero-clause-taken g c =
-    on_none g.R.Records.custody g.N.Network.done g.met.R.Records.open_if_sound c.args.self.now.is_split (as_nanos c.args.now) _ _ _ _ _ _ _ _ refl refl refl refl
+use Rattle.xa_reactor.proofs.reactor.Reactor.take_at.Goals as goal
 
 pub loop-init : goal.loop-init
 loop-init g c = record {
   taken = on_none g.R.Records.custody g.N.Network.done g.met.R.Records.open_if_sound c.args.self.now.is_split (as_nanos c.args.now) _ _ _ _ _ _ _ _ refl refl refl refl;
-  alike = c.requires;
+  alike = c.requires.alike;
   same = refl;
 }
 
-pub returns-then-not-self-clause-taken : goal.returns-then-not-self-clause-taken
-returns-then-not-self-clause-taken g c = c.loop.invariant.taken
+pub take_one-requires-clause-fits : goal.take_one-requires-clause-fits
+take_one-requires-clause-fits g c = rw (ap (λ (r : Reactor). r.is_split) c.loop.invariant.same) c.requires.fits
 
 pub returns-in_err-take_one-clause-taken : goal.returns-in_err-take_one-clause-taken
 returns-in_err-take_one-clause-taken g c =
@@ -36,7 +32,7 @@ loop-preserved g c = record {
   alike = c.take_one.ensures.alike;
   same =
       c.take_one.ensures.same
-      ∙ ap (λ (r : Reactor). record r { lanes = c.take_one.new.self.lanes; board = c.take_one.new.self.board; door = c.take_one.new.self.door }) c.loop.invariant.same;
+      ∙ ap (λ (r : Reactor). record r { lanes = c.take_one.new.self.lanes; board = c.take_one.new.self.board; doors = c.take_one.new.self.doors }) c.loop.invariant.same;
 }
 
 pub returns-clause-taken : goal.returns-clause-taken

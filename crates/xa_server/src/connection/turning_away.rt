@@ -1,10 +1,9 @@
 //! How the first message of a connection is turned away: it is cut off, and no server is asked.
 ghost use Rattle.std.specs.Prelude.{◌≡◌, IfOk, MatchResult};
 ghost use Rattle.xa_http.specs.Changing.{TellsChange};
-ghost use Rattle.xa_server.specs.Turning.{TurnsAway};
+ghost use Rattle.xa_server.specs.TurningAway.{TurnsAway};
 
-use crate::connection::Connection;
-use crate::event::Answer;
+use crate::connection::{Answer, Connection};
 use crate::replies::{Reply, turned_away_reply};
 use std::alloc::AllocError;
 use xa_http::{Message, Next, Routes};

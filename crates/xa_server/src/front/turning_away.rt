@@ -2,9 +2,9 @@
 ghost use Rattle.std.specs.Prelude.{◌≡◌, IfOk, IsSomeAnd};
 ghost use Rattle.xa_http.specs.Changing.{TellsChange};
 ghost use Rattle.xa_server.specs.Lines.{line_at};
-ghost use Rattle.xa_server.specs.Turning.{LeavesState, TurnsAwayAt};
+ghost use Rattle.xa_server.specs.TurningAway.{LeavesState, TurnsAwayAt};
 
-use crate::event::Answer;
+use crate::connection::Answer;
 use crate::front::Front;
 use crate::front_error::FrontError;
 use crate::lines::Conn;
@@ -29,7 +29,7 @@ impl<R: Records> Front<R> {
     /// unchanged; it tells of the message (`Server::take_refused`). No other connection's bytes change.
     /// Without memory before the message is cut off nothing has changed. Fails with `NoSuchConnection`, if
     /// it isn't open; else with `Memory` alone.
-    #[tactic(auto, using(crate::proofs::TurningLemmas::turned_at, crate::proofs::TurningLemmas::unturned_at, crate::proofs::TurningLemmas::kept_at))]
+    #[tactic(auto, using(crate::proofs::TurningAwayLemmas::turned_at, crate::proofs::TurningAwayLemmas::unturned_at, crate::proofs::TurningAwayLemmas::kept_at))]
     pub fn turn_away(&mut self, conn: Conn) -> Result<Option<Answer>, FrontError>
         ensures turned { TurnsAwayAt conn self.old.lines result self.new.lines }
         ensures server { self.new.server ≡ self.old.server }

@@ -14,8 +14,8 @@ use Rattle.xa_records.specs.Keeper.{Custody}
 use Rattle.xa_server.specs.Alone as messages
 use Rattle.xa_server.specs.Connection.{answer_after}
 use Rattle.xa_server.specs.declared.connection.Answered.TheVariants as answered
-use Rattle.xa_server.specs.declared.connection.turning.TurnedAway.{TurnedAway}
-use Rattle.xa_server.specs.declared.event.Answer.{Answer}
+use Rattle.xa_server.specs.declared.connection.turning_away.TurnedAway.{TurnedAway}
+use Rattle.xa_server.specs.declared.connection.Answer.{Answer}
 use Rattle.xa_server.specs.declared.event.Event.{Event}
 use Rattle.xa_server.specs.declared.event.Event.TheVariants as event
 use Rattle.xa_server.specs.declared.event.Outcome.{Outcome}
@@ -28,7 +28,7 @@ use Rattle.xa_server.specs.declared.replies.Reply.{Reply}
 use Rattle.xa_server.specs.Front.{AnswersAt, IsPlayed, Plays, message_cut, messages_cut, replies_given, reply_given}
 use Rattle.xa_server.specs.Lines.{IsOpen, Lines, with_line}
 use Rattle.xa_server.specs.Serving.{AreServed, HaveServed}
-use Rattle.xa_server.specs.Turning.{AreHandled, Handling, IsHandled, IsPlayedBeside, TurnsAway, TurnsAwayAt, TurnsAwayFirst, message_served, messages_served, replies_served, reply_served, serves, serves_unchanging, turned_away_reply, turns_away}
+use Rattle.xa_server.specs.TurningAway.{AreHandled, Handling, IsHandled, IsPlayedBeside, TurnsAway, TurnsAwayAt, TurnsAwayFirst, message_served, messages_served, replies_served, reply_served, serves, serves_unchanging, turned_away_reply, turns_away}
 use Rattle.xa_server.proofs.LineLemmas.{line_kept}
 use Rattle.xa_server.proofs.ServingLemmas.{are_served, none_served, served_on}
 
