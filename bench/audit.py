@@ -16,32 +16,70 @@ are written, and left, or where an earlier run has left them; else they are temp
 are asked at once (1). All is timed before the whole logs are read, which takes long: --no-whole leaves that out.
 """
 import argparse
+import collections
 import concurrent.futures
+import functools
 import itertools
 import os
 import pathlib
 import random
 import resource
+import shutil
 import subprocess
 import sys
 import tempfile
 import time
 from typing import NamedTuple
+from unittest import mock
 
 sys.dont_write_bytecode = True
 TOP = pathlib.Path(__file__).resolve().parent.parent
 sys.path[:0] = [str(TOP / "tests"), str(TOP / "deploy")]
 
 from audit_parts import generated  # noqa: E402
-from log import audit  # noqa: E402
-from log.history import State, ask, by_archive  # noqa: E402
+from log import archive, audit  # noqa: E402
+from log.archive import segments_in  # noqa: E402
+from log.domains import add_text  # noqa: E402
+from log.history import Change, State, ask, by_archive  # noqa: E402
 from log.messages import bytes_of_entry  # noqa: E402
 from log.past import Past, state_before, until  # noqa: E402
 from log.replaying import OPERATOR, replay  # noqa: E402
+from log.sealing import inflated  # noqa: E402
 from page import Machine, shown  # noqa: E402
 
 LONGEST, SEED, BY_COMMAND, MINUTES_OF_A_DAY = 20.0, 11, 20, 24 * 60
 REQUEST = generated.WARD / "request-alice.json"
+
+
+class Behind(Past):
+    """The changes of a domain, of which it is known what they leave."""
+
+    def __init__(self, segments, domain, state):
+        super().__init__(segments, domain)
+        self.state = state
+
+    def state_behind(self, count):
+        return self.state
+
+
+class Held(generated.Keeping):
+    """Of a new archive. What each domain has is held: to read it again for each checkpoint of a year takes hours."""
+
+    def __init__(self, *given):
+        super().__init__(*given)
+        self.states, self.since = collections.defaultdict(State), collections.defaultdict(list)
+        self.first, self.segments = 0, []
+
+    def behind(self, entry, reply):
+        change = Change(entry, reply, self.home)
+        self.since[change.domain()].append(change)
+        super().behind(entry, reply)
+
+    def write_checkpoint(self, domain):
+        if self.first != self.archive.first:
+            self.first, self.segments = self.archive.first, segments_in([self.home])
+        self.states[domain].take_all(self.since.pop(domain))
+        Behind(self.segments, domain, self.states[domain]).write_checkpoint()
 
 
 class Kind(NamedTuple):
@@ -180,8 +218,13 @@ def written(kind, folder):
     """The folder in which there is an archive of that kind."""
     found = folder / f"{kind.entries}-of-{kind.rows}"
     if not found.exists():
-        began = time.perf_counter()
-        generated.write_year(found, kind.entries, kind.rows, seconds=60 * kind.entries)
+        began, made = time.perf_counter(), found.with_suffix(".part")
+        shutil.rmtree(made, ignore_errors=True)
+        # (each table is inflated once, and kept once)
+        once = functools.lru_cache(2 * generated.MOST_TABLES)
+        with mock.patch("log.history.inflated", once(inflated)), mock.patch("log.past.add_text", once(add_text)):
+            generated.write_year(made, kind.entries, kind.rows, seconds=60 * kind.entries, kind=Held)
+        made.rename(found)
         print(f"written in {time.perf_counter() - began:.0f} s", flush=True)
     return found
 
@@ -200,7 +243,7 @@ def main():
     os.environ["PDPD"] = os.path.abspath(given.program)
     own = {name: getattr(given, name) for name in Kind._fields if getattr(given, name) is not None}
     # nothing is measured of the disk here
-    os.fdatasync = lambda file: None
+    os.fdatasync = os.fsync = archive.sync_all = lambda file: None
     with tempfile.TemporaryDirectory() as made:
         folder = given.folder or pathlib.Path(made)
         asked = [Asked(kind, written(kind, folder), given.at_once) for kind in ((Kind(**own),) if own else KINDS)]

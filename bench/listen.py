@@ -230,7 +230,8 @@ def between(server, port, folder):
     """HAProxy before a port, on processors of its own."""
     def start(front, _):
         config = pathlib.Path(folder) / f"{port}.cfg"
-        most = 1 if server == SERVE else 60
+        # (it has some more connections than that, and pdpd ends one for the 65th)
+        most = 1 if server == SERVE else 30
         config.write_text(HAPROXY.format(front=front, port=port, most=most), encoding="ascii")
         return subprocess.Popen(["haproxy", "-db", "-f", config], stdout=subprocess.DEVNULL, stderr=subprocess.DEVNULL,
                                 preexec_fn=lambda: os.sched_setaffinity(0, BETWEEN))

@@ -33,13 +33,14 @@ sys.path.insert(0, str(TOP / "tests"))
 from checks import Checks  # noqa: E402
 from deployed import (  # noqa: E402
     attacks_endless, attacks_front, attacks_heads, attacks_local, attacks_logs, attacks_most, attacks_pdpd,
-    attacks_posing, attacks_proxy, audit, backups, booting, changes, clients, containers, crossing, dear, deb,
-    enforcement, failures, machine, metrics, misplaced, mistakes, observed, overlooked, overlooked_logged,
-    reloads, removal, replicas, replies, slowness, states, surroundings, systemd, units, unseen, unwatched)
+    attacks_posing, attacks_proxy, attacks_tools, audit, backups, booting, changes, clients, containers, crossing,
+    dear, deb, elsewhere, enforcement, failures, machine, metrics, misled, misplaced, mistakes, observed, overlooked,
+    overlooked_logged, reloads, removal, replicas, replies, slowness, states, surroundings, systemd, units, unseen,
+    unwatched)
 
 # the files with parts that play an adversary: ATTACKS, and AUDITED, those that have the log of changes on
-ATTACKING = (attacks_front, crossing, attacks_local, attacks_pdpd, attacks_proxy, attacks_logs, attacks_most,
-             attacks_posing, attacks_endless, attacks_heads)
+ATTACKING = (attacks_front, crossing, attacks_local, attacks_tools, attacks_pdpd, attacks_proxy, attacks_logs,
+             attacks_most, attacks_posing, attacks_endless, attacks_heads)
 ATTACKS, AUDITED = ([part for file in ATTACKING for part in getattr(file, kind, ())] for kind in ("ATTACKS", "AUDITED"))
 
 PARTS = (
@@ -52,9 +53,10 @@ PARTS = (
     backups.backups, backups.checkpoints, backups.emptied, backups.anew,
     changes.moves, changes.crossed, changes.killed, changes.live, changes.keeping, changes.older, enforcement.clients,
     *states.STATES, *mistakes.MISTAKES, *surroundings.SURROUNDINGS, *misplaced.MISPLACED,
-    unseen.unseen, overlooked.overlooked, unwatched.unwatched, *observed.OBSERVED,
+    unseen.unseen, overlooked.overlooked, unwatched.unwatched, misled.misled, *observed.OBSERVED,
     *ATTACKS,
     units.certificate, units.want_of_memory, units.upgrade, changes.growth, changes.miscounted, units.status,
+    elsewhere.elsewhere,
     audit.audit, unseen.unseen_logged, overlooked_logged.overlooked_logged, audit.restarted_logged, *AUDITED,
     audit.killed_logged,
     metrics.metrics, units.secrets, removal.removal)

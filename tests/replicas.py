@@ -17,9 +17,9 @@ sys.path.insert(0, str(pathlib.Path(__file__).resolve().parent.parent / "deploy"
 from checks import is_program  # noqa: E402
 from audit_parts.shared import PROGRAM, checks, folder, memory  # noqa: E402
 from replica_parts import (  # noqa: E402
-    around, core, etcds, faults, groups, joining, kills, lives, models, older, tools)
+    around, core, etcds, faults, followers, groups, joining, kills, lives, models, older, tools)
 
-MODULES = (models, core, around, tools, older, joining, etcds, groups, faults, kills, lives)
+MODULES = (models, core, around, tools, older, joining, etcds, groups, followers, faults, kills, lives)
 PARTS = tuple(part for module in MODULES for part in module.PARTS)
 
 

@@ -15,7 +15,7 @@ import subprocess
 import sys
 import time
 
-from . import applied, listener, supervisor, talk
+from . import applied, listener, overwritten, supervisor, talk
 from .owned import Folder, run, sum_of
 from .standing import user_of_shards
 from .settings import Wrong, alone, harmless, put_off_signals, words_of
@@ -174,6 +174,8 @@ def try_backup(settings, shard):
                 took = fill_backup(settings, shard, pid, unfinished)
                 domains = domains_in_backup(settings, shard, path / f".{name}")
                 refuse_lacking(settings, shard, answered, domains)
+                if why := overwritten.fault_of(settings, shard, pid):
+                    raise Wrong(f"no backup is made: {why}")
                 before, _ = counts_of_newest(settings, shard)
                 unfinished.write(COUNTS, f"{len(domains)}\n{before} in the backup before\n")
                 unfinished.write(SUMS, sums_of(unfinished))

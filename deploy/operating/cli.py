@@ -25,15 +25,15 @@ Exit status: 0 done, 1 something is wrong, 2 usage, or status can't tell.
 """
 import contextlib
 import os
-import signal
 import sqlite3
 import subprocess
 import sys
 
 from . import (
-    applied, backups, figures, front, installed, listener, metrics, moving, proxy, replicas, replicated, restoring,
-    room, status, supervisor, talk, watchdog, written)
-from .settings import DOMAIN, ENDS, FILE, Wrong, alone, errors_of, harmless, number_in_word, read, words_of
+    applied, backups, chains, figures, front, installed, listener, metrics, moving, proxy, replicas, replicated,
+    restarted, restoring, room, status, supervisor, talk, trial, watchdog, written)
+from .settings import (
+    DOMAIN, FILE, Wrong, alone, end_in_order, errors_of, harmless, number_in_word, read, words_of)
 
 
 def say(what):
@@ -49,6 +49,13 @@ def warn(settings):
     found = listener.warning(settings)
     for what in (*settings.advice(), *([found] if found else [])):
         tell_warning(what)
+
+
+@contextlib.contextmanager
+def my_turn():
+    """One tool at a time, by the settings as they are then: it may have waited for a growth."""
+    with alone():
+        yield read()
 
 
 def shards_in(settings, words):
@@ -130,9 +137,9 @@ def reload(settings, words):
         talk.reload(settings, by)
         if has_other_logs:
             by.restart_logs(range(settings.shards))
+    chains.note(settings)
     say("HAProxy has read its files")
-    now = front.names_shown(settings)
-    if now and (lost := sorted(before - now)):
+    if (now := front.names_shown(settings)) and (lost := sorted(before - now)):
         tell_warning(f"the certificate isn't valid for {', '.join(lost)} any more, as the one before was, but for "
                      f"{', '.join(sorted(now))}: clients that ask for another name refuse it")
     if 0 < (left := front.certificates_shown(settings)) < count:
@@ -143,25 +150,34 @@ def reload(settings, words):
 def restart(settings, words):
     if not words:
         talk.refuse_other_count(settings)
+    shards = shards_in(settings, words)
+    if words and talk.asks_elsewhere(settings):
+        raise Wrong(f"{FILE} has the shards at other places than they are, and all have to restart for that: give "
+                    "pdpd-shards restart, or write the places of before again")
+    try_program(settings, shards)
+    restart_in_turn(settings, shards)
+
+
+def restart_in_turn(settings, shards):
     if talk.asks_elsewhere(settings):
-        if words:
-            raise Wrong(f"{FILE} has the shards at other places than they are, and all have to restart for that: give "
-                        "pdpd-shards restart, or write the places of before again")
-        with alone():
+        with alone(), restarted.told([*shards, applied.PROXY]):
             moving.restart_elsewhere(settings)
         return say("all shards are restarted, where the settings say, and HAProxy asks them there")
-    for shard in shards_in(settings, words):
-        with alone(), moving.restart_between_messages(settings, shard):
-            pass
-        say(f"shard {shard} is restarted")
+    with restarted.told(shards):
+        for shard in shards:
+            with my_turn() as settings, moving.restart_between_messages(settings, shard):
+                pass
+            say(f"shard {shard} is restarted")
 
 
-def try_program(settings):
-    """Makes a backup of each shard that runs. The program that is installed now opens it, as it would the shard's
-    files; if it can't, nothing is stopped."""
-    for shard in range(settings.shards):
-        if not supervisor.of(settings).pid(shard):
-            continue  # (what keeps it down may be what the upgrade mends)
+def try_program(settings, shards, *, is_upgrade=False):
+    """Makes a backup of each of these shards that runs another program than would be started, by an upgrade of all. The
+    one that would be started opens it, as it would the shard's files; if it can't, nothing is stopped."""
+    for shard in shards:
+        process = supervisor.of(settings).pid(shard)
+        # (what keeps one down that doesn't run may be what the other one mends)
+        if not process or not (is_upgrade or trial.runs_another(settings, process)):
+            continue
         try:
             make_backup(settings, shard)
         except (Wrong, OSError) as fault:
@@ -175,16 +191,17 @@ def upgrade(settings, words):
     talk.refuse_lost_map(settings)
     replicas.refuse_removed(settings, range(settings.shards), are_all=True)
     settings.operator()
-    try_program(settings)
-    written.write_configuration(settings)
-    warn(settings)
-    with alone():
-        by.renew()
-    # (a program of an earlier version takes one connection at a time, and HAProxy keeps them once it has its new file)
-    restart(settings, [])
-    with alone():
-        by.restart_logs(range(settings.shards))
-        talk.reload(settings, by)
+    try_program(settings, range(settings.shards), is_upgrade=True)
+    with restarted.told([*range(settings.shards), applied.PROXY]):
+        written.write_configuration(settings)
+        warn(settings)
+        with alone():
+            by.renew()
+        # (one of an earlier version takes one connection at a time, and HAProxy keeps them once it has its new file)
+        restart_in_turn(settings, range(settings.shards))
+        with alone():
+            by.restart_logs(range(settings.shards))
+            talk.reload(settings, by)
     installed.note(is_upgrade=True)
     say("HAProxy, the watchdog and the backups run what is installed")
     keep_room(settings)
@@ -204,13 +221,6 @@ def where(settings, words):
     print(talk.place(settings, talk.map_in_file(settings), domain))
 
 
-def tell_wrong(found):
-    """Tells what is wrong, and gives the exit status of that."""
-    for what in found:
-        print(harmless(f"WRONG: {what}"), flush=True)
-    return 1 if found else 0
-
-
 def make_backup(settings, shard):
     """Makes a backup of a shard, and gives its folder."""
     with alone():
@@ -224,7 +234,8 @@ def backup(settings, words):
     for shard in shards_in(settings, words):
         path = make_backup(settings, shard)
         if found := backups.emptied(settings, shard):
-            ends = tell_wrong([found])
+            print(harmless(f"WRONG: {found}"), flush=True)
+            ends = 1
         backups.copy_away(settings, shard, path)
     return ends
 
@@ -264,9 +275,10 @@ def put_back(settings, words):
 
 
 def move(settings, words):
-    domain, one, other = words
-    with alone():
-        took = moving.move(settings, domain, settings.shard_in(one), settings.shard_in(other))
+    domain, one, other = words[0], *map(settings.shard_in, words[1:])
+    try_program(settings, (one, other))
+    with my_turn() as settings:
+        took = moving.move(settings, domain, one, other)
     say(f"{domain} is in shard {other}; both shards were away for {took:.2f} s")
 
 
@@ -274,19 +286,20 @@ def grow(settings, words):
     shards = number_in_word(*words)
     if shards is None:
         raise Wrong("a number of shards is wanted")
-    with alone():
+    with my_turn() as settings:
         count = moving.grow(settings, shards)
-    keep_room(larger := read())
-    for shard in range(settings.shards, shards):
-        try:
-            backups.copy_away(larger, shard, make_backup(larger, shard))
-        except (Wrong, OSError) as fault:
-            tell_warning(words_of(fault))
+    with restarted.told(range(settings.shards, shards)):
+        keep_room(larger := read())
+        for shard in range(settings.shards, shards):
+            try:
+                backups.copy_away(larger, shard, make_backup(larger, shard))
+            except (Wrong, OSError) as fault:
+                tell_warning(words_of(fault))
     say(f"there are {shards} shards; {count} domains stay where they were")
 
 
 def remap(settings, words):
-    with alone():
+    with my_turn() as settings:
         count, changed, twice = moving.remap(settings)
     for name, place in sorted(changed.items()):
         say(f"{name}: no line is needed any more" if place is None else f"{name} is led to {place}")
@@ -339,13 +352,6 @@ WORDS = {
     "figures": (lambda settings, words: figures.serve(), (0,)),
     "keep-backups": (keep_backups, (1,)),
 }
-
-
-def end_in_order():
-    """Has a signal to end run what is to be done at the end: messages that are held back go on."""
-    for number in ENDS:
-        if signal.getsignal(number) is not signal.SIG_IGN:
-            signal.signal(number, lambda number, _: sys.exit(128 + number))
 
 
 # the words that may stand last behind some words

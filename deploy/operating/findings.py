@@ -13,6 +13,7 @@ class Findings:
     def __init__(self) -> None:
         self.wrong: list[str] = []
         self.unknown: list[str] = []
+        self.under_way: list[str] = []
         self.told: set[object] = set()
 
     def add(self, what: str) -> None:
@@ -30,6 +31,17 @@ class Findings:
         """Something can't be told. It is told once."""
         if what not in self.unknown:
             self.unknown.append(what)
+
+    def take(self, others: Findings, tool: str, what: str) -> None:
+        """All that was found of what a tool may restart just now: if it does, that alone is told in place of what seems
+        to be wrong."""
+        said = f"{what} is being restarted by {tool}"
+        if others.wrong and tool and said not in self.under_way:
+            self.under_way.append(said)
+        for found in others.wrong if not tool else ():
+            self.add(found)
+        for found in others.unknown:
+            self.cannot_tell(found)
 
     @contextlib.contextmanager
     def looking(self, what: str) -> Iterator[None]:

@@ -16,8 +16,10 @@ import time
 from collections.abc import Iterator
 from typing import NamedTuple
 
-from . import talk
+from . import applied, chains, supervisor, talk
+from .chains import CERTIFICATE
 from .findings import Findings
+from .processes import children_of, is_stopped
 from .proxy import OWN_HEAD, configuration
 from .settings import FILE, LIBRARY, Wrong, text_of, words_of
 from .services import was_removed
@@ -32,8 +34,6 @@ PATIENCE = talk.LONGEST + 1.0
 SOON = 5.0
 # of so many names is told
 MOST = 5
-# a certificate in a file of several (RFC 7468)
-CERTIFICATE = re.compile(r"-----BEGIN CERTIFICATE-----.*?-----END CERTIFICATE-----", re.DOTALL)
 # the question of a domain that isn't there, without a token, and what any shard answers
 PATH, ANSWER = "/domains/status/pdp", 401
 # how HAProxy calls a server that it was told to leave
@@ -288,6 +288,7 @@ def look_at_certificate(settings, address: tuple[str, int], shown: bytes, findin
             if ends_soon(text):
                 findings.add(f"a certificate that stands behind the first one in {path} is valid for less than {DAYS} "
                              "days: put a newer one there, then pdpd-shards reload")
+        chains.look(settings, findings)
     return said
 
 
@@ -321,6 +322,23 @@ def look_whether_it_starts_again(settings, findings: Findings) -> None:
     """Why HAProxy isn't there, as its log says."""
     if not talk.is_there(settings, AGAIN) and (why := talk.why_away(settings)):
         findings.add(f"HAProxy doesn't run. Its log says: {why}")
+
+
+def why_silent(settings) -> str:
+    """What is told where HAProxy takes a question and doesn't answer it: all else would wait for it, too. Empty where
+    it answers, or isn't there."""
+    try:
+        talk.admin_reply(settings, "show info", SOON)
+    except talk.SilentProxy:
+        workers = children_of(supervisor.of(settings).supervised(applied.PROXY))
+        still = " ".join(str(each) for each in workers if is_stopped(each))
+        heals = f"it stands still, and kill -CONT {still} has it go on, or " if still else ""
+        return (f"HAProxy's worker doesn't answer within {SOON:.0f} s at {settings.haproxy_run}/admin.sock, and "
+                f"perhaps no client is answered: {heals}pdpd-shards services starts it anew. Nothing else of HAProxy was "
+                "looked at")
+    except (OSError, Wrong):  # (all else tells it)
+        pass
+    return ""
 
 
 def look(settings, findings: Findings) -> Certificate | None:

@@ -235,11 +235,19 @@ def foreign(settings, shard: int) -> Listener | None:
     return None
 
 
+def store_of(settings, shard: int) -> str:
+    """The path of a shard's file, as a process has it that opens it."""
+    return os.path.realpath(settings.folder(shard) / "pdpd.db")
+
+
 def words_on(settings, shard: int, found: Listener) -> str:
     """What is told of such a socket."""
-    what = "socket" if settings.port(shard) is None else "port"
+    what, more = "socket" if settings.port(shard) is None else "port", ""
+    if found.process and found.process in openers(store_of(settings, shard)):
+        more = (". (It has the shard's file open. Where it is the shard's own one that its supervisor has lost, as "
+                f"where runsv was killed, kill {found.process} is all)")
     return (f"another program has the {what} of shard {shard}, {settings.place(shard)}: {described(found)}. End it, "
-            "and look who could start it")
+            f"and look who could start it{more}")
 
 
 def another(settings, shard: int) -> str | None:
@@ -316,7 +324,10 @@ def is_unlinked(settings, shard: int) -> bool:
     """Whether a shard's program takes connections at a Unix socket that was removed from its folder."""
     path = settings.socket(shard)
     with contextlib.suppress(OSError):
-        return not os.path.exists(path) and unix_sockets.is_listening(path, owner_of(settings.folder(shard)).uid)
+        user = owner_of(settings.folder(shard)).uid
+        # (in this order: one that just begins has made its socket before it takes any, and one that ends takes none)
+        return (unix_sockets.is_listening(path, user) and not os.path.exists(path)
+                and unix_sockets.is_listening(path, user))
     return False
 
 
@@ -330,7 +341,7 @@ def why_away(settings, shard: int) -> str:
     """Why nobody takes a shard's connections, and what heals it."""
     by = supervisor.of(settings)
     # (as where what supervised it was killed, and another one has begun)
-    if others := {*openers(os.path.realpath(settings.folder(shard) / "pdpd.db"))} - {by.pid(shard)}:
+    if others := {*openers(store_of(settings, shard))} - {by.pid(shard)}:
         return (f"process {min(others)}, which isn't its supervisor's, has its file open, and it can't start beside "
                 f"that: kill {min(others)}")
     if settings.port(shard) is None and is_unlinked(settings, shard):

@@ -9,7 +9,7 @@ import copy
 import sys
 import time
 
-from . import applied, carrying, holding, listener, replicas, standing, supervisor, talk, written
+from . import applied, carrying, holding, listener, replicas, restarted, standing, supervisor, talk, written
 from .owned import as_user, owner_of, run, surroundings
 from .settings import DOMAIN, FILE, NUMBERS, Wrong, errors_of, put_off_signals, set_in_file, set_in_text, write_whole
 
@@ -62,30 +62,39 @@ def wait_until_up(settings, shards, began, seconds=30.0):
     applied.note_kept(settings, shards)
 
 
+def refuse_restart(settings, shards, are_replaced=False):
+    """An error while the operator's token, the program, or a file of these shards, unless they are replaced, is one
+    with which they wouldn't start."""
+    try:
+        settings.operator()
+        standing.refuse_unrunnable(settings)
+        replicas.refuse_removed(settings, shards)
+        for shard in shards if not are_replaced else ():
+            standing.refuse_unstartable(applied.where_it_starts(settings, shard), shard)
+    except Wrong as fault:
+        raise NotBegun(str(fault)) from None
+
+
 @contextlib.contextmanager
 def restart_shards(settings, *shards, are_replaced=False):
     """Restarts the shards' programs, which are stopped meanwhile, and waits until they answer.
 
-    None is stopped while the operator's token, the program, or a file of its own, unless these are replaced, is one
-    with which it wouldn't start. After an error it doesn't wait for long: one of them may stay away, and the messages
-    of the others are held back meanwhile.
+    None is stopped that wouldn't start. After an error it doesn't wait for long: one of them may stay away, and the
+    messages of the others are held back meanwhile.
     """
-    settings.operator()
-    standing.refuse_unrunnable(settings)
-    replicas.refuse_removed(settings, shards)
-    for shard in shards if not are_replaced else ():
-        standing.refuse_unstartable(applied.where_it_starts(settings, shard), shard)
+    refuse_restart(settings, shards, are_replaced)
     if talk.asks_elsewhere(settings):
         raise NotBegun(f"{FILE} has the shards at other places than HAProxy asks them: give pdpd-shards restart before")
     began = time.monotonic()
-    try:
-        with stop_shards(settings, shards):
-            yield
-    except Exception:
-        with contextlib.suppress(Wrong, OSError):
-            wait_until_up(settings, shards, began, SOON)
-        raise
-    wait_until_up(settings, shards, began)
+    with restarted.told(shards):
+        try:
+            with stop_shards(settings, shards):
+                yield
+        except Exception:
+            with contextlib.suppress(Wrong, OSError):
+                wait_until_up(settings, shards, began, SOON)
+            raise
+        wait_until_up(settings, shards, began)
 
 
 @contextlib.contextmanager
@@ -98,13 +107,9 @@ def restart_between_messages(settings, shard, *, are_replaced=False):
 def restart_elsewhere(settings):
     """Restarts all shards at once, at sockets where they were at ports, or the other way. HAProxy begins to ask them
     there once it has read its file: what has waited meanwhile is answered with 503."""
-    settings.operator()
-    standing.refuse_unrunnable(settings)
-    written.write_configuration(settings)
     shards = range(settings.shards)
-    replicas.refuse_removed(settings, shards)
-    for shard in shards:
-        standing.refuse_unstartable(applied.where_it_starts(settings, shard), shard)
+    refuse_restart(settings, shards)
+    written.write_configuration(settings)
     with holding.hold_messages(settings, *shards):
         with stop_shards(settings, shards):
             pass
@@ -240,12 +245,13 @@ def grow(settings, shards):
                 for name, places in found.items()}
     talk.set_in_map(settings, {name: shard for name, shard in shard_of.items() if name not in known})
     applied.apply_where_none(settings, range(shards))
-    by.set_up(range(shards))
-    written.write_configuration(larger, is_growth=True)
-    talk.reload(larger, by)
-    set_in_file("SHARDS", shards)
-    for shard in range(shards):
-        talk.wait_until_up(larger, shard)
+    with restarted.told([*range(count, shards), applied.PROXY]):
+        by.set_up(range(shards))
+        written.write_configuration(larger, is_growth=True)
+        talk.reload(larger, by)
+        set_in_file("SHARDS", shards)
+        for shard in range(shards):
+            talk.wait_until_up(larger, shard)
     applied.note_kept(larger, range(shards))
     talk.set_in_map(larger, {"NEW": None})
     return len(shard_of)

@@ -36,6 +36,14 @@ def parent_of(process):
     return 0
 
 
+def begin_of(process):
+    """A process with when it began, as no other one has it; empty where it is gone."""
+    with contextlib.suppress(FileNotFoundError, ProcessLookupError):
+        words = pathlib.Path(f"/proc/{process}/stat").read_text(errors="replace").rpartition(")")[2].split()
+        return f"{process} {words[19]}"
+    return ""
+
+
 def open_files(process):
     """The paths of the files that a process has open, as the system tells them."""
     found = []

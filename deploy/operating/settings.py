@@ -25,6 +25,8 @@ NUMBERS = {
     "AUDIT": (0, 1), "ROOM": (0, 2 ** 63), "DECISIONS": (0, 1), "DECISION_BYTES": (1, 2 ** 40),
     "DECISION_DAYS": (1, 100_000), "LEASE": (2, 60), "LOG_TAIL": (0, 10 ** 9), "GROUP_PORT": (1, 65_535),
 }
+# from how many messages at a time on HAProxy may open more connections than the 64 that a shard serves
+MOST_AT_ONCE = 30
 # the settings that are a file or a folder, and those of them that may be empty
 PLACES = ("PROGRAM", "SOCKETS", "DATA", "BACKUPS", "TOKEN", "HAPROXY_ETC", "HAPROXY_RUN", "AUDIT_RUN", "ARCHIVES",
           "DECISION_LOG", "ETCD_CERTIFICATES", "SERVICES", "SERVICE_FOLDERS")
@@ -260,6 +262,9 @@ class Settings:
             yield f"{', '.join(self.gone)} of {FILE} set nothing any more: take these lines away"
         if self.maxconn == 1:
             yield f"MAXCONN of {FILE} is 1, so each shard has one message at a time: 8 is usual"
+        if self.maxconn > MOST_AT_ONCE:
+            yield (f"MAXCONN of {FILE} is {self.maxconn}: HAProxy has some more connections than messages, and of 64 a "
+                   "shard ends one for the next, and a message on it is lost: 8 is usual")
         if self.first_port is not None:
             yield (f"FIRST_PORT of {FILE} is set, so every user of this machine can connect to the shards. "
                    "OPERATING.md says under Sockets and ports how they get sockets")
@@ -326,6 +331,13 @@ def at_work():
     return None
 
 
+def end_in_order():
+    """Has a signal to end run what is to be done at the end: messages that are held back go on."""
+    for number in ENDS:
+        if signal.getsignal(number) is not signal.SIG_IGN:
+            signal.signal(number, lambda number, _: sys.exit(128 + number))
+
+
 @contextlib.contextmanager
 def put_off_signals():
     """A signal to end waits meanwhile."""
@@ -346,6 +358,7 @@ def write_whole(path, text, mode=0o644):
             file.flush()
             os.fchmod(file.fileno(), mode)
             os.fsync(file.fileno())
+            target = os.readlink(path) if path.is_symlink() else ""
             os.replace(file.name, path)
         except BaseException as fault:
             with contextlib.suppress(FileNotFoundError):
@@ -353,6 +366,9 @@ def write_whole(path, text, mode=0o644):
             if isinstance(fault, OSError) and fault.filename is None:
                 fault.filename = str(path)  # (a write that fails knows no name)
             raise
+    if target:
+        print(harmless(f"pdpd-shards: WARNING: {path} was a link to {target}, and is a file now: that one stays as it "
+                       "was, and what keeps it, as git, isn't told"), file=sys.stderr, flush=True)
 
 
 def set_in_text(text, name, value):

@@ -10,7 +10,7 @@ import time
 from collections.abc import Iterator
 from typing import NamedTuple
 
-from . import applied, installed, supervisor, talk, trial, writable
+from . import applied, installed, overwritten, replicas, restarted, supervisor, talk, trial, writable
 from .findings import Findings
 from .owned import User, advice, as_user, name_of, run, surroundings
 from .processes import is_stopped
@@ -153,16 +153,19 @@ def look_at_store(settings: Settings, shard: int, findings: Findings) -> None:
         findings.add(fault.what)
 
 
-def lost_files(settings: Settings, shard: int, process: int) -> Iterator[str]:
-    """What is told of the files of a store that a shard's program has open, and that its folder hasn't any more."""
+def lost_files(settings: Settings, shard: int, process: int) -> list[str]:
+    """What is told of the files of a store that a shard's program has open, and that its folder hasn't any more, or
+    that another program wrote over."""
     folder = settings.folder(shard)
-    for name in trial.removed_files(process):
-        yield (f"{folder / name} was removed while the program of shard {shard} has it open, and all of it is lost "
-               f"once that ends. Don't restart it: run pdpd-shards backup {shard}, which takes it from the program, and "
-               "put that backup back")
-    for name, place in trial.moved_files(folder, process).items():
-        yield (f"{folder / name} isn't what the program of shard {shard} has open, which was moved to {place}: what is "
-               f"answered goes there. Don't restart it: move what stands in {folder} away, and that back")
+    found = [f"{folder / name} was removed while the program of shard {shard} has it open, and all of it is lost once "
+             f"that ends. Don't restart it: run pdpd-shards backup {shard}, which takes it from the program, and put "
+             "that backup back" for name in trial.removed_files(process)]
+    found += [f"{folder / name} isn't what the program of shard {shard} has open, which was moved to {place}: what is "
+              f"answered goes there. Don't restart it: move what stands in {folder} away, and that back"
+              for name, place in trial.moved_files(folder, process).items()]
+    if not found and (why := overwritten.fault_of(settings, shard, process)):
+        found.append(why)
+    return found
 
 
 def refuse_unstartable(settings: Settings, shard: int) -> None:
@@ -208,6 +211,13 @@ def look_at_settings(_settings: Settings, findings: Findings) -> None:
                      f"else. What HAProxy was started with is in {applied.place(applied.PROXY)}")
 
 
+def restarted_now(settings: Settings) -> set[str]:
+    """The services that a tool restarts with their shards just now."""
+    by = supervisor.of(settings)
+    shards = [shard for shard in range(settings.shards) if restarted.by(shard)]
+    return {name for shard in shards for name in (by.SHARD.format(shard), replicas.unit_of(settings, shard))}
+
+
 def look_at_supervision(settings: Settings, findings: Findings) -> None:
     """Whether what ends is started again."""
     by = supervisor.of(settings)
@@ -220,8 +230,11 @@ def look_at_supervision(settings: Settings, findings: Findings) -> None:
             if is_stopped(process := by.supervised(name)):
                 findings.add(f"what holds {name} stands still (process {process}), and doesn't end it: kill -CONT "
                              f"{process}")
-        for name in (*shards, "haproxy"):
-            if why := by.ends_for_good(name):
+        before = restarted_now(settings)
+        found = {name: by.ends_for_good(name) for name in (*shards, "haproxy")}
+        after = restarted_now(settings)
+        for name, why in found.items():
+            if why and name not in before | after:
                 findings.add(f"{name} isn't started again once it ends: it {why}")
 
 
@@ -250,11 +263,12 @@ def look_at_services(settings: Settings, findings: Findings) -> None:
         findings.add(f"runsvdir doesn't run, which has all services run: setsid runsvdir -P {settings.services} > "
                      "/dev/null 2>&1 &")
     with findings.looking("the services beside the shards"):
+        before = restarted_now(settings)
         names = [name for name in by.beside(range(settings.shards)) if not by.is_running(name)]
         if names:
             time.sleep(AGAIN)
         for name in names:
-            if not by.is_running(name):
+            if not by.is_running(name) and name not in before | restarted_now(settings):
                 findings.add(f"{name} doesn't run: pdpd-shards services starts it, or its log says why")
 
 

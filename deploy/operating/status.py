@@ -1,6 +1,7 @@
 """How the shards are: what an operator looks at first, and what a monitor asks."""
 from __future__ import annotations
 
+import contextlib
 import json
 import os
 import pathlib
@@ -8,17 +9,16 @@ import re
 import time
 from typing import NamedTuple
 
-from . import applied, front, listener, replicas, room, standing, supervisor, talk, trial
+from . import applied, front, listener, replicas, restarted, room, standing, supervisor, talk, trial
 from .backups import COPIED, backups_of, emptied, failure, is_beyond
 from .findings import Findings
-from .owned import sum_of
 from .processes import children_of, is_stopped
 from .settings import FILE, LOCKS, MARK, BadToken, Settings, Wrong, at_work, read, words_of
 
 # when a backup is too old, in seconds
 OLD = 2 * 3600 + 600
-# so many digits of a program's SHA-256 are shown, and for how long one is read, in seconds
-SHOWN, LONG = 12, 10.0
+# so many digits of a program's SHA-256 are shown
+SHOWN = 12
 HEADS = "shard", "state", "domains", "file MiB", "log MiB", "entry", "backup", "program"
 
 
@@ -67,6 +67,7 @@ class Report(NamedTuple):
                          f"{', '.join(self.certificate.names)}")
         if self.at_work:
             lines.append(f"at work: {self.at_work}")
+        lines += self.findings.under_way
         lines += [f"WRONG: {what}" for what in self.findings.wrong]
         lines += [f"CAN'T TELL: {what}" for what in self.findings.unknown]
         return "\n".join([*lines, *([] if self.exit_status() else ["nothing is wrong"])])
@@ -74,7 +75,8 @@ class Report(NamedTuple):
     def json(self) -> str:
         """The same for a program."""
         found = {"status": self.exit_status(), "wrong": self.findings.wrong, "unknown": self.findings.unknown,
-                 "at_work": self.at_work, "certificate_days": self.certificate_days(),
+                 "at_work": self.at_work, "under_way": self.findings.under_way,
+                 "certificate_days": self.certificate_days(),
                  "certificate_names": self.certificate.names if self.certificate else [],
                  "shards": [shard._asdict() for shard in self.shards]}
         return json.dumps(found)
@@ -179,34 +181,33 @@ def state_of(settings: Settings, shard: int, lists: dict[int, list[str]],
             return ("up" if listener.is_own(settings, shard) else "down"), None
         return {talk.OtherToken: "up", listener.Impostor: "taken"}.get(type(fault), "down"), None
     lists[shard] = names
-    front.look_whether_reached(settings, shard, findings)
     return "up", len(names)
 
 
-def digest_of(path: str | os.PathLike[str]) -> str:
-    """The SHA-256 of a program's file."""
-    with open(path, "rb") as file:
-        return sum_of(file, str(path), LONG)
-
-
 def program_of(settings: Settings, shard: int, installed: str | None, is_up: bool, findings: Findings) -> str | None:
-    """The SHA-256 of the program that a shard runs; nothing where it runs none. Its open files are looked at, too."""
+    """The SHA-256 of the program that a shard runs; nothing where it runs none."""
     with findings.looking(f"the program of shard {shard}"):
         process = supervisor.of(settings).pid(shard)
         if not process:
             return None
         try:
-            found = digest_of(f"/proc/{process}/exe")
-            lost = [*standing.lost_files(settings, shard, process)]
+            found = trial.digest_of(f"/proc/{process}/exe")
         except (FileNotFoundError, ProcessLookupError):
             return None  # (it has ended meanwhile)
         if installed and found != installed and is_up:  # (else it may be what starts it, again and again)
             findings.add(f"shard {shard} runs another program (SHA-256 {found[:SHOWN]}) than {settings.program} "
                          f"({installed[:SHOWN]}): pdpd-shards upgrade")
-        for what in lost:
-            findings.add(what)
         return found if is_up or found == installed else None
     return None
+
+
+def look_at_open_files(settings: Settings, shard: int, findings: Findings) -> None:
+    """Whether a shard's program has those files open that its folder has, as it has written them. (Who may not look
+    into it was told that.)"""
+    with findings.looking(f"the program of shard {shard}"), \
+            contextlib.suppress(FileNotFoundError, ProcessLookupError, PermissionError):
+        for what in standing.lost_files(settings, shard, supervisor.of(settings).pid(shard)):
+            findings.add(what)
 
 
 def look_at_disk(settings: Settings, shard: int, findings: Findings) -> int | None:
@@ -261,25 +262,38 @@ def look_at_map(settings: Settings, is_at_work: bool, findings: Findings) -> dic
     return known
 
 
-def shard_report(settings: Settings, shard: int, lists: dict[int, list[str]], installed: str | None,
-                 findings: Findings) -> Shard:
-    """How a shard is, where it was started."""
-    own = settings
+def look_at_settings(settings: Settings, shard: int, findings: Findings) -> Settings:
+    """The settings, but for where the shard is, which is as it was started. It tells what wasn't applied."""
     with findings.looking(f"the settings of shard {shard}"):
         own = applied.where_it_is(settings, shard)
         applied.refuse_left_behind(settings)
         if changed := applied.changed(settings, shard):
             findings.add(f"{', '.join(changed)} of {FILE} isn't what shard {shard} was started with: pdpd-shards "
                          f"{'config --write, then ' if {*applied.PLACES} & {*changed} else ''}restart")
-    with findings.looking(f"how shard {shard} is"):
+        return own
+    return applied.where_it_starts(settings, shard)
+
+
+def shard_report(settings: Settings, shard: int, lists: dict[int, list[str]], installed: str | None,
+                 findings: Findings) -> Shard:
+    """How a shard is, where it was started."""
+    # (what a tool that restarts it changes)
+    passing, looks = Findings(), restarted.Looks(shard)
+    own = look_at_settings(settings, shard, passing)
+    with passing.looking(f"how shard {shard} is"):
         if os.path.lexists(own.folder(shard) / MARK):
-            findings.add(f"a backup was put back in part in shard {shard}: give pdpd-shards put-back again")
+            passing.add(f"a backup was put back in part in shard {shard}: give pdpd-shards put-back again")
     with findings.looking(f"the files of shard {shard}"):
         standing.look_at_store(own, shard, findings)
-    state, count = state_of(own, shard, lists, findings)
+    state, count = state_of(own, shard, lists, passing)
+    program = program_of(own, shard, installed, state == "up", passing)
+    look_at_open_files(own, shard, findings)
+    position, backed_up = replicas.look(settings, shard, passing), age_of_backup(settings, shard, passing)
+    if (tool := looks.tool()) and state == "down":
+        state = "restarting"
+    findings.take(passing, tool, f"shard {shard}")
     return Shard(shard, state, count, *sizes(own, shard, findings), look_at_disk(own, shard, findings),
-                 age_of_backup(settings, shard, findings), program_of(own, shard, installed, state == "up", findings),
-                 replicas.look(settings, shard, findings))
+                 backed_up, program, position)
 
 
 def goes_on(tool: str | None, findings: Findings) -> bool:
@@ -294,13 +308,28 @@ def goes_on(tool: str | None, findings: Findings) -> bool:
     return tool is not None
 
 
+def look_at_proxy(settings: Settings, lists: dict[int, list[str]], findings: Findings) -> front.Certificate | None:
+    """How HAProxy is, and whether it reaches the shards that answer; where it says nothing, that alone."""
+    if silent := front.why_silent(settings):
+        findings.add(silent)
+        return None
+    for shard in lists:
+        passing, looks = Findings(), restarted.Looks(shard)
+        front.look_whether_reached(applied.where_it_starts(settings, shard), shard, passing)
+        findings.take(passing, looks.tool(), f"shard {shard}")
+    passing, looks = Findings(), restarted.Looks(applied.PROXY)
+    found = front.look(settings, passing)
+    findings.take(passing, looks.tool(), "HAProxy")
+    return found
+
+
 def report(settings: Settings) -> Report:
     """How all is."""
     findings, installed, lists, tool = Findings(), None, {}, at_work()
     known = look_at_map(settings, goes_on(tool, findings), findings)
     with findings.looking("the program that is installed"):
         settings.refuse_no_program()
-        installed = digest_of(settings.program)
+        installed = trial.digest_of(settings.program)
         standing.refuse_unrunnable(settings)
     with findings.looking("what HAProxy was started with"):
         if changed := applied.changed_of_logs(settings):
@@ -311,7 +340,7 @@ def report(settings: Settings) -> Report:
     look_at_disks(settings, findings)
     standing.look(settings, findings)
     replicas.look_at_decisions(settings, findings)
-    certificate = front.look(settings, findings)
+    certificate = look_at_proxy(settings, lists, findings)
     with findings.looking("the shards' ports"):
         if found := listener.warning(settings):
             findings.add(found)

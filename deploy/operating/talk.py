@@ -32,19 +32,24 @@ class NoProxy(Wrong, ConnectionError):
     """HAProxy isn't there, or says nothing."""
 
 
+class SilentProxy(NoProxy):
+    """HAProxy takes a question, and doesn't answer in time."""
+
+
 def no_proxy(settings, socket_name, fault):
     """What is told then."""
-    return NoProxy(f"HAProxy doesn't answer at {settings.haproxy_run}/{socket_name} ({words_of(fault)}): it doesn't "
+    kind = SilentProxy if isinstance(fault, (TimeoutError, BlockingIOError)) else NoProxy
+    return kind(f"HAProxy doesn't answer at {settings.haproxy_run}/{socket_name} ({words_of(fault)}): it doesn't "
                    "run, and pdpd-shards services starts it, as one that lost its sockets to another one; or its log "
                    "says why")
 
 
-def admin_reply(settings, command):
+def admin_reply(settings, command, seconds=10.0):
     """What HAProxy says to a command."""
     reply, path = bytearray(), f"{settings.haproxy_run}/admin.sock"
     try:
         with socket.socket(socket.AF_UNIX) as admin:
-            admin.settimeout(10)
+            admin.settimeout(seconds)
             admin.connect(path)
             admin.sendall(command.encode() + b"\n")
             while data := admin.recv(65_536):

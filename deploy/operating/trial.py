@@ -17,7 +17,7 @@ import time
 from collections.abc import Iterator
 
 from .listener import connection_to, ended_after, peer_of
-from .owned import PATIENCE, Folder, User, as_user, copy_file, owner_of, run, surroundings
+from .owned import PATIENCE, Folder, User, as_user, copy_file, owner_of, run, sum_of, surroundings
 from .settings import LOCKS, Wrong, domains_in, make_locks_folder
 
 STORE = "pdpd.db"
@@ -26,6 +26,24 @@ FILES = STORE, "pdpd.db-wal"
 SOCKETS = "tried"
 # how many bytes the program may answer, and how many letters of what it writes are told
 MOST, TOLD = 2 ** 26, 1000
+# for how long a program's file is read, in seconds
+LONG = 10.0
+
+
+def digest_of(path: str | os.PathLike[str]) -> str:
+    """The SHA-256 of a program's file."""
+    with open(path, "rb") as file:
+        return sum_of(file, str(path), LONG)
+
+
+def runs_another(settings, process: int) -> bool:
+    """Whether a process runs another program than would be started."""
+    try:
+        return digest_of(f"/proc/{process}/exe") != digest_of(settings.program)
+    except (FileNotFoundError, ProcessLookupError):
+        return False  # (it has ended meanwhile)
+    except Wrong:
+        return True  # (it has no end)
 
 
 def copy_files(source: Folder, target: Folder, user: User | None = None, is_open_in: int = 0) -> None:

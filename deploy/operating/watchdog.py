@@ -17,7 +17,7 @@ import sys
 import threading
 import time
 
-from . import applied, listener, room, supervisor, talk
+from . import applied, listener, overwritten, room, supervisor, talk
 from . import settings as setting
 
 # how long one message of each of so many connections may take, and how long is waited between two looks, in seconds
@@ -26,6 +26,8 @@ LIMIT, OF_SO_MANY, PAUSE = 5.0, 8, 1.0
 OURS = 2
 # for so many seconds after a kill no other shard is killed by one look alone
 ROUND = 10.0
+# after so many seconds it is looked again whether another program wrote over a store
+STORES = 10.0
 # a domain that isn't there, and no token: 401 shows that it answers
 QUESTION = b"POST /domains/watchdog/pdp HTTP/1.1\r\nHost: pdpd\r\nContent-Length: 2\r\n\r\n{}"
 
@@ -146,6 +148,28 @@ def look_at_disk(shard, before):
     return now
 
 
+class Store:
+    """Whether another program seems to have written over a shard's store, as it was seen last, and whether that was
+    told."""
+
+    def __init__(self, shard):
+        self.shard, self.next, self.seen, self.is_told = shard, 0.0, None, False
+
+    def look(self, state):
+        """Tells it where it seems so, and still does in the same way behind a question that was answered. (Who may not
+        look into the folder finds nothing.)"""
+        if state != "up" or time.monotonic() < self.next:
+            return
+        settings = applied.watched(self.shard)
+        process = supervisor.of(settings).pid(self.shard)
+        before, self.seen = self.seen, overwritten.suspicion(settings, self.shard, process) if process else None
+        if not self.seen:
+            self.next, self.is_told = time.monotonic() + STORES, False
+        elif self.seen == before and not self.is_told:
+            tell(overwritten.told(settings, self.shard))
+            self.is_told = True
+
+
 def led(settings, shard, now):
     """Has HAProxy send nothing to a shard's place that another user's program has, and ask it again once it is up: what
     is told of that."""
@@ -183,11 +207,12 @@ def look(shard, before):
 def watch(shard):
     """Watches a shard for ever."""
     now = "not known"  # so one that is up is asked again by HAProxy, which may have been kept from another program
-    disk = "not full"
+    disk, store = "not full", Store(shard)
     while True:
         try:
             now = look(shard, now)
             disk = look_at_disk(shard, disk)
+            store.look(now)
         except Exception as fault:  # pylint: disable=broad-exception-caught
             # a thread that ended would leave its shard unwatched
             why = setting.words_of(fault) if isinstance(fault, (setting.Wrong, OSError)) else repr(fault)

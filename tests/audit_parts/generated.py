@@ -39,15 +39,18 @@ class Keeping(keeping.Keeping):
     def behind(self, entry, reply):
         super().behind(entry, reply)
         while not self.due.empty():
-            Past(keeping.segments_in([self.home]), self.due.get()).write_checkpoint()
+            self.write_checkpoint(self.due.get())
+
+    def write_checkpoint(self, domain):
+        Past(keeping.segments_in([self.home]), domain).write_checkpoint()
 
 
 class Writer:
     """Writes changes as the daemon would that made them."""
 
-    def __init__(self, path, clock):
+    def __init__(self, path, clock, kind=Keeping):
         self.archive, self.clock = Archive(path, clock), clock
-        self.keeping = Keeping(self.archive, print)
+        self.keeping = kind(self.archive, print)
 
     def change(self, domain, method, path, body=b"", who="admin", status=200):
         fields = [JSON] if body else []
@@ -104,17 +107,16 @@ class Tables:
         return self.made[-1]
 
 
-def write_year(path, entries, rows, seconds=365 * 86_400, seed=7):
+def write_year(path, entries, rows, seconds=365 * 86_400, seed=7, kind=Keeping):
     """So many changes of the domain `acme` in so many seconds, each a whole table but for one in a hundred; and some of
     `other`. Their last moment."""
     # (each table is deflated once)
     with mock.patch.object(keeping, "deflated", functools.lru_cache(MOST_TABLES)(keeping.deflated)):
-        return write_changes(path, entries, rows, seconds, random.Random(seed))
+        return write_changes(Writer(path, Clock(), kind), entries, Tables(random.Random(seed), rows), seconds)
 
 
-def write_changes(path, entries, rows, seconds, chance):
-    clock, tables = Clock(), Tables(chance, rows)
-    writer = Writer(path, clock)
+def write_changes(writer, entries, tables, seconds):
+    clock, chance = writer.clock, tables.chance
     writer.domain("acme")
     writer.domain("other")
     is_active = True

@@ -191,13 +191,13 @@ while True:
 
 @contextlib.contextmanager
 def another_program(shard, text):
-    """A shard runs another program meanwhile."""
-    program = LIBRARY / "another"
+    """A shard runs another program meanwhile, which no tool would start: it opens no copy of what the shard has."""
+    program, before = LIBRARY / "another", pid(shard)
     program.write_text(text)
     program.chmod(0o755)
-    sh(f"echo PROGRAM={program} >> {SETTINGS}")
-    shards("restart", shard)
-    sh(f"sed -i '/^PROGRAM=/d' {SETTINGS}")
+    sh(f"echo PROGRAM={program} >> {SETTINGS.parent}/applied/{shard}.conf; sv restart /etc/service/pdpd-{shard}")
+    wait_until(lambda: pid(shard) not in (0, before) and pathlib.Path(f"/run/pdpd-shards/{shard}/socket").exists(),
+               "it doesn't begin")
     try:
         yield
     finally:

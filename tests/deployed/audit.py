@@ -17,6 +17,8 @@ LOGS = pathlib.Path("/var/log/pdpd")
 WARD = TOP / "examples" / "ward"
 # how many of the page's commands switch it on
 SWITCH = 3
+# for how long daemon, pdpd and HAProxy are killed at the most, in seconds
+KILLING = 240
 TOKENS = {"admin": "ward-audit-admin", "ask": "ward-audit-asks"}
 
 
@@ -228,7 +230,8 @@ def restarted_logged(machine, checks):
 
 
 def killed_logged(machine, checks):
-    """Daemon, pdpd and HAProxy are killed in a stream of changes, some times; by hand it is more often."""
-    said = sh(f"{TOP}/tests/audit.py {LIBRARY}/pdpd kills --kills 5 --askers 10")
+    """Daemon, pdpd and HAProxy are killed in a stream of changes beside 60 who ask, 200 times unless that takes too
+    long."""
+    said = sh(f"{TOP}/tests/audit.py {LIBRARY}/pdpd kills --kills 200 --seconds {KILLING} --askers 60")
     checks.say(said.strip().splitlines()[0].strip())
     checks.expect("tests/audit.py kills", ", 0 failed" in said, True)

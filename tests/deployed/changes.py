@@ -210,6 +210,7 @@ def growth(machine, checks):
         time.sleep(1.5)
     checks.expect("decisions", deciders.wrong, [])
     checks.expect("of others", crowd.failed, (0, []))
+    checks.within("how many those are", crowd.count, Between(1_000))
     checks.expect("domains that are made", makers.wrong + makers.unanswered, [])
     names = operator.names()
     checks.expect("a domain of which another shard has a copy", int(shards("where", twice)), stays)

@@ -66,8 +66,9 @@ def kills(machine, checks):
     checks.expect("there were decisions and changes", (deciders.answered > 500, len(made) > 50), (True, True))
 
 
-# messages that HAProxy has at a shard at a time (MAXCONN), those who ask, and kills
-MAXCONN, CROWD, ENDS = 8, 60, 4
+# Messages that HAProxy has at a shard at a time (MAXCONN), those who ask, and kills. A program that is killed ends its
+# connections one after another: so many messages more at most come to it meanwhile.
+MAXCONN, CROWD, ENDS, LATE = 8, 60, 4, 2
 
 
 def queued(machine, checks):
@@ -87,7 +88,7 @@ def queued(machine, checks):
             # (what was led once more is led there once)
             time.sleep(2)
     checks.expect("other answers", deciders.wrong, [])
-    checks.within("those that are lost", deciders.lost, range(ENDS * MAXCONN + 1))
+    checks.within("those that are lost", deciders.lost, range(ENDS * (MAXCONN + LATE) + 1))
     checks.say(f"{ENDS} kills beside {CROWD - MAXCONN} that wait: {deciders.lost} of {deciders.answered} were lost, "
                f"the longest took {deciders.longest:.2f} s")
 

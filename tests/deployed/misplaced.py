@@ -196,14 +196,25 @@ def orphaned(machine, checks):
     wait_until(machine.operator.is_answered, "the shard stays away")
 
 
+def is_looked_after(service):
+    """Whether runsvdir has a service looked after."""
+    from operating import processes
+    try:
+        above = processes.parent_of(processes.parent_of(int((service / "supervise" / "pid").read_text())))
+        return processes.name_and_state(above)[0] == "runsvdir"
+    except (OSError, ValueError):  # (none, or it begins just now)
+        return False
+
+
 def unattended(machine, checks):
     """What runs all services was ended, and left them running: nothing is started with a new shard, or once more."""
     sh("kill -KILL $(pgrep -x runsvdir)")
     _, said = asked("status")
     heals = re.search(r"WRONG: runsvdir doesn't run, which has all services run: (setsid .*)", said)
     checks.expect(f"without runsvdir: {said}", heals is not None, True)
-    # (each service has to be one of the new one for what comes behind this)
-    sh(f"{heals[1] if heals else ''}\nsv -w 60 exit {SERVICES}/*")
+    # (each service has to be one of the new one for what comes behind this, which may begin before sv would look)
+    sh(f"{heals[1] if heals else ''}\nsv exit {SERVICES}/*")
+    wait_until(lambda: all(map(is_looked_after, SERVICES.iterdir())), "a service goes on without runsvdir")
     wait_until(lambda: all(map(pid, range(COUNT))), "the services don't begin again")
     wait_until(machine.operator.is_answered, "the shards stay away")
 

@@ -104,6 +104,8 @@ def configurations(machine, checks):
     for line in WRONG:
         found, said = made_with(machine.folder, line)
         checks.expect(f"{line}: {said}", (found, "shards.conf" in said), (1, True))
+    found, said = made_with(machine.folder, "MAXCONN=60")
+    checks.expect(f"more than a shard may have: {said}", (found, "of 64 a shard ends one for the" in said), (0, True))
     checks.expect("no word", "pdpd-shards: several pdpd" in shards(status=2), True)
     found, said = made_with(machine.folder, "CERTIFICATE=/no/such.pem")
     checks.expect(f"a certificate that isn't there: {said}", (found, "'/no/such.pem'" in said), (1, True))

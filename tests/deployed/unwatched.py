@@ -5,12 +5,16 @@ import os
 import pathlib
 import re
 import signal
+import socket
 import subprocess
+import sys
+import tempfile
+import threading
 import time
 
 from .clients import decision, once
 from .clients import status as status_of
-from .machine import SETTINGS, as_user, backs_up, instead_of, sh, shards, wait_until
+from .machine import LIBRARY, SETTINGS, as_user, backs_up, instead_of, sh, shards, wait_until
 from .states import CERTIFICATE, MAP, TOKEN, asked, is_well, tells
 from .surroundings import BACKUPS, LOGS, SERVICES, STORES, mounted, with_settings
 
@@ -25,8 +29,8 @@ def unwatched(machine, checks):
     backs_up()
     is_well(checks, "the beginning")
     for one in (sparse_reserve, readable_copies, open_logs, rotated_logs, copied_over, linked_store, kept_connection,
-                full_places, lost_chain, stopped_proxy, stopped_child, removed_sockets, others_configuration,
-                no_network):
+                full_places, lost_chain, stopped_proxy, stopped_child, removed_sockets, just_made,
+                others_configuration, no_network):
         one(machine, checks)
         is_well(checks, one.__name__)
         checks.expect(f"behind {one.__name__}", decision(once(ask)), "Permit")
@@ -140,7 +144,7 @@ def kept_connection(machine, checks):
 def full_places(machine, checks):
     """The disk of the settings is full, and that of the tools' lock, which works all the same."""
     for place in (SETTINGS.parent, pathlib.Path("/run/pdpd")):
-        held = machine.folder / "held"
+        held = machine.folder / "full-place"
         sh(f"cp -a {place} {held}")
         mode = f"{place.stat().st_mode & 0o777:o}"
         with mounted(f"-t tmpfs -o size=1m,mode={mode} none", place):
@@ -154,7 +158,7 @@ def full_places(machine, checks):
 
 def lost_chain(machine, checks):
     """A certificate is renewed without the one between: clients that know the root alone refuse it."""
-    place, held = machine.folder / "chain", CERTIFICATE.read_bytes()
+    place, held = machine.folder / "renewed", CERTIFICATE.read_bytes()
     place.mkdir()
     makes = "openssl req -newkey ec -pkeyopt ec_paramgen_curve:P-256 -nodes"
     sh(f"""cd {place}; exec 2> /dev/null
@@ -211,6 +215,32 @@ def removed_sockets(machine, checks):
     wanted = "its socket /run/pdpd-shards/0/socket was removed: pdpd-shards restart 0 makes it anew"
     checks.expect(f"services: {said}", (found, wanted in said), (1, True))
     shards("restart")
+
+
+def just_made(_machine, checks):
+    """A socket that a program just makes, or has left as it ended, isn't one that was removed under it: tools would
+    refuse a shard that begins."""
+    sys.path.insert(0, str(LIBRARY))
+    from operating import listener, settings
+    read, is_over, found = settings.read(), threading.Event(), set()
+
+    def looks():
+        while not is_over.is_set():
+            found.add(listener.is_unlinked(read, 0))
+    thread = threading.Thread(target=looks)
+    with tempfile.TemporaryDirectory(dir="/run") as read.data:
+        read.sockets = read.data
+        read.folder(0).mkdir()
+        thread.start()
+        for _ in range(300):
+            with socket.socket(socket.AF_UNIX) as made:
+                made.bind(read.socket(0))
+                made.listen(1)
+                time.sleep(0.005)
+            os.unlink(read.socket(0))
+        is_over.set()
+        thread.join()
+    checks.expect("removed sockets among those that are just made or left", found, {False})
 
 
 def others_configuration(machine, checks):

@@ -121,6 +121,7 @@ def pooled_by_java():
         within("the longest wait, in milliseconds", int(longest), Between(0, 5_000))
 
 
+# (it has some more connections than messages at a time: beyond 64 the program ends one that it may just send on)
 PROXY = """
 global
     maxconn 2500
@@ -135,7 +136,7 @@ frontend all
     bind 127.0.0.1:{front}
     default_backend server
 backend server
-    server one 127.0.0.1:{port} maxconn 60
+    server one 127.0.0.1:{port} maxconn 30
 """
 
 

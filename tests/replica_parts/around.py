@@ -37,7 +37,7 @@ def clock_is_set():
         expect(f"it is set to {off} s", [round(next(found), 6) for _ in range(2)], [off - before, 0.0])
         expect("the end by the wall clock", round(one.lease.moment() - clock.time(), 6),
                round(one.lease.until - clock.monotonic(), 6))
-    told = []
+    told, said = [], []
 
     def tell():
         told.append(clock.off)
@@ -46,12 +46,13 @@ def clock_is_set():
     clock.off, sleep = 0.0, clock.sleep
     clock.sleep = lambda seconds: (sleep(seconds), setattr(clock, "off", clock.off - (clock.off > -1)))
     try:
-        Replica.watch_clock_for_ever(SimpleNamespace(say=lambda what: None, tell_proxy=tell))
+        Replica.watch_clock_for_ever(SimpleNamespace(say=said.append, tell_proxy=tell))
     except StopIteration:
         pass
     finally:
         daemon.core.CLOCK = kept
     expect("HAProxy is told", told, [-1.0])
+    expect("what is said", said, ["the clock was set by -1.00 s: have it slewed, not set"])
 
 
 def old_proxies():

@@ -140,6 +140,7 @@ def without_quorum():
         second.etcd.kill()
         within("with two away", status_of(rows(first, "lost")), [503, 504])
         expect("refused at once", wait_until(lambda: status_of(rows(first, "refused")) == 503), True)
+        expect("why", "no change is taken: etcd has no quorum" in first.said(), True)
         expect("leases end", leases_end(lab), True)
         for one in (first, second):
             one.etcd.start()
