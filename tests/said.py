@@ -66,6 +66,8 @@ FILE_ALONE = ("the file has no tables, and its log isn't there (-wal); put the l
 NO_LOG = ("its log isn't there (-wal); if the file wasn't closed, by `pdpd` or by SQLite, "
           "the last changes are missing")
 OPEN_FILE = "others than its owner can read what is kept; chmod 600, and its log too (-wal)"
+UNCLOSED = ("its log (-wal) can't be written back into the file; keep both, which have all that was answered unless "
+            "another program wrote over one")
 SHUT = "writing or reading it failed, and it can't go on; look after the disk, then start the program again"
 
 

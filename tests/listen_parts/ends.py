@@ -5,7 +5,7 @@ import subprocess
 import time
 
 from checks import Between
-from said import INPUT_BAD
+from said import INPUT_BAD, UNCLOSED, line
 from serve_parts.shared import (
     ASK, LIST, PERMIT, PROGRAM, TOKEN_FILE, creates, environment, expect_refusal, folder, listing, serving)
 from serving import CREATED, free_port
@@ -103,6 +103,20 @@ def by_signal():
         expect("its status", served.process.wait(10), -signal.SIGTERM)
     with serving("by-signal.db") as served:
         expect("what was answered is there", served.once(LIST), [listing(["acme", "beta"])])
+
+
+def written_over():
+    """A log that another program wrote over isn't written back: status 4, and it isn't said that all is there."""
+    with listening("written-over") as served:
+        log = folder / "written-over.db-wal"
+        held = log.read_bytes()
+        expect("a change", served.once(creates("beta")), [CREATED])
+        log.write_bytes(held)
+        served.process.stdin.close()
+        served.process.stdin = None
+        expect("the end", served.ended(), (b"", line(folder / "written-over.db", UNCLOSED), 4))
+    with serving("written-over.db") as served:
+        expect("what was answered isn't there", served.once(LIST), [listing(["acme"])])
 
 
 def input_unwatched():

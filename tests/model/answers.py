@@ -237,6 +237,7 @@ KINDS = {
     "decide": decisions.decide,
     "server": servers.server,
     "run": servers.run,
+    "reopened": servers.run,
     "stored": stores.stored,
     "keeper": records.keeper,
     "keeper_with": records.keeper_with,

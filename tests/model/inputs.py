@@ -106,7 +106,8 @@ def call(field):
 
 READ = {
     "server": events, "server_in_memory": events, "server_in_tables": events, "run": events,
-    "loopback": events, "front": events, "played": events, "driven": events, "decide": decide, "tripped": events,
+    "reopened": events, "loopback": events, "front": events, "played": events, "driven": events, "decide": decide,
+    "tripped": events,
     "tripped_after": lambda fields: [fields[0], *events(fields[1:])],
     "link": lambda fields: [root_body(fields[0]), *fields[1:]],
     "resolve": lambda fields: [root_body(fields[0]), *map(document_with_key, fields[1:])],

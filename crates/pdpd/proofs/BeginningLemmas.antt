@@ -1,10 +1,10 @@
 -- What is kept as serving begins, and what the files hold as it ends.
 use Rattle.std.proofs.Common.{◌≡◌, ℕ, ℤ, List, Bool, false, Option, Result, Ok, Err, IsTrue, inl, inr, sym, ap, subst, ◌∙◌, ◌⊎◌}
-use Rattle.std.specs.Prelude.{IfOk, MatchResult}
+use Rattle.std.specs.Prelude.{IfErr, IfOk, MatchResult}
 use Rattle.sqlite.proofs.StateLemmas.{clean_if_open}
 use Rattle.sqlite.specs.Closing.{IsCopied}
 use Rattle.sqlite.specs.Effect.{Database}
-use Rattle.sqlite.specs.Files.{IsBlankAs, IsOpened, file_state, over_files}
+use Rattle.sqlite.specs.Files.{IsBlankAs, IsClosed, IsOpened, file_state, over_files}
 use Rattle.sqlite.specs.FileStore.{view}
 use Rattle.sqlite.specs.Held.{Held, state}
 use Rattle.sqlite.specs.Recovery.{Image}
@@ -36,7 +36,7 @@ use Rattle.pdpd.specs.declared.fault.Fault.{Fault}
 use Rattle.pdpd.specs.declared.fault.Fault.TheVariants.{Store}
 use Rattle.pdpd.specs.declared.fault.StoreFault.TheVariants.{MadeOtherwise}
 use Rattle.pdpd.specs.declared.store.closed.ClosedStore.{ClosedStore}
-use Rattle.pdpd.specs.Beginning.{Begins, HasCleanFiles, IsKeptIn, IsKeptOver, IsLeftIn}
+use Rattle.pdpd.specs.Beginning.{Begins, HasCleanFiles, IsKeptIn, IsKeptOver, IsLeftIn, IsLeftUnclosed}
 use Rattle.pdpd.specs.Connections.{Clocked, ServesFiles, ServesFrom, at_clock}
 use Rattle.pdpd.specs.running.Opening.{IsKeeperFrom, IsKeeperOver}
 use Rattle.pdpd.specs.running.Serving.{Serves}
@@ -138,7 +138,7 @@ left_in closed k sound copied =
       left = copied.left;
     }
 
-pub all_left_in : {D : Type 0} {g : disk.Ghosts D} (k : Keeper (FileStore D g)) (conn : Held (FileStore D g)) (r : Result (ClosedStore D g) Fault) → conn ≡ k.conn → IsTrue k.had_only_our_tables → IsTrue k.is_open
+pub all_left_in : {D : Type 0} {g : disk.Ghosts D} (k : Keeper (FileStore D g)) (conn : Held (FileStore D g)) (r : Result (ClosedStore D g) (FileStore D g)) → conn ≡ k.conn → IsTrue k.had_only_our_tables → IsTrue k.is_open
     → (IsTrue k.had_only_our_tables → IsTrue (file_state k.conn).is_open → IsTrue k.is_open → IsSound over_files k)
     → IfOk r (λ closed. HasCleanFiles closed → IsCopied conn closed.files)
     → IfOk r (λ closed. HasCleanFiles closed → IsSound over_files k × IsLeftIn closed (kept_by over_files k))
@@ -147,6 +147,24 @@ all_left_in {D} {g} k conn (Ok closed) same own on stays copies = λ clean.
     let sound = stays own copied.was_open on in
     (sound, left_in closed k sound copied)
 all_left_in k conn (Err e) same own on stays copies = tt
+
+-- ---- a store that wasn't closed
+
+pub left_unclosed : {D : Type 0} {g : disk.Ghosts D} (k : Keeper (FileStore D g)) (conn : Held (FileStore D g)) (left : FileStore D g) → conn ≡ k.conn → IsClosed conn left → IsLeftUnclosed k left
+left_unclosed {D} {g} k conn left same is =
+    let closed = subst (λ (c : Held (FileStore D g)). IsClosed c left) same is in
+    record {
+      trees = closed.quiet.outcomes;
+      is_kept = λ sound db may. let settled = sound.1.settled db (closed.quiet.outcomes db may) in (settled.0, sym settled.1);
+    }
+
+pub all_left_unclosed : {D : Type 0} {g : disk.Ghosts D} (k : Keeper (FileStore D g)) (conn : Held (FileStore D g)) (r : Result (ClosedStore D g) (FileStore D g)) → conn ≡ k.conn
+    → IfErr r (IsClosed conn) → IfErr r (IsLeftUnclosed k)
+all_left_unclosed k conn (Ok closed) same is = tt
+all_left_unclosed k conn (Err left) same is = left_unclosed k conn left same is
+
+pub unclosed_as : {D : Type 0} {g : disk.Ghosts D} (a b : Keeper (FileStore D g)) (left : FileStore D g) → a ≡ b → IsLeftUnclosed a left → IsLeftUnclosed b left
+unclosed_as {D} {g} a b left same = subst (λ (k : Keeper (FileStore D g)). IsLeftUnclosed k left) same
 
 -- ---- the front of the files
 
@@ -179,12 +197,12 @@ pub sound_clean : {D : Type 0} {g : disk.Ghosts D} (k : Keeper (FileStore D g)) 
 sound_clean k sound = clean_if_open (view k.conn.store) (shut_if_dirty_at k.conn.store) sound.1.is_open
 
 pub serves_files : {D : Type 0} {g : disk.Ghosts D} (image : Image) (token : Option (List ℕ)) (told_old told_new : Option (List (Option ℤ))) (count : ℕ) (front : Front (Keeper (FileStore D g)))
-    (records : Keeper (FileStore D g)) (r : Result (ClosedStore D g) Fault) → records ≡ front.server.records → ServesFrom image token told_old count (Ok tt) (at_clock front told_new)
+    (records : Keeper (FileStore D g)) (r : Result (ClosedStore D g) (FileStore D g)) → records ≡ front.server.records → ServesFrom image token told_old count (Ok tt) (at_clock front told_new)
     → IfOk r (λ closed. HasCleanFiles closed → IsSound over_files records × IsLeftIn closed (kept_by over_files records))
     → IfOk r (λ closed. HasCleanFiles closed → ServesFiles image token told_old told_new count closed)
 serves_files {D} {g} image token told_old told_new count front records (Ok closed) same served left = λ clean.
     let is = subst (λ (k : Keeper (FileStore D g)). IsSound over_files k × IsLeftIn closed (kept_by over_files k)) same (left clean) in
-    let began : IsSound over_files served.old.server.records = served.isolated.are_one.sound is.0 in
+    let began : IsSound over_files served.old.server.records = served.isolated.are_one.keeper.sound is.0 in
     record {
       old = served.old;
       new = front;

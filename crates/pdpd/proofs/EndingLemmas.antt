@@ -28,22 +28,22 @@ nothing_known (Ok reader) = refl
 nothing_known (Err e) = refl
 
 -- what is said of any token file is said of one of which nothing is known
-pub ends_serving_as : {D : Type 0} {g : disk.Ghosts D} (image : Image) (token : Option (List ℕ)) (serving : ServeCommand) (ended : Ended D (Keeper (FileStore D g)) g)
-    (end : Served D (Keeper (FileStore D g)) g) → token ≡ None → HasServed image token None None serving.connections ended → (IsNoAddress serving.address → ended ≡ Unbegun Address)
-    → end ≡ record { exit = exit_of_end ended; ended = Some ended } → EndsServing image serving end
-ends_serving_as image token serving ended end none served address is = record {
+pub ends_serving_as : {D : Type 0} {g : disk.Ghosts D} (image : Image) (told_old told_new : Option (List (Option ℤ))) (token : Option (List ℕ))
+    (serving : ServeCommand) (ended : Ended D (Keeper (FileStore D g)) g) (end : Served D (Keeper (FileStore D g)) g) → token ≡ None → HasServed image token told_old told_new serving.connections ended → (IsNoAddress serving.address → ended ≡ Unbegun Address)
+    → end ≡ record { exit = exit_of_end ended; ended = Some ended } → EndsServing image told_old told_new serving end
+ends_serving_as image told_old told_new token serving ended end none served address is = record {
   ended = ended;
   is = is;
-  served = subst (λ (t : Option (List ℕ)). HasServed image t None None serving.connections ended) none served;
+  served = subst (λ (t : Option (List ℕ)). HasServed image t told_old told_new serving.connections ended) none served;
   address = address;
 }
 
-pub ends_listening_as : {D : Type 0} {g : disk.Ghosts D} (image : Image) (token : Option (List ℕ)) (listening : ListenCommand) (ended : Ended D (Keeper (FileStore D g)) g)
-    (end : Served D (Keeper (FileStore D g)) g) → token ≡ None → HasServedAtOnce image token (is_some listening.changes) None None ended → (IsNoPlace listening.address → ended ≡ Unbegun Place)
-    → end ≡ record { exit = exit_of_end ended; ended = Some ended } → EndsListening image listening end
-ends_listening_as image token listening ended end none served place is = record {
+pub ends_listening_as : {D : Type 0} {g : disk.Ghosts D} (image : Image) (told_old told_new : Option (List (Option ℤ))) (token : Option (List ℕ))
+    (listening : ListenCommand) (ended : Ended D (Keeper (FileStore D g)) g) (end : Served D (Keeper (FileStore D g)) g) → token ≡ None → HasServedAtOnce image token (is_some listening.changes) told_old told_new ended → (IsNoPlace listening.address → ended ≡ Unbegun Place)
+    → end ≡ record { exit = exit_of_end ended; ended = Some ended } → EndsListening image told_old told_new listening end
+ends_listening_as image told_old told_new token listening ended end none served place is = record {
   ended = ended;
   is = is;
-  served = subst (λ (t : Option (List ℕ)). HasServedAtOnce image t (is_some listening.changes) None None ended) none served;
+  served = subst (λ (t : Option (List ℕ)). HasServedAtOnce image t (is_some listening.changes) told_old told_new ended) none served;
   place = place;
 }

@@ -123,7 +123,7 @@ pub serves_at_once_from : {D : Type 0} {g : disk.Ghosts D} (image : Image) (toke
 serves_at_once_from image token split result old new begins is = record { old = old; begins = begins; served = is }
 
 pub serves_files_at_once : {D : Type 0} {g : disk.Ghosts D} (image : Image) (token : Option (List ℕ)) (split : Bool) (front : Front (Keeper (FileStore D g)))
-    (records : Keeper (FileStore D g)) (r : Result (ClosedStore D g) Fault) → records ≡ front.server.records → ServesAtOnceFrom image token split (Ok tt) front
+    (records : Keeper (FileStore D g)) (r : Result (ClosedStore D g) (FileStore D g)) → records ≡ front.server.records → ServesAtOnceFrom image token split (Ok tt) front
     → IfOk r (λ closed. HasCleanFiles closed → IsSound over_files records × IsLeftIn closed (kept_by over_files records))
     → IfOk r (λ closed. HasCleanFiles closed → ServesFilesAtOnce image token split closed)
 serves_files_at_once {D} {g} image token split front records (Ok closed) same is left = λ clean.

@@ -11,9 +11,7 @@ use Rattle.xa_http.specs.Stream.{Stream, fed}
 use Rattle.xa_http.proofs.LawLemmas.{feeds_on, keeps_faults}
 use Rattle.xa_http.proofs.SizeLemmas.{waiting_short}
 use Rattle.xa_records.specs.Keeper.{Custody}
-use Rattle.xa_server.specs.Connection.{StopsBy, TakesPiece}
-use Rattle.xa_server.specs.declared.front_error.FrontError.{FrontError}
-use Rattle.xa_server.specs.declared.front_error.FrontError.TheVariants.{Memory, NoSuchConnection, TooManyConnections, Full}
+use Rattle.xa_server.specs.Connection.{StopsBy}
 use Rattle.xa_server.specs.World.{ServerModel}
 use Rattle.std.proofs.KnownBytes.{Appends-nil}
 use Rattle.xa_server.proofs.ConnectionLemmas.{fed_nothing, fed_twice}
@@ -27,14 +25,10 @@ use Rattle.pdpd.proofs.TellingLemmas.{told_fed_on, told_none}
 
 -- ---- room
 
--- there is room for a piece, so that what fails is want of memory
-pub only_memory : (piece : List ℕ) (s t : Stream) (error : FrontError) → TakesPiece piece s (Err error) t → s.ended ≡ false → HasRoom s → length piece ≤ 65_536
-    → error ≡ Memory
+-- there is room for a piece
+pub has_room : (piece : List ℕ) (s : Stream) → s.ended ≡ false → HasRoom s → length piece ≤ 65_536 → length s.held + length piece ≤ 1_048_576
 unfolding HasRoom
-only_memory piece s t Memory takes on room few = refl
-only_memory piece s t Full takes on room few = absurd (omega (arith, takes.0, room on, few))
-only_memory piece s t NoSuchConnection takes on room few = absurd takes
-only_memory piece s t TooManyConnections takes on room few = absurd takes
+has_room piece s on room few = omega (arith, room on, few)
 
 -- one that waits has room for the next piece, and one that has ended takes none
 pub stands_room : (s : Stream) → Stands false s → HasRoom s

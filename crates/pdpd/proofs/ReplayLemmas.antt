@@ -15,6 +15,7 @@ use Rattle.xa_records.specs.Kept.{nothing_kept}
 use Rattle.xa_server.specs.Decisions.{nothing_cached}
 use Rattle.xa_server.specs.declared.front.Front.{Front}
 use Rattle.xa_server.specs.Lines.{all_open}
+use Rattle.xa_server.specs.Serving.{AreServed}
 use Rattle.xa_server.specs.World.{ServerModel}
 use Rattle.xa_store.specs.Keeper.{IsSound, Keeper}
 use Rattle.xa_store.specs.KeeperReading.{custody_by, kept_by}
@@ -24,8 +25,7 @@ use Rattle.pdpd.specs.declared.replay.heading.Heading.{Heading}
 use Rattle.pdpd.specs.declared.replay.transcript.EntryFault.{EntryFault}
 use Rattle.pdpd.specs.declared.replay.transcript.EntryFault.TheVariants as read
 use Rattle.pdpd.specs.Exit.{breaks_off, exit_of_read, tells_of_entries}
-use Rattle.pdpd.specs.OneRun.{AreOneRun, IsSomeRun}
-use Rattle.pdpd.specs.Replay.{AreEntries, AreReplied, ConnectionTakes, Entry, Exchange, Gave, IsEntryReplied, IsReplayed, IsReplayedFromNothing, IsTranscriptRead, OpenTakes, Replays, StreamTakes, followed, no_exchange}
+use Rattle.pdpd.specs.Replay.{AreEntries, AreReplied, ConnectionTakes, Entry, Exchange, Gave, IsEntryReplied, IsReplayed, IsReplayedFromNothing, IsSomeRun, IsTranscriptRead, OpenTakes, Replays, StreamTakes, followed, no_exchange}
 use Rattle.pdpd.specs.running.Replaying.{Writes}
 use Rattle.pdpd.specs.Transcript.{IsEntry, IsNoEntry, Rejects, TakesEntry, TakesOrRejects}
 use Rattle.pdpd.proofs.RunLemmas.{none_run, run_on}
@@ -35,7 +35,7 @@ use Rattle.pdpd.proofs.RunLemmas.{none_run, run_on}
 module _ {R : Type 0} (custody : R → Custody) (is_open : (s : R) → (custody s).sound → IsTrue (custody s).is_open) where
   -- an exchange is a run
   abbrev IsRun : ServerModel R → ServerModel R → Exchange → Type 0
-  IsRun old new exchange = AreOneRun custody old new exchange.events exchange.replies
+  IsRun old new exchange = AreServed custody old new exchange.events exchange.replies
 
   stream_run : (heading : Heading) (bytes : List ℕ) (was is : Stream) (old new : ServerModel R) (exchange : Exchange)
       → StreamTakes custody heading bytes was is old new exchange → IsRun old new exchange

@@ -8,25 +8,21 @@ use Rattle.xa_server.specs.Interruption.{ServesMessage}
 use Rattle.xa_server.specs.Serving.{AreServed}
 use Rattle.xa_server.specs.World.{ServerModel}
 use Rattle.xa_server.proofs.ServingLemmas.{are_served, served_on}
-use Rattle.pdpd.specs.OneRun.{AreOneRun, IsSomeRun}
+use Rattle.pdpd.specs.Replay.{IsSomeRun}
 
 module _ {R : Type 0} (custody : R → Custody) (is_open : (s : R) → (custody s).sound → IsTrue (custody s).is_open) where
-  pub run_of : (a b : ServerModel R) (es : List Event) (rs : List Reply) → AreServed custody a b es rs → AreOneRun custody a b es rs
-  run_of a b es rs it = record { sound = it.keeper.sound; clean = it.keeper.clean; run = it.run; in_turn = it }
-
-  pub none_run : (a b : ServerModel R) → b ≡ a → AreOneRun custody a b [] []
-  none_run a b same = run_of a b [] [] (are_served custody is_open a b [] [] [] same)
+  pub none_run : (a b : ServerModel R) → b ≡ a → AreServed custody a b [] []
+  none_run a b same = are_served custody is_open a b [] [] [] same
 
   -- one message
-  pub one_run : (moment : ℤ) (message : Message) (reply : Reply) (a b : ServerModel R) → ServesMessage custody a b (moment, message) reply
-      → AreOneRun custody a b ((moment, message) ∷ []) (reply ∷ [])
-  one_run moment message reply a b serves =
-      run_of a b ((moment, message) ∷ []) (reply ∷ []) (are_served custody is_open a b ((moment, message) ∷ []) (reply ∷ []) (b ∷ []) (serves, refl))
+  pub message_run : (moment : ℤ) (message : Message) (reply : Reply) (a b : ServerModel R) → ServesMessage custody a b (moment, message) reply
+      → AreServed custody a b ((moment, message) ∷ []) (reply ∷ [])
+  message_run moment message reply a b serves = are_served custody is_open a b ((moment, message) ∷ []) (reply ∷ []) (b ∷ []) (serves, refl)
 
-  pub run_on : (a b c : ServerModel R) (es fs : List Event) (rs qs : List Reply) → AreOneRun custody a b es rs → AreOneRun custody b c fs qs → AreOneRun custody a c (es ++ fs) (rs ++ qs)
+  pub run_on : (a b c : ServerModel R) (es fs : List Event) (rs qs : List Reply) → AreServed custody a b es rs → AreServed custody b c fs qs → AreServed custody a c (es ++ fs) (rs ++ qs)
   run_on a b c es fs rs qs first later =
-      let each = served_on custody a b c es fs rs qs (first.in_turn.servers, first.in_turn.each) (later.in_turn.servers, later.in_turn.each) in
-      run_of a c (es ++ fs) (rs ++ qs) (are_served custody is_open a c (es ++ fs) (rs ++ qs) each.0 each.1)
+      let each = served_on custody a b c es fs rs qs (first.servers, first.each) (later.servers, later.each) in
+      are_served custody is_open a c (es ++ fs) (rs ++ qs) each.0 each.1
 
   -- ---- whatever messages they are
 

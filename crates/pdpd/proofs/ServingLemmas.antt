@@ -1,5 +1,5 @@
 -- Connections that are served, one after another.
-use Rattle.std.proofs.Common.{◌≡◌, ◌≢◌, ℕ, ◌+◌, ◌≤◌, arith, false, IsTrue, List, [], ◌∷◌, ◌++◌, append-nil, ◌⊎◌, Option, Some, None, Ok, Err, refl, sym, ap, subst, ◌∙◌, add-one, inl, inr}
+use Rattle.std.proofs.Common.{◌≡◌, ◌≢◌, ℕ, ◌+◌, ◌<◌, arith, false, IsTrue, List, [], ◌∷◌, ◌++◌, append-nil, ◌⊎◌, Option, Some, None, Ok, Err, refl, sym, ap, subst, ◌∙◌, add-one, inl, inr}
 use Rattle.std.specs.Prelude.{ℤ, ◌↔◌, IfErr, MatchResult, Result}
 use Rattle.std.specs.Net.Grammar.{IsSocketText}
 use Rattle.std.specs.declared.net.socket_addr.SocketAddr.{SocketAddr}
@@ -11,18 +11,18 @@ use Rattle.xa_server.specs.declared.accept_error.AcceptError.TheVariants as acce
 use Rattle.xa_server.specs.declared.front.Front.{Front}
 use Rattle.xa_server.specs.Lines.{none_open}
 use Rattle.xa_server.specs.Peers.{DrivesNext, HasVisits, Peer, Visit, peer_in}
+use Rattle.xa_server.specs.Serving.{AreServed}
 use Rattle.xa_server.specs.World.{ServerModel}
 use Rattle.xa_server.proofs.PeerLemmas.{visited_none, visited_on}
-use Rattle.pdpd.specs.Connections.{AreIsolated, AreIsolatedOver, AreServed, Clocked, at_clock}
+use Rattle.pdpd.specs.Connections.{AreIsolated, AreIsolatedOver, ConnectionsAreServed, Clocked, at_clock}
 use Rattle.pdpd.specs.declared.fault.Fault.{Fault}
 use Rattle.pdpd.specs.declared.fault.Fault.TheVariants as variant
 use Rattle.pdpd.specs.declared.fault.Fault.TheVariants.{Address, Place, End, TokenUnread, TokenBad, Store, Shut, Socket, Occupied, Taken, Unmade, Input, Connection, Waiting, Clock, Output, Memory}
 use Rattle.pdpd.specs.declared.serve.setting.Setting.{Setting}
 use Rattle.pdpd.specs.declared.serve.setting.Setting.TheVariants as set
 use Rattle.pdpd.specs.Fault.{IsNoAddress, IsOfConnections, IsOfFiles, IsOfServing, IsOfSetting, IsOfStore, IsOfToken, comes_of_serving, fault_of_accepting, fault_of_end}
-use Rattle.pdpd.specs.OneRun.{AreOneRun}
 use Rattle.pdpd.specs.running.Serving.{IsOfSettings, Serves, ServesAny, ServesNext, ServesNextOver}
-use Rattle.pdpd.proofs.RunLemmas.{none_run, run_of, run_on}
+use Rattle.pdpd.proofs.RunLemmas.{none_run, run_on}
 
 module _ {R : Type 0} (custody : R → Custody) (is_open : (s : R) → (custody s).sound → IsTrue (custody s).is_open) where
   -- before any was served
@@ -32,7 +32,7 @@ module _ {R : Type 0} (custody : R → Custody) (is_open : (s : R) → (custody 
     events = [];
     replies = [];
     visits = [];
-    served = (0, omega arith, inl (refl, refl, refl, refl));
+    served = (0, inl (omega arith, (refl, refl, refl, refl)));
     are_one = none_run custody is_open front.front.server front.front.server refl;
   }
 
@@ -66,7 +66,7 @@ module _ {R P : Type 0} (custody : R → Custody) (is_open : (s : R) → (custod
       }
 
   -- the program ends by a fault before all are served
-  pub served_until : (most count : ℕ) (fault : Fault) (old mid new : Clocked R) (p q r : P) → count ≤ most → AreIsolatedOver custody came parted count (Ok tt) old mid p q
+  pub served_until : (most count : ℕ) (fault : Fault) (old mid new : Clocked R) (p q r : P) → count < most → AreIsolatedOver custody came parted count (Ok tt) old mid p q
       → ServesNextOver custody came parted (Err fault) mid new q r → AreIsolatedOver custody came parted most (Err fault) old new p r
   unfolding ServesNext
   served_until most count fault old mid new p q r few before next = by_next next.served
@@ -84,8 +84,8 @@ module _ {R P : Type 0} (custody : R → Custody) (is_open : (s : R) → (custod
           events = is.events;
           replies = is.replies;
           visits = is.visits;
-          served = (count, few, inl (subst (λ (f : Clocked R). AreServed custody count old f is.events is.replies is.visits) (sym same) is.served));
-          are_one = subst (λ (f : Clocked R). AreOneRun custody old.front.server f.front.server is.events is.replies) (sym same) is.are_one;
+          served = (count, inl (omega (arith, few), subst (λ (f : Clocked R). ConnectionsAreServed custody count old f is.events is.replies is.visits) (sym same) is.served));
+          are_one = subst (λ (f : Clocked R). AreServed custody old.front.server f.front.server is.events is.replies) (sym same) is.are_one;
         };
         visited = subst (λ (vs : List Visit). HasVisits came parted p r vs) (ap (λ (vs : List Visit). is.visits ++ vs) none ∙ append-nil is.visits) visited;
       }
@@ -96,8 +96,7 @@ module _ {R P : Type 0} (custody : R → Custody) (is_open : (s : R) → (custod
           visits = is.visits ++ next.visits;
           served = (
             count,
-            few,
-            inr (mid, is.events, is.replies, is.visits, events, replies, visit, is.served, serves, refl, refl, ap (λ (vs : List Visit). is.visits ++ vs) one),
+            inr (few, (mid, is.events, is.replies, is.visits, events, replies, visit, is.served, serves, refl, refl, ap (λ (vs : List Visit). is.visits ++ vs) one)),
           );
           are_one = run_on custody is_open old.front.server mid.front.server new.front.server is.events events is.replies replies is.are_one run;
         };
@@ -132,7 +131,7 @@ module _ {R P : Type 0} (custody : R → Custody) (came parted : P → Option (L
           events,
           replies,
           (known, known_new, was, is, refl, (end, ends, record { after = after; is_driven = driven; opened = none; closed = none }, refl, refl)),
-          run_of custody is_open old.server new events replies driven.served,
+          driven.served,
         )
 
     pub served_next : (end : DriveEnd) (result : Result (Unit {0}) Fault) (old : Front R) (new : ServerModel R) (told told_new : Option (List (Option ℤ))) (p q : P)

@@ -21,14 +21,15 @@ use Rattle.xa_server.specs.declared.replies.Reply.{Reply}
 use Rattle.xa_server.specs.ErrorCode.{code_of_session_fault, error_reply}
 use Rattle.xa_server.specs.Replies.{bytes_of}
 use Rattle.xa_server.specs.Interruption.{ServesMessage}
+use Rattle.xa_server.specs.Serving.{AreServed}
 use Rattle.xa_server.specs.World.{ServerModel}
 use Rattle.std.proofs.KnownBytes.{Appends-nil, Appends-trans}
 use Rattle.xa_server.proofs.ConnectionLemmas.{cuts_trans}
 use Rattle.pdpd.specs.declared.replay.heading.Heading.{Heading}
 use Rattle.pdpd.specs.Entry.{events_at, reply_entries, reply_entry}
-use Rattle.pdpd.specs.OneRun.{AreOneRun, IsSomeRun}
+use Rattle.pdpd.specs.Replay.{IsSomeRun}
 use Rattle.pdpd.specs.running.Telling.{AreTold, IsToldAndWritten, LeavesOff, Stands}
-use Rattle.pdpd.proofs.RunLemmas.{none_run, one_run, run_on}
+use Rattle.pdpd.proofs.RunLemmas.{none_run, message_run, run_on}
 
 -- ---- what is told
 
@@ -70,7 +71,7 @@ module _ {R : Type 0} (custody : R → Custody) (is_open : (s : R) → (custody 
         last = second.last;
         cuts = cuts_trans s t second.last first.messages second.messages here second.cuts;
         are_one =
-            subst (λ (es : List Event). AreOneRun custody a c es (first.run ++ second.run)) (sym (map-append at first.messages second.messages))
+            subst (λ (es : List Event). AreServed custody a c es (first.run ++ second.run)) (sym (map-append at first.messages second.messages))
             (run_on custody is_open a b c (events_at moment first.messages) (events_at moment second.messages) first.run second.run first.are_one second.are_one);
         ends = second.ends;
         are_all =
@@ -124,7 +125,7 @@ module _ {R : Type 0} (custody : R → Custody) (is_open : (s : R) → (custody 
         run = reply ∷ [];
         last = t;
         cuts = (t, is, refl);
-        are_one = one_run custody is_open moment message reply a b served;
+        are_one = message_run custody is_open moment message reply a b served;
         ends = refl;
         are_all = refl;
       })

@@ -1,17 +1,21 @@
 -- What the files of a store hold as serving begins, and as it ends.
 use Rattle.std.specs.Prelude.{◌≡◌, ◌⊎◌, ℕ, List, Option, None, Result, Ok, Err}
 use Rattle.sqlite.specs.Closing.{HoldsAlone}
-use Rattle.sqlite.specs.Files.{AreFoundIn, HoldsDatabase, image_of}
+use Rattle.sqlite.specs.Files.{AreFoundIn, HoldsDatabase, file_state, image_of, over_files}
+use Rattle.sqlite.specs.FileStore.{recovers}
 use Rattle.sqlite.specs.Recovery.{Image}
 use Rattle.sqlite.specs.Tree.{Trees}
 use Rattle.sqlite.specs.WalFiles.{outcomes}
 use Rattle.sqlite.specs.WalReads.{AreClean}
 use Rattle.sqlite_catalog.specs.Listing.{IsSound as ObeysRules}
 use Rattle.sqlite_disk.specs.declared.Disk as disk
+use Rattle.sqlite_store.specs.declared.store.FileStore.{FileStore}
 use Rattle.xa_records.specs.Kept.{Kept, nothing_kept}
 use Rattle.xa_server.specs.Decisions.{nothing_cached}
 use Rattle.xa_server.specs.Front.{FrontState}
 use Rattle.xa_server.specs.Lines.{none_open}
+use Rattle.xa_store.specs.Keeper.{IsSound, Keeper}
+use Rattle.xa_store.specs.KeeperReading.{kept_by}
 use Rattle.xa_store.specs.Meaning.{kept_in, kept_in_schema_1}
 use Rattle.xa_store.specs.Opening.{no_tables}
 use Rattle.xa_store.specs.Sound.{IsOurDatabase, OpensSoundly}
@@ -72,3 +76,11 @@ module _ {D : Type 0} {g : disk.Ghosts D} where
     pub is_kept : kept ≡ kept_in db
     pub holds : HoldsAlone (image_left closed) db
     pub left : (image : Image) → outcomes g closed.files.log closed.files.db image → HoldsAlone image db
+
+  -- a keeper's store that wasn't closed, or couldn't be, as closing has left it: it was stopped at a call of the disk,
+  -- or has answered. A crash leaves no trees that one before it might not have left. If the keeper was sound, they are
+  -- the program's tables, which open again, and mean what it kept
+  pub record IsLeftUnclosed (keeper : Keeper (FileStore D g)) (left : FileStore D g) : Type 0 where
+    pub trees : (db : Trees) → recovers left db → (file_state keeper.conn).may_leave db
+    pub is_kept : IsSound over_files keeper → (db : Trees) → recovers left db
+        → OpensSoundly db × (kept_by over_files keeper ≡ kept_in db)

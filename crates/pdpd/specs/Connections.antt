@@ -1,5 +1,6 @@
 -- Connections that were served, one after another.
-use Rattle.std.specs.Prelude.{◌≡◌, ◌≤◌, ◌⊎◌, ℕ, ℤ, zero, suc, List, [], ◌∷◌, ◌++◌, Option, Some, None, Result, Ok, Err}
+use Rattle.std.specs.Prelude.{◌≡◌, ◌≤◌, ◌<◌, ◌⊎◌, ℕ, ℤ, zero, suc, List, [], ◌∷◌, ◌++◌, Option, Some, None, Result, Ok}
+use Rattle.std.specs.Prelude.{Err}
 use Rattle.sqlite.specs.Files.{over_files}
 use Rattle.sqlite.specs.Recovery.{Image}
 use Rattle.sqlite_disk.specs.declared.Disk.{Ghosts}
@@ -15,13 +16,13 @@ use Rattle.xa_server.specs.Driven.{IsDrivenWithin, Known}
 use Rattle.xa_server.specs.Front.{front_is_clean, front_state}
 use Rattle.xa_server.specs.Lines.{none_open}
 use Rattle.xa_server.specs.Peers.{HasVisits, Peer, Visit, peer_in}
+use Rattle.xa_server.specs.Serving.{AreServed}
 use Rattle.xa_store.specs.Keeper.{IsSound, Keeper}
 use Rattle.xa_store.specs.KeeperReading.{custody_by, kept_by}
 use Rattle.pdpd.specs.declared.fault.Fault.{Fault}
 use Rattle.pdpd.specs.declared.store.closed.ClosedStore.{ClosedStore}
 use Rattle.pdpd.specs.Beginning.{Begins, IsLeftIn}
 use Rattle.pdpd.specs.Fault.{fault_of_end}
-use Rattle.pdpd.specs.OneRun.{AreOneRun}
 
 -- a front, and what the clock by which its messages are served has told so far, if that is known
 pub record Clocked (R : Type 0) : Type 0 where
@@ -68,21 +69,22 @@ module _ {R : Type 0} (custody : R → Custody) where
   -- `count` connections were served, one after another, each to an end after which the next is; `events` and `replies`
   -- are theirs, those of the first before those of the second, and so on, and `visits` what is known of each. The clock
   -- was asked for their messages alone
-  abbrev pub AreServed : ℕ → Clocked R → Clocked R → List Event → List Reply → List Visit → Type 0
-  AreServed zero old new events replies visits = (new ≡ old) × (events ≡ []) × (replies ≡ []) × (visits ≡ [])
-  AreServed (suc count) old new events replies visits =
-      ServesOneMore (AreServed count) None old new events replies visits
+  abbrev pub ConnectionsAreServed : ℕ → Clocked R → Clocked R → List Event → List Reply → List Visit → Type 0
+  ConnectionsAreServed zero old new events replies visits = (new ≡ old) × (events ≡ []) × (replies ≡ []) × (visits ≡ [])
+  ConnectionsAreServed (suc count) old new events replies visits =
+      ServesOneMore (ConnectionsAreServed count) None old new events replies visits
 
-  -- at most `most` connections were served so, and then perhaps one more, by whose end the program ends with the fault
+  -- some connections were served so, and then perhaps one more, by whose end the program ends with the fault: at most
+  -- `most` in all
   abbrev pub AreServedUntil : ℕ → Fault → Clocked R → Clocked R → List Event → List Reply → List Visit → Type 0
   AreServedUntil most fault old new events replies visits =
-      (count : ℕ) × (count ≤ most) × (AreServed count old new events replies visits
-      ⊎ ServesOneMore (AreServed count) (Some fault) old new events replies visits)
+      (count : ℕ) × (((count ≤ most) × ConnectionsAreServed count old new events replies visits)
+      ⊎ ((count < most) × ServesOneMore (ConnectionsAreServed count) (Some fault) old new events replies visits))
 
   -- by how serving ended: all connections were served, or those up to a fault
   abbrev pub AreServedAs : ℕ → Result (Unit {0}) Fault → Clocked R → Clocked R → List Event → List Reply → List Visit
       → Type 0
-  AreServedAs count (Ok _) old new events replies visits = AreServed count old new events replies visits
+  AreServedAs count (Ok _) old new events replies visits = ConnectionsAreServed count old new events replies visits
   AreServedAs count (Err fault) old new events replies visits = AreServedUntil count fault old new events replies visits
 
   -- the headline over connections that were served: all of their events are one run, whatever the connections on which
@@ -92,10 +94,10 @@ module _ {R : Type 0} (custody : R → Custody) where
     pub replies : List Reply
     pub visits : List Visit
     pub served : AreServedAs count result old new events replies visits
-    pub are_one : AreOneRun custody old.front.server new.front.server events replies
+    pub are_one : AreServed custody old.front.server new.front.server events replies
 
   -- `AreIsolated`, and the connections were those that were given, as far as it is known which these are. Of sockets
-  -- nothing is known
+  -- it is known how each call has ended, and not what it would have given
   pub record AreIsolatedOver {P : Type 0} (came parted : P → Option (List Peer)) (count : ℕ)
       (result : Result (Unit {0}) Fault) (old new : Clocked R) (peers_old peers_new : P) : Type 0 where
     pub isolated : AreIsolated count result old new

@@ -8,8 +8,8 @@ use Rattle.xa_records.specs.Keeper.{Custody}
 use Rattle.xa_server.specs.declared.replies.Reply.{Reply}
 use Rattle.xa_server.specs.Alone.{Event}
 use Rattle.xa_server.specs.Connection.{HasMessages, all_replies}
+use Rattle.xa_server.specs.Serving.{AreServed}
 use Rattle.xa_server.specs.World.{ServerModel}
-use Rattle.pdpd.specs.OneRun.{AreOneRun}
 
 -- the messages, each at that moment
 abbrev pub events_at : ℤ → List Message → List Event
@@ -32,5 +32,5 @@ pub record IsStreamAnswered {R : Type 0} (custody : R → Custody) (moment : ℤ
   pub fault : Option SessionFault
   pub run : List Reply
   pub has_messages : HasMessages stream messages fault after
-  pub are_one : AreOneRun custody old new (events_at moment messages) run
+  pub are_one : AreServed custody old new (events_at moment messages) run
   pub are_all : replies ≡ all_replies run fault

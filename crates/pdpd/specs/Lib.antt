@@ -8,7 +8,6 @@ pub mod Fault
 pub mod Halves
 pub mod Heading
 pub mod Listening
-pub mod OneRun
 pub mod Replay
 pub mod running
 pub mod Setting

@@ -74,7 +74,7 @@ fault_of_halt halt.TooManyTurns = Waiting
 
 -- ---- connections
 
--- nothing is known of what a socket gives and takes
+-- nothing is said of what a socket gives and takes
 abbrev pub unknown_traffic : Unit {0} → Option (List Traffic)
 unknown_traffic _ = None
 

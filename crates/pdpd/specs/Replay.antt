@@ -14,6 +14,7 @@ use Rattle.xa_server.specs.Alone.{Event}
 use Rattle.xa_server.specs.Connection.{empty_stream}
 use Rattle.xa_server.specs.Decisions.{nothing_cached}
 use Rattle.xa_server.specs.Lines.{IsOpen, all_open, with_line}
+use Rattle.xa_server.specs.Serving.{AreServed}
 use Rattle.xa_server.specs.World.{ServerModel}
 use Rattle.xa_store.specs.Keeper.{IsSound, Keeper}
 use Rattle.xa_store.specs.KeeperReading.{custody_by, kept_by}
@@ -21,7 +22,6 @@ use Rattle.pdpd.specs.declared.exit.Exit.{Exit}
 use Rattle.pdpd.specs.declared.exit.Exit.TheVariants.{Done, Malformed}
 use Rattle.pdpd.specs.declared.replay.heading.Heading.{Heading}
 use Rattle.pdpd.specs.Entry.{IsStreamAnswered, events_at, reply_entries}
-use Rattle.pdpd.specs.OneRun.{AreOneRun, IsSomeRun}
 use Rattle.pdpd.specs.Transcript.{IsEntry, IsNoEntry}
 
 -- an entry of a transcript
@@ -72,6 +72,10 @@ IsTranscriptRead done left rest (Malformed number wrong) =
     × (number ≡ length entries + 1) × done entries
 IsTranscriptRead done left rest _ = ⊤
 
+-- some messages were served one after another, with all that they come to
+unfoldable pub IsSomeRun : {R : Type 0} → (R → Custody) → ServerModel R → ServerModel R → Type 0
+IsSomeRun custody old new = (events : List Event) × (replies : List Reply) × AreServed custody old new events replies
+
 module _ {R : Type 0} (custody : R → Custody) where
   -- ---- one entry
 
@@ -121,7 +125,7 @@ module _ {R : Type 0} (custody : R → Custody) where
   pub record Replays (old new : Front R) (before now : Option (List ℕ)) (entries : List Entry) : Type 0 where
     pub exchange : Exchange
     pub are_replied : AreReplied entries old new exchange
-    pub are_one : AreOneRun custody old.server new.server exchange.events exchange.replies
+    pub are_one : AreServed custody old.server new.server exchange.events exchange.replies
     pub wrote : Appends before now exchange.written
 
   -- ---- a whole transcript
@@ -139,7 +143,7 @@ module _ {R : Type 0} (custody : R → Custody) where
     pub replayed : IsTranscriptRead (Replays old new before now) left rest exit
 
 -- A transcript was replayed over a store's repository, which began without domains and sound, and the store has given
--- back what was written. So all that `AreOneRun` says of such a beginning is said of its messages
+-- back what was written. So all that `AreServed` says of such a beginning is said of its messages
 pub record IsReplayedFromNothing {S : Type 0} (g : Ghosts S) (operator : List ℕ) (left before now : Option (List ℕ))
     (exit : Exit) (new : Front (Keeper S)) : Type 0 where
   pub records : Keeper S

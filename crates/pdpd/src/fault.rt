@@ -67,7 +67,7 @@ impl StoreFault {
             StoreFault::FileAlone =>
                 "the file has no tables, and its log isn't there (-wal); put the log back, or move the file away to begin a new store",
             StoreFault::Unclosed =>
-                "its log (-wal) can't be written back into the file; nothing is lost, keep both",
+                "its log (-wal) can't be written back into the file; keep both, which have all that was answered unless another program wrote over one",
         }
     }
 }

@@ -34,7 +34,7 @@ use std::fs::OpenFile;
 use std::io::{self, Read};
 use std::rt::HostRuntime;
 use std::time::{Clock as Time, Duration};
-use xa_reactor::{Halt, Limits, Network, Reactor, Timer};
+use xa_reactor::{Halt, Limits, Network, NotedNetwork, Reactor, Timer};
 use xa_records::Records;
 use xa_server::{Clock, Front};
 
@@ -156,13 +156,14 @@ fn listen_at<R: Records, C: Clock>(
     ensures { ServesAtOnce R.custody (is_some changes.entry) result front.old front.new }
 {
     let is_split = changes.is_some();
-    let mut sockets = match sockets_at(rt, place, changes, address, settings.ends_with_input) {
+    let sockets = match sockets_at(rt, place, changes, address, settings.ends_with_input) {
         Ok(sockets) => sockets,
         Err(fault) => return Err(fault),
     };
     sockets.tell("begins");
-    let result = serve_at_once(rt, front, &mut sockets, settings.limits(), is_split, clock);
-    sockets.tell_of_end(result.is_ok());
+    let mut noted = NotedNetwork::new(sockets);
+    let result = serve_at_once(rt, front, &mut noted, settings.limits(), is_split, clock);
+    noted.network.tell_of_end(result.is_ok());
     result
 }
 

@@ -98,7 +98,7 @@ fn serve_and_close<S: Start, F: OpenFile + Read + Drop, C: Clock>(
     }
     match close_records(left.front.into_server().into_records()) {
         Ok(closed) => Ended::Closed(closed),
-        Err(fault) => Ended::Unclosed(fault),
+        Err(store) => Ended::Unclosed(store),
     }
 }
 
@@ -123,12 +123,14 @@ fn exit_of_replaying(rt: &HostRuntime, token: &str) -> Exit
 
 /// Does what the words of the command line ask for, and says how that ended. `start` stands for what the
 /// files of a store hold.
-fn exit_of_words<S: Start>(
+fn exit_of_words<S: Start, C: Clock>(
     rt: &HostRuntime,
     words: &[String],
     start: S,
+    clock: &mut C,
 ) -> Served<FileFrom<S>, FileRecords<S>>
-    ensures { MayEnd (image_at S.Start) (command_of (map string_bytes words.now)) result }
+    ensures { MayEnd (image_at S.Start) (C.told clock.old) (C.told clock.new)
+        (command_of (map string_bytes words.now)) result }
 {
     match command_of(words) {
         Some(Command::Help) => Served::nothing(print(rt, help::HELP)),
@@ -136,12 +138,11 @@ fn exit_of_words<S: Start>(
         Some(Command::Replay(token)) => Served::nothing(exit_of_replaying(rt, token.as_str())),
         Some(Command::Serve(serving)) => {
             let token = File::open(rt, serving.token_file.as_str());
-            let ended = serve_and_close(rt, &serving, token, start, &mut WallClock::new(rt));
+            let ended = serve_and_close(rt, &serving, token, start, clock);
             Served::by(rt, serving.asked(), ended)
         }
         Some(Command::Listen(listening)) => {
             let token_file = File::open(rt, listening.token_file.as_str());
-            let clock = &mut WallClock::new(rt);
             let ended = listen_and_close(rt, &listening, token_file, start, clock);
             Served::by(rt, listening.asked(), ended)
         }
@@ -153,7 +154,8 @@ fn main(rt: HostRuntime) -> ExitCode {
     match words(&rt) {
         Ok(words) => {
             let _touched = stack::touch(words.len());
-            exit_of_words(&rt, &words, Unknown).exit.status()
+            let clock = &mut WallClock::new(&rt);
+            exit_of_words(&rt, &words, Unknown, clock).exit.status()
         }
         Err(Exit::Usage) => report_usage(&rt, UsageFault::NoText).status(),
         Err(exit) => report(&rt, exit).status(),

@@ -57,13 +57,12 @@ fn check_end(end: DriveEnd) -> Result<(), Fault>
 }
 
 /// Takes a connection and serves it, each message at the clock's moment, until it ends (`xa_server`,
-/// `drive_next`). After the last, none is taken any more.
+/// `drive_next`).
 fn serve_next<R: Records, P: Peers, C: Clock>(
     front: &mut Front<R>,
     peers: &mut P,
     clock: &mut C,
     refusals: &mut Refusals,
-    is_last: bool,
 ) -> Result<(), Fault>
     requires { front.old.lines ≡ none_open }
     ensures served { ServesNextOver R.custody P.came P.parted result
@@ -72,7 +71,7 @@ fn serve_next<R: Records, P: Peers, C: Clock>(
     ensures sound { WasSound R.custody front.old front.new }
     ensures err { IfErr result IsOfConnections }
 {
-    let end = drive_next(&mut front.server, peers, clock, is_last)?;
+    let end = drive_next(&mut front.server, peers, clock)?;
     refusals.tell_of_last(front);
     check_end(end)
 }
@@ -92,8 +91,8 @@ fn serve_connections<R: Records, P: Peers, C: Clock>(
     ensures sound { WasSound R.custody front.old front.new }
     ensures err { IfErr result IsOfConnections }
 {
-    for index in 0..connections {
-        serve_next(front, peers, clock, refusals, index + 1 == connections)?;
+    for _served in 0..connections {
+        serve_next(front, peers, clock, refusals)?;
     }
     Ok(())
 }
@@ -120,7 +119,7 @@ fn serve_at<R: Records, C: Clock>(
     if println!(rt; "listening {}", serving.address.as_str()).is_err() {
         return Err(Fault::Output);
     }
-    let mut listening = Listening::new(rt, listener, idle);
+    let mut listening = Listening::new(rt, listener, serving.connections, idle);
     let mut refusals = Refusals::new(rt);
     serve_connections(
         front,

@@ -1,7 +1,7 @@
 //! The store that `pdpd listen` and `pdpd serve` serve, and that of `pdpd replay`.
 ghost use Rattle.std.specs.Prelude.{◌≡◌, ◌≢◌, ◌⊎◌, false, IfErr, IfOk, IsTrue, MatchResult};
 ghost use Rattle.sqlite.specs.Closing.{IsCopied};
-ghost use Rattle.sqlite.specs.Files.{file_state, over_files};
+ghost use Rattle.sqlite.specs.Files.{IsClosed, file_state, over_files};
 ghost use Rattle.sqlite.specs.Held.{state};
 ghost use Rattle.sqlite.specs.State.{HasCleanDisk};
 ghost use Rattle.sqlite.specs.Steps.{over_memory};
@@ -9,10 +9,10 @@ ghost use Rattle.sqlite.specs.WalFiles.{image_at};
 ghost use Rattle.xa_records.specs.Kept.{nothing_kept};
 ghost use Rattle.xa_store.specs.Keeper.{IsSound};
 ghost use Rattle.xa_store.specs.KeeperReading.{kept_by};
-ghost use Rattle.pdpd.specs.Beginning.{HasCleanFiles, IsLeftIn};
+ghost use Rattle.pdpd.specs.Beginning.{HasCleanFiles, IsLeftIn, IsLeftUnclosed};
 ghost use Rattle.pdpd.specs.declared.exit.Exit.TheVariants.{Memory, Store, Usage};
 ghost use Rattle.pdpd.specs.declared.fault.Fault.TheVariants as fault;
-ghost use Rattle.pdpd.specs.declared.fault.StoreFault.TheVariants.{MadeOtherwise, Unclosed};
+ghost use Rattle.pdpd.specs.declared.fault.StoreFault.TheVariants.{MadeOtherwise};
 ghost use Rattle.pdpd.specs.Fault.{IsFaultAt, IsOfStore, fault_of_file, fault_of_tables};
 ghost use Rattle.pdpd.specs.running.Opening.{IsKeeperFrom, IsKeeperOver};
 
@@ -223,36 +223,41 @@ pub fn records_in_file<S: Start>(
 }
 
 /// Closes the files of a connection, and gives them back. The log is written back into the file, so that
-/// the store is this one file, and a log without commits.
-fn close<D: Disk + Drop>(conn: Connection<FileStore<D>>) -> Result<ClosedStore<D>, Fault>
+/// the store is this one file, and a log without commits. If it can't be, the store is given back, as that
+/// has left it.
+fn close<D: Disk + Drop>(conn: Connection<FileStore<D>>) -> Result<ClosedStore<D>, FileStore<D>>
     ensures copied { IfOk result (λ closed. HasCleanFiles closed → IsCopied conn closed.files) }
-    ensures err { IfErr result (λ e. e ≡ fault.Store Unclosed) }
+    ensures left { IfErr result (IsClosed conn) }
 {
     match conn.close_files() {
         Ok(files) => Ok(ClosedStore::of(files)),
-        Err((_, store)) => {
-            drop(store.close());
-            Err(Fault::Store(StoreFault::Unclosed))
-        }
+        Err((_, store)) => Err(store),
     }
 }
 
-/// Closes the files of a keeper, and gives them back. One of other tables than the program's isn't closed,
-/// since no clause says what it holds; none is opened. Nor is one that can't go on: its files are left as
-/// they are.
+/// The store of a keeper, whose files are left as they are.
+fn leave<D: Disk + Drop>(records: SqlRecords<FileStore<D>>) -> FileStore<D>
+    ensures { IsLeftUnclosed records result }
+{
+    records.into_connection().into_store()
+}
+
+/// Closes the files of a keeper, and gives them back; or its store, if they can't be closed. One of other
+/// tables than the program's isn't closed, since no clause says what it holds; none is opened. Nor is one
+/// that can't go on: its files are left as they are.
 pub fn close_records<D: Disk + Drop>(
     records: SqlRecords<FileStore<D>>,
-) -> Result<ClosedStore<D>, Fault>
+) -> Result<ClosedStore<D>, FileStore<D>>
     ensures closed { IfOk result (λ closed. HasCleanFiles closed
         → IsSound over_files records × IsLeftIn closed (kept_by over_files records)) }
-    ensures err { IfErr result (λ e. e ≡ fault.Store Unclosed) }
+    ensures left { IfErr result (IsLeftUnclosed records) }
 {
     records.stays_sound_while_open();
     if !records.has_only_our_tables() {
-        return Err(Fault::Store(StoreFault::Unclosed));
+        return Err(leave(records));
     }
     if !records.is_open() {
-        return Err(Fault::Store(StoreFault::Unclosed));
+        return Err(leave(records));
     }
     close(records.into_connection())
 }

@@ -156,11 +156,8 @@ fed_keeps conn who read dropped (event.Piece other piece ∷ []) more (outcome.H
     (nexts, mid, plays, piece_came conn other old mid stream was after had put (ap (λ (s : Stream). s.ended) fed_is) there, refl)
 fed_keeps conn who read dropped (event.Piece other piece ∷ []) more (outcome.Held (Err NoSuchConnection) ∷ []) rest (given ∷ nexts) old new stream is (mid, does, plays) there =
     (nexts, mid, plays, unchanged conn old mid stream does.1.1 there, refl)
-fed_keeps conn who read dropped (event.Piece other piece ∷ []) more (outcome.Held (Err Full) ∷ []) rest (given ∷ nexts) old new stream is (mid, does, plays) there =
-    (nexts, mid, plays, unchanged conn old mid stream does.1.3 there, refl)
-fed_keeps conn who read dropped (event.Piece other piece ∷ []) more (outcome.Held (Err Memory) ∷ []) rest (given ∷ nexts) old new stream is (mid, does, plays) there =
-    (nexts, mid, plays, unchanged conn old mid stream does.1.3 there, refl)
-fed_keeps conn who read dropped (event.Piece other piece ∷ []) more (outcome.Held (Err TooManyConnections) ∷ []) rest (given ∷ nexts) old new stream is (mid, none, plays) there = absurd none.1.2
+fed_keeps conn who read dropped (event.Piece other piece ∷ []) more (outcome.Held (Err _) ∷ []) rest (given ∷ nexts) old new stream is (mid, does, plays) there =
+    (nexts, mid, plays, unchanged conn old mid stream does.1.5 there, refl)
 fed_keeps conn who read dropped (event.Piece other piece ∷ []) more (outcome.Held (Ok done) ∷ []) rest [] old new stream is none there = absurd none
 fed_keeps conn who read dropped (event.Piece other piece ∷ []) more (outcome.Held (Err error) ∷ []) rest [] old new stream is none there = absurd none
 fed_keeps conn who read dropped [] more (o ∷ outcomes) rest nexts old new stream none plays there = absurd none

@@ -128,9 +128,9 @@ lasts_on conn old mid new first later = λ stream opens.
 lasts_held : (conn : Conn) (piece : List ℕ) (old new : Lines) (result : Result (Unit {0}) FrontError) → IsHeld conn piece old result new → Lasts conn old new
 lasts_held conn piece old new (Ok done) (stream, after, opens, takes, put) = lasts_put conn old new after put
 lasts_held conn piece old new (Err NoSuchConnection) (none, same) = lasts_same conn old new same
-lasts_held conn piece old new (Err Memory) (stream, opens, takes, same) = lasts_same conn old new same
-lasts_held conn piece old new (Err Full) (stream, opens, takes, same) = lasts_same conn old new same
-lasts_held conn piece old new (Err TooManyConnections) (stream, opens, takes, same) = lasts_same conn old new same
+lasts_held conn piece old new (Err Memory) (stream, why, opens, takes, by, same) = lasts_same conn old new same
+lasts_held conn piece old new (Err Full) (stream, why, opens, takes, by, same) = lasts_same conn old new same
+lasts_held conn piece old new (Err TooManyConnections) (stream, why, opens, takes, by, same) = lasts_same conn old new same
 
 lasts_answered : (conn : Conn) (old new : Lines) (given : Option Next) (result : Result (Option Answer) FrontError) → AnswersAt conn old given result new → Lasts conn old new
 lasts_answered conn old new (Some given) (Ok answer) is = lasts_put conn old new is.1 is.7

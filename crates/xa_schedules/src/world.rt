@@ -1,22 +1,29 @@
 //! What is around a reactor: its peers, its clock and the time.
+ghost use Rattle.std.specs.Prelude.{Some};
+
 use crate::bytes::{bytes_of, number_of};
 use crate::network::{Memory, NOT_READY};
 use crate::no_answer::NoAnswer;
 use std::alloc::Global;
 use std::time::Duration;
-use xa_reactor::{Limits, PLACES, Ready, Timer};
-use xa_server::Clock;
+use xa_reactor::{Limits, NotedNetwork, PLACES, Ready, Timer};
+use xa_server::{Clock, Noted};
 use xa_value::Moment;
 
 /// A clock that tells what a row says.
-#[derive(Clone, Copy)]
+#[derive(Drop)]
 pub struct RowClock {
     /// What it tells.
     moment: Option<Moment>,
+    /// What it has told.
+    told: Noted<Option<Moment>>,
 }
 
 impl Clock for RowClock {
+    ghost told = { λ clock. Some clock.told.calls };
+
     fn now(&mut self) -> Option<Moment> {
+        self.told.note(&self.moment);
         self.moment
     }
 }
@@ -42,7 +49,7 @@ impl Timer for RowTimer {
 #[derive(Drop)]
 pub struct World {
     /// The peers.
-    pub network: Memory,
+    pub network: NotedNetwork<Memory>,
     /// What the clock tells.
     pub clock: RowClock,
     /// What the timer tells.
@@ -86,9 +93,10 @@ impl World {
     /// Nobody is there.
     pub fn new(alloc: Global) -> World {
         World {
-            network: Memory::new(alloc),
+            network: NotedNetwork::new(Memory::new(alloc)),
             clock: RowClock {
                 moment: Moment::new(0),
+                told: Noted::new(),
             },
             timer: RowTimer {
                 now: Duration::ZERO,
@@ -104,7 +112,7 @@ impl World {
             "passes" => self.timer.step = milliseconds_of(text)?,
             "clock" => self.clock.moment = moment_of(text)?,
             "no-clock" => self.clock.moment = None,
-            "end" => self.network.end = true,
+            "end" => self.network.network.end = true,
             "ready" => self.ready(text)?,
             "fails" => self.fails(text)?,
             "arrive" => self.arrive(alloc, text, false)?,
@@ -117,7 +125,7 @@ impl World {
     /// So many peers come to a door.
     fn arrive(&mut self, alloc: Global, text: &str, at_changes: bool) -> Result<(), NoAnswer> {
         for _ in 0..number_of(text)? {
-            self.network.arrive(alloc, at_changes)?;
+            self.network.network.arrive(alloc, at_changes)?;
         }
         Ok(())
     }
@@ -125,7 +133,7 @@ impl World {
     /// What a peer does.
     fn peer(&mut self, alloc: Global, word: &str, text: &str) -> Result<(), NoAnswer> {
         let (number, what) = two(text)?;
-        let Some(peer) = self.network.peers.get_mut(number_of(number)?) else {
+        let Some(peer) = self.network.network.peers.get_mut(number_of(number)?) else {
             return Err(NoAnswer::Malformed);
         };
         match word {
@@ -140,7 +148,7 @@ impl World {
     /// What is told at the next wait of a place: some of the letters `r`, `w` and `e`.
     fn ready(&mut self, text: &str) -> Result<(), NoAnswer> {
         let (place, letters) = two(text)?;
-        let mut told = self.network.told.unwrap_or([NOT_READY; PLACES]);
+        let mut told = self.network.network.told.unwrap_or([NOT_READY; PLACES]);
         if let Some(ready) = told.get_mut(number_of(place)?) {
             *ready = Ready {
                 readable: letters.contains('r'),
@@ -148,7 +156,7 @@ impl World {
                 ends: letters.contains('e'),
             };
         }
-        self.network.told = Some(told);
+        self.network.network.told = Some(told);
         Ok(())
     }
 
@@ -157,9 +165,9 @@ impl World {
         let (kind, every) = two(text)?;
         let every = number_of(every)?;
         match kind {
-            "read" => self.network.reads.every = every,
-            "write" => self.network.writes.every = every,
-            "accept" => self.network.accepts.every = every,
+            "read" => self.network.network.reads.every = every,
+            "write" => self.network.network.writes.every = every,
+            "accept" => self.network.network.accepts.every = every,
             _ => return Err(NoAnswer::Malformed),
         }
         Ok(())
@@ -168,14 +176,14 @@ impl World {
     /// Writes what was done at the network since it was told last.
     pub fn tell_deeds(&mut self, answer: &mut String) -> Result<(), NoAnswer> {
         answer.push_str("turn")?;
-        answer.push_str(self.network.done.as_str())?;
-        self.network.done.clear();
+        answer.push_str(self.network.network.done.as_str())?;
+        self.network.network.done.clear();
         Ok(())
     }
 
     /// What a peer has got.
     pub fn got(&self, text: &str) -> Result<&[u8], NoAnswer> {
-        match self.network.peers.get(number_of(text)?) {
+        match self.network.network.peers.get(number_of(text)?) {
             Some(peer) => Ok(peer.got.as_slice()),
             None => Err(NoAnswer::Malformed),
         }

@@ -11,12 +11,9 @@ use Rattle.std.proofs.lemmas.List.Elements.{All-nil, All-cons}
 use Rattle.xa_http.specs.Stream.{Stream, fed}
 use Rattle.xa_http.proofs.SizeLemmas.{waiting_short}
 use Rattle.xa_records.specs.Keeper.{Custody}
-use Rattle.xa_server.specs.Connection.{TakesPiece}
 use Rattle.xa_server.specs.declared.drive_end.DriveEnd.{DriveEnd}
 use Rattle.xa_server.specs.declared.drive_end.DriveEnd.TheVariants.{Ended, ReadFault, TooManyReads, Memory}
 use Rattle.xa_server.specs.declared.front.Front.{Front}
-use Rattle.xa_server.specs.declared.front_error.FrontError.{FrontError}
-use Rattle.xa_server.specs.declared.front_error.FrontError.TheVariants as refused
 use Rattle.xa_server.specs.declared.lines.Conn.{Conn}
 use Rattle.xa_server.specs.Driven.{Ends, HasAnswered, IsConnection, IsConnectionOf, IsDrivenWithin, IsWaiting, Known}
 use Rattle.xa_server.specs.Driven.{ReadsLast, Situation}
@@ -27,6 +24,11 @@ use Rattle.xa_server.proofs.ConnectionLemmas.{fed_nothing}
 use Rattle.xa_server.proofs.DrivingLemmas.{after_read, driven, goes_trans, idle, read_on}
 
 -- ---- one read
+
+-- one that waits holds so little that there is room for a piece
+pub has_room : (s : Stream) (piece : List ℕ) → length piece ≤ 65_536 → IsWaiting s
+    → length s.held + length piece ≤ 1_048_576
+has_room s piece few waits = omega (arith, few, waiting_short s.held waits.1)
 
 module _ (s t : Stream) (l m : Option (List ℕ)) (r q : Option (List ReadEnd)) where
   pub interrupted : (error : Error) → error_kind error ≡ Interrupted → t ≡ s → Keeps l m
@@ -62,30 +64,24 @@ module _ (s t : Stream) (l m : Option (List ℕ)) (r q : Option (List ReadEnd)) 
 
   -- a piece came, and was taken
   pub read_taken : (room : ℕ) (piece : List ℕ) → room ≡ 65_536 → 0 < length piece → length piece ≤ room
-      → Consumes l m piece → Grows r q (gave room piece ∷ []) → TakesPiece piece s (Ok tt) t
-      → ReadsOnce (Ok tt) s t l m r q
+      → Consumes l m piece → Grows r q (gave room piece ∷ []) → t ≡ fed s piece → ReadsOnce (Ok tt) s t l m r q
   read_taken room piece full some few consumes grows takes = record {
     read = gave room piece;
     left = subst (λ (bs : List ℕ). Consumes l m bs) (sym (append-nil piece)) consumes;
     reads = grows;
-    is_read = ((full, some, few), takes.1 ∙ ap (λ (bs : List ℕ). fed s bs) (sym (append-nil piece)));
+    is_read = ((full, some, few), takes ∙ ap (λ (bs : List ℕ). fed s bs) (sym (append-nil piece)));
   }
 
-  -- or refused: one that waits holds so little that there is room for it
-  pub read_refused : (error : FrontError) (room : ℕ) (piece : List ℕ) → room ≡ 65_536 → 0 < length piece
-      → length piece ≤ room → Consumes l m piece → Grows r q (gave room piece ∷ []) → IsWaiting s
-      → TakesPiece piece s (Err error) t → ReadsOnce (Err Memory) s t l m r q
-  read_refused error room piece full some few consumes grows waits takes = record {
+  -- or there was no memory for it
+  pub read_refused : (room : ℕ) (piece : List ℕ) → room ≡ 65_536 → 0 < length piece → length piece ≤ room
+      → length piece ≤ 65_536 → Consumes l m piece → Grows r q (gave room piece ∷ []) → IsWaiting s → t ≡ s
+      → ReadsOnce (Err Memory) s t l m r q
+  read_refused room piece full some few most consumes grows waits same = record {
     read = gave room piece;
     left = subst (λ (bs : List ℕ). Consumes l m bs) (sym (append-nil piece)) consumes;
     reads = grows;
-    is_read = (piece, ap (λ (n : ℕ). gave n piece) full, (full, some, few), for_memory error takes);
+    is_read = (piece, ap (λ (n : ℕ). gave n piece) full, (full, some, few), (has_room s piece most waits, same));
   }
-    where
-      for_memory : (e : FrontError) → TakesPiece piece s (Err e) t → TakesPiece piece s (Err refused.Memory) t
-      for_memory refused.Memory is = is
-      for_memory refused.Full is = absurd (omega (arith, is.0, few, full, waiting_short s.held waits.1))
-      for_memory _ none = absurd none
 
   -- what is held has at most 65,536 bytes more
   pub read_grows : ReadsOnce (Ok tt) s t l m r q → length t.held ≤ length s.held + 65_536

@@ -34,6 +34,11 @@ use Rattle.xa_server.proofs.ConnectionLemmas.{fed_nothing}
 use Rattle.xa_server.proofs.DrivingLemmas.{idle, none_gone}
 use Rattle.xa_server.proofs.TransferLemmas.{grows_none, one_sent}
 
+-- what the next comes to, by whether the reply to it was sent, and the connection goes on
+abbrev goes_after : Result (Unit {0}) DriveEnd → Result Bool DriveEnd
+goes_after (Ok _) = Ok true
+goes_after (Err end) = Err end
+
 shut_refused : (reply : Reply) (open_now : Bool) → may_go_on reply open_now ≡ false
     → (reply ≡ Refused failure.Store) × (open_now ≡ false)
 shut_refused (Refused failure.Store) open_now shut = (refl, shut)
@@ -59,21 +64,19 @@ module _ {R : Type 0} (custody : R → Custody) (a : Situation R) (new : ServerM
 
   -- ---- a fault was answered
 
-  fault_next : (result : Result Bool DriveEnd) (fault : SessionFault) → new ≡ a.server → j ≡ a.known.told
-      → IsNext a.stream (next.Fault fault) t → IsSentAs (Writes (fault_answer fault).reply) true true result
-      → IsNextAnswered custody result a b
-  fault_next result fault same unasked is = by_result result
-    where
-      last : (whole : Bool) → Writes (fault_answer fault).reply whole → FaultLast whole a b
-      last whole written = record { fault = fault; is_next = is; written = written; same = rw (same, unasked) refl }
+  module _ (fault : SessionFault) (same : new ≡ a.server) (unasked : j ≡ a.known.told)
+      (is : IsNext a.stream (next.Fault fault) t) where
+    fault_last : (whole : Bool) → Writes (fault_answer fault).reply whole → FaultLast whole a b
+    fault_last whole written = record { fault = fault; is_next = is; written = written; same = rw (same, unasked) refl }
 
-      by_result : (r : Result Bool DriveEnd) → IsSentAs (Writes (fault_answer fault).reply) true true r
-          → IsNextAnswered custody r a b
-      by_result (Err Ended) (written, on, over) = ended custody Ended a b same (λ spare. inr (inl (last true written)))
-      by_result (Err WriteFault) written = ended custody WriteFault a b same (λ spare. last false written)
-      by_result (Err Shut) (written, shut) = absurd (false≢true (sym shut))
-      by_result (Ok true) (written, on, over) = absurd (false≢true (sym over))
-      by_result _ none = absurd none
+    fault_next : (sent : Result (Unit {0}) DriveEnd) → IsSentAs (Writes (fault_answer fault).reply) true true sent
+        → IsNextAnswered custody (goes_after sent) a b
+    fault_next (Err Ended) (written, on, over) =
+        ended custody Ended a b same (λ spare. inr (inl (fault_last true written)))
+    fault_next (Err WriteFault) written = ended custody WriteFault a b same (λ spare. fault_last false written)
+    fault_next (Err Shut) (written, shut) = absurd (false≢true (sym shut))
+    fault_next (Ok done) (written, on, over) = absurd (false≢true (sym over))
+    fault_next _ none = absurd none
 
   -- ---- a message was answered
 
@@ -116,9 +119,9 @@ module _ {R : Type 0} (custody : R → Custody) (a : Situation R) (new : ServerM
         record { first = first; serves = serves; told = told; written = written; left = refl; reads = refl } in
         (a, none_gone custody a, λ spare. record { events = events; replies = reply ∷ []; ends = ends last spare; served = served })
 
-    message_next : (result : Result Bool DriveEnd) → IsSentAs (Writes reply) (may_go reply) t.ended result
-        → IsNextAnswered custody result a b
-    message_next (Ok true) (written, on, more) = goes written on
+    message_next : (sent : Result (Unit {0}) DriveEnd) → IsSentAs (Writes reply) (may_go reply) t.ended sent
+        → IsNextAnswered custody (goes_after sent) a b
+    message_next (Ok done) (written, on, more) = goes written on
     message_next (Err Ended) (written, on, last) =
         (b, goes written on, λ spare. idle custody spare Ended b b refl (inl (refl, last)))
     message_next (Err WriteFault) written = ends_with false WriteFault written (λ last spare. last)
@@ -136,7 +139,8 @@ module _ {R : Type 0} (custody : R → Custody) (a : Situation R) (new : ServerM
   -- what follows an answer: its reply is sent, if it is one
   abbrev Follows : Result Answered DriveEnd → Result Bool DriveEnd → Type 0
   Follows (Ok (answered.Reply answer)) result =
-      IsSentAs (Writes answer.reply) (may_go answer.reply) answer.last result
+      (sent : Result (Unit {0}) DriveEnd) × IsSentAs (Writes answer.reply) (may_go answer.reply) answer.last sent
+      × (result ≡ goes_after sent)
   Follows (Ok answered.Waits) result = Unwritten (Ok false) result
   Follows (Ok answered.Ended) result = Unwritten (Err Ended) result
   Follows (Err end) result = Unwritten (Err end) result
@@ -156,9 +160,11 @@ module _ {R : Type 0} (custody : R → Custody) (a : Situation R) (new : ServerM
       (ended custody Memory a _ refl (λ spare. inr (inl (moment, record { grows = tells; same = refl }))))
   next_answered (Err _) result none follows = absurd none
   next_answered (Ok came) result (moment, (next.Message message, is, (reply, gives), serves), tells) follows =
-      message_next moment message reply is (rw gives at serves) tells result (rw gives at follows)
+      let (sent, sends, comes) = rw gives at follows in
+      rw comes (message_next moment message reply is (rw gives at serves) tells sent sends)
   next_answered (Ok came) result (moment, (next.Fault fault, is, gives, same), unasked) follows =
-      fault_next result fault same unasked is (rw gives at follows)
+      let (sent, sends, comes) = rw gives at follows in
+      rw comes (fault_next fault same unasked is sent sends)
   next_answered (Ok came) result (moment, (next.More, (on, more, still), gives, same), unasked) follows =
       let waits = rw gives at follows in
       rw (waits.0, waits.1, waits.2, same, still, unasked) (refl, (on, more, refl))

@@ -127,8 +127,7 @@ module _ (conn : Conn) (old mid : Lines) (stream : Stream) (there : IsOpen conn 
   one (event.Piece other piece) given (outcome.Held (Ok done)) (none, (was, after, had, (few, is), put)) leaves =
       taken other was after (feeds piece.now) (λ b. []) had put (sym is) refl refl
   one (event.Piece other piece) given (outcome.Held (Err error.NoSuchConnection)) does leaves = left does.1.1
-  one (event.Piece other piece) given (outcome.Held (Err error.Full)) does leaves = left does.1.3
-  one (event.Piece other piece) given (outcome.Held (Err error.Memory)) does leaves = left does.1.3
+  one (event.Piece other piece) given (outcome.Held (Err _)) does leaves = left does.1.5
   one (event.Answer other moment) (Some given) (outcome.Answered (Ok answer)) does leaves =
       asked other moment given answer does
   one (event.Answer other moment) None (outcome.Answered (Err error.NoSuchConnection)) does leaves = left does.1
@@ -137,7 +136,6 @@ module _ (conn : Conn) (old mid : Lines) (stream : Stream) (there : IsOpen conn 
       (stream, elsewhere other None leaves does.1.2, refl, refl)
   one (event.Finish other) given (outcome.Finished (Err error.NoSuchConnection)) does leaves = left does.1.1
   one event.Begin given (outcome.Begun _) none leaves = absurd none.1
-  one (event.Piece other piece) given (outcome.Held _) none leaves = absurd none.1.2
   one (event.Finish other) given (outcome.Finished _) none leaves = absurd none.1
   one _ given _ none leaves = absurd none
 

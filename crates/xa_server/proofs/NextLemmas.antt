@@ -59,14 +59,13 @@ module _ {R : Type 0} (custody : R → Custody) (moment : ℤ) (old : ServerMode
   pub ended_answered : IsCut s next.Ended t → AnswersNext custody moment old s (Ok answered.Ended) old t
   ended_answered is = (next.Ended, is, refl, refl)
 
-  -- ---- by a clock
-
-  module _ (told told_new : Option (List (Option ℤ))) where
-    pub message_now : (new : ServerModel R) (answered : Answered) → IsLook s look.Message
-        → Grows told told_new (Some moment ∷ []) → AnswersNext custody moment old s (Ok answered) new t
-        → AnswersNow custody told told_new old s (Ok answered) new t
-    message_now new answered stands tells (given, is, gives, serves) =
-        (moment, (given, is, gives, serves), rw (only_message s t given stands is).1 tells)
+  -- by a clock
+  pub message_now : (told told_new : Option (List (Option ℤ))) (new : ServerModel R) (answered : Answered)
+      → IsLook s look.Message → Grows told told_new (Some moment ∷ [])
+      → AnswersNext custody moment old s (Ok answered) new t
+      → AnswersNow custody told told_new old s (Ok answered) new t
+  message_now told told_new new answered stands tells (given, is, gives, serves) =
+      (moment, (given, is, gives, serves), rw (only_message s t given stands is).1 tells)
 
 -- ---- what a connection of a front is answered
 

@@ -17,12 +17,12 @@ use Rattle.xa_server.specs.declared.drive_end.DriveEnd.{DriveEnd}
 use Rattle.xa_server.specs.declared.drive_end.DriveEnd.TheVariants as end
 use Rattle.xa_server.specs.declared.drive_end.DriveEnd.TheVariants.{NoClock}
 use Rattle.xa_server.specs.declared.connection.Answer.{Answer}
-use Rattle.xa_server.specs.declared.front_error.FrontError.{FrontError}
-use Rattle.xa_server.specs.declared.front_error.FrontError.TheVariants.{Memory, Full}
 use Rattle.xa_server.specs.declared.holding.Holding.{Holding}
 use Rattle.xa_server.specs.declared.holding.Holding.TheVariants as holding
 use Rattle.xa_server.specs.declared.replies.Reply.{Reply}
 use Rattle.xa_server.specs.declared.replies.Reply.TheVariants.{Sent}
+use Rattle.xa_server.specs.declared.connection.TakeError.{TakeError}
+use Rattle.xa_server.specs.declared.connection.TakeError.TheVariants.{Memory, Full}
 use Rattle.xa_server.specs.ErrorCode.{code_of_session_fault, error_reply}
 use Rattle.xa_server.specs.Interruption.{ServesMessage}
 use Rattle.xa_server.specs.Replies.{bytes_of}
@@ -36,11 +36,10 @@ abbrev pub empty_stream : Stream
 empty_stream = record { held = []; ended = false }
 
 -- a connection takes a piece: whole, if it then holds at most 1,048,576 bytes; or nothing of it
-abbrev pub TakesPiece : List ℕ → Stream → Result (Unit {0}) FrontError → Stream → Type 0
+abbrev pub TakesPiece : List ℕ → Stream → Result (Unit {0}) TakeError → Stream → Type 0
 TakesPiece piece old (Ok _) new = (length old.held + length piece ≤ 1_048_576) × (new ≡ fed old piece)
 TakesPiece piece old (Err Full) new = (1_048_576 < length old.held + length piece) × (new ≡ old)
 TakesPiece piece old (Err Memory) new = (length old.held + length piece ≤ 1_048_576) × (new ≡ old)
-TakesPiece piece old (Err _) new = ⊥
 
 -- ---- what is held
 

@@ -17,7 +17,7 @@ use Rattle.xa_server.specs.declared.drive_end.DriveEnd.{DriveEnd}
 use Rattle.xa_server.specs.declared.drive_end.DriveEnd.TheVariants.{Ended, ReadFault, WriteFault, NoClock, TooManyReads}
 use Rattle.xa_server.specs.declared.drive_end.DriveEnd.TheVariants.{Memory, Shut}
 use Rattle.xa_server.specs.declared.front.Front.{Front}
-use Rattle.xa_server.specs.declared.front_error.FrontError.TheVariants as refused
+use Rattle.xa_server.specs.declared.connection.TakeError.TheVariants as refused
 use Rattle.xa_server.specs.declared.lines.Conn.{Conn}
 use Rattle.xa_server.specs.declared.replies.Reply.{Reply}
 use Rattle.xa_server.specs.declared.replies.Reply.TheVariants.{Refused}

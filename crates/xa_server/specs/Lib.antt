@@ -25,5 +25,6 @@ pub mod FrontLaws
 pub mod Transfers
 pub mod Driven
 pub mod Peers
+pub mod Codes
 pub mod handling
 pub mod TurningAway

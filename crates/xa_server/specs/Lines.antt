@@ -4,8 +4,12 @@ use Rattle.std.specs.Prelude.{option_map, Result, Ok, Err}
 use Rattle.xa_http.specs.Stream.{Stream}
 use Rattle.xa_server.specs.Connection.{TakesPiece, empty_stream}
 use Rattle.xa_server.specs.declared.front_error.FrontError.{FrontError}
-use Rattle.xa_server.specs.declared.front_error.FrontError.TheVariants.{NoSuchConnection, TooManyConnections}
+use Rattle.xa_server.specs.declared.front_error.FrontError.TheVariants.{Memory, NoSuchConnection}
+use Rattle.xa_server.specs.declared.front_error.FrontError.TheVariants.{TooManyConnections}
 use Rattle.xa_server.specs.declared.lines.Conn.{Conn}
+use Rattle.xa_server.specs.declared.front_error.FrontError.TheVariants as refused
+use Rattle.xa_server.specs.declared.connection.TakeError.{TakeError}
+use Rattle.xa_server.specs.declared.connection.TakeError.TheVariants as take
 
 -- the lines: the 64 connections by their numbers, the stream of each that is open
 abbrev pub Lines : Type 0
@@ -37,11 +41,21 @@ first_free [] = None
 first_free (None ∷ lines) = Some 0
 first_free (Some _ ∷ lines) = option_map suc (first_free lines)
 
+-- why a question about a connection isn't answered: it isn't open, or there is no memory
+abbrev pub IsUnasked : Option Stream → FrontError → Type 0
+IsUnasked None error = error ≡ NoSuchConnection
+IsUnasked (Some stream) error = error ≡ Memory
+
 -- a connection is opened by the least number of which none is open, and holds nothing; none can be if all 64 are open
 abbrev pub IsOpened : Lines → Result Conn FrontError → Lines → Type 0
 IsOpened old (Ok conn) new = (first_free old ≡ Some conn.number) × (new ≡ with_line conn (Some empty_stream) old)
 IsOpened old (Err TooManyConnections) new = (first_free old ≡ None) × (new ≡ old)
 IsOpened old (Err _) new = ⊥
+
+-- the refusal of a call for which a connection didn't take a piece
+abbrev pub refusal_of : TakeError → FrontError
+refusal_of take.Memory = refused.Memory
+refusal_of take.Full = refused.Full
 
 -- a piece comes to a connection, and no other changes; or nothing is done, because it doesn't take it, or isn't open
 abbrev pub IsHeld : Conn → List ℕ → Lines → Result (Unit {0}) FrontError → Lines → Type 0
@@ -50,7 +64,8 @@ IsHeld conn piece old (Ok done) new =
     × (new ≡ with_line conn (Some after) old)
 IsHeld conn piece old (Err NoSuchConnection) new = (line_at conn old ≡ None) × (new ≡ old)
 IsHeld conn piece old (Err error) new =
-    (stream : Stream) × IsOpen conn old stream × TakesPiece piece stream (Err error) stream × (new ≡ old)
+    (stream : Stream) × (why : TakeError) × IsOpen conn old stream × TakesPiece piece stream (Err why) stream
+    × (error ≡ refusal_of why) × (new ≡ old)
 
 -- a connection is closed, and its bytes are gone
 abbrev pub IsClosed : Conn → Lines → Result (Unit {0}) FrontError → Lines → Type 0

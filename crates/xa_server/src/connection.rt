@@ -2,9 +2,10 @@
 //!
 //! `answer` is its step: it cuts off the first message and has it served, or ends the session by a fault.
 //! `answer_now` is the same at a clock's moment.
-ghost use Rattle.std.specs.Prelude.{◌≡◌, true, IfOk, MatchResult, Ok};
+ghost use Rattle.std.specs.Prelude.{◌≡◌, ◌+◌, ◌≤◌, true, length, IfOk, MatchResult, Ok};
 ghost use Rattle.xa_http.specs.declared.session.Look.TheVariants as look;
 ghost use Rattle.xa_http.specs.Messages.{IsLook};
+ghost use Rattle.xa_http.specs.Stream.{fed};
 ghost use Rattle.xa_server.specs.Connection.{AnswersNext, AnswersNow, EndsBy, IsHolding, TakesPiece};
 ghost use Rattle.xa_server.specs.Connection.{answer_of, empty_stream};
 ghost use Rattle.xa_server.specs.Interruption.{ServesMessage};
@@ -14,7 +15,6 @@ mod turning_away;
 use crate::clock::Clock;
 use crate::drive_end::DriveEnd;
 use crate::error_code::fault_reply;
-use crate::front_error::FrontError;
 use crate::holding::Holding;
 use crate::replies::Reply;
 use crate::server::Server;
@@ -28,6 +28,15 @@ use xa_value::Moment;
 /// 524,288 of a body, and a piece of 65,536. So one that waits for the rest of a message has room for each
 /// piece that is read.
 const MAX_CONNECTION_BYTES: usize = 1_048_576;
+
+/// Why a connection doesn't take a piece of its stream. Nothing has changed.
+#[derive(Clone, Copy, Debug, PartialEq, Eq)]
+pub enum TakeError {
+    /// There was no memory for it.
+    Memory,
+    /// What the connection holds and the piece are more than 1,048,576 bytes together.
+    Full,
+}
 
 /// The reply to a message of a connection, or to the fault by which its stream ends.
 #[derive(Debug, Drop)]
@@ -107,14 +116,21 @@ impl Connection {
     /// Takes a piece of its stream, whole; or nothing of it, if it would then hold more than 1,048,576 bytes
     /// (`Full`), or if there is no memory (`Memory`). One whose session has ended takes it too, and answers
     /// nothing to it.
-    pub fn take(&mut self, piece: &[u8]) -> Result<(), FrontError>
+    pub fn take(&mut self, piece: &[u8]) -> Result<(), TakeError>
         ensures { TakesPiece piece.now self.old result self.new }
     {
         if self.session.held_len().saturating_add(piece.len()) > MAX_CONNECTION_BYTES {
-            return Err(FrontError::Full);
+            return Err(TakeError::Full);
         }
-        self.session.feed(piece)?;
-        Ok(())
+        self.feed(piece).map_err(|_| TakeError::Memory)
+    }
+
+    /// `take`, of a piece for which there is room: it fails for want of memory alone.
+    pub fn feed(&mut self, piece: &[u8]) -> Result<(), AllocError>
+        requires { length self.old.held + length piece.now ≤ 1_048_576 }
+        ensures { MatchResult result (λ _. self.new ≡ fed self.old piece.now) (λ _. self.new ≡ self.old) }
+    {
+        self.session.feed(piece)
     }
 
     /// What stands at the front of its stream. Nothing is changed. One whose session has ended takes no

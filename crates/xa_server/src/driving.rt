@@ -35,7 +35,7 @@ const PIECE_BYTES: usize = 65_536;
 /// How often a connection is read from at most; then it ends by `TooManyReads`. No time is bounded here: a
 /// peer that sends a byte now and then holds its connection for so many reads. What bounds a message's time
 /// stands before the program.
-const MAX_READS: u32 = 1_000_000;
+pub const MAX_READS: u32 = 1_000_000;
 
 /// Whether a connection goes on after a reply. After a message that was refused for want of storage it does
 /// if the keeper can go on: one that can't refuses every message that wants it.
@@ -54,7 +54,7 @@ fn send_answer<R: Records, W: Writer>(
     server: &Server<R>,
     writer: &mut W,
     answer: &Answer,
-) -> Result<bool, DriveEnd>
+) -> Result<(), DriveEnd>
     ensures { IsSentAs (λ whole. IsWritten whole (bytes_of answer.now.reply)
         (W.contents writer.old) (W.contents writer.new) (W.writes writer.old) (W.writes writer.new))
         (may_go_on answer.now.reply (R.custody server.now.records).is_open) answer.now.last result }
@@ -68,7 +68,7 @@ fn send_answer<R: Records, W: Writer>(
     if answer.last {
         return Err(DriveEnd::Ended);
     }
-    Ok(true)
+    Ok(())
 }
 
 /// Has the next of a connection answered, and sends the reply. Whether there was one; if not, more bytes are
@@ -87,7 +87,10 @@ fn answer_next<R: Records, W: Writer, C: Clock>(
     ensures fewer { result ≡ Ok true → length connection.new.held < length connection.old.held }
 {
     match connection.answer_now(server, clock) {
-        Ok(Answered::Reply(answer)) => send_answer(server, writer, &answer),
+        Ok(Answered::Reply(answer)) => {
+            send_answer(server, writer, &answer)?;
+            Ok(true)
+        }
         Ok(Answered::Waits) => Ok(false),
         Ok(Answered::Ended) => Err(DriveEnd::Ended),
         Err(end) => Err(end),
@@ -96,7 +99,7 @@ fn answer_next<R: Records, W: Writer, C: Clock>(
 
 /// Reads once, and hands over what was read, for which a connection that waits has room. An interrupted read
 /// has read nothing. Fails with how the connection has ended by it, if it has.
-#[tactic(auto, using(crate::proofs::CourseLemmas::interrupted, crate::proofs::CourseLemmas::failed_read, crate::proofs::CourseLemmas::ended_read, crate::proofs::CourseLemmas::read_taken, crate::proofs::CourseLemmas::read_refused))]
+#[tactic(auto, using(crate::proofs::CourseLemmas::interrupted, crate::proofs::CourseLemmas::failed_read, crate::proofs::CourseLemmas::ended_read, crate::proofs::CourseLemmas::has_room, crate::proofs::CourseLemmas::read_taken, crate::proofs::CourseLemmas::read_refused))]
 fn read_piece<I: Reader>(
     connection: &mut Connection,
     reader: &mut I,
@@ -112,10 +115,7 @@ fn read_piece<I: Reader>(
         Err(error) if error.kind() == ErrorKind::Interrupted => return Ok(()),
         Err(_) => return Err(DriveEnd::ReadFault),
     };
-    match connection.take(&piece[..count]) {
-        Ok(()) => Ok(()),
-        Err(_) => Err(DriveEnd::Memory),
-    }
+    Ok(connection.feed(&piece[..count])?)
 }
 
 /// Answers the messages of a connection until it ends: first those that it holds, then those that are read.

@@ -3,11 +3,11 @@
 //! A front is a server beside its connections, and each of its calls is one of theirs: `Connection` has what
 //! is proved of it, and a front says that no other connection has changed. Who serves one connection alone
 //! borrows it (`lines`), and makes the same calls, as `drive` does. `play` makes a list of calls, by `step`.
-ghost use Rattle.std.specs.Prelude.{◌≡◌, [], ◌∷◌, IfOk, IsSomeAnd, OnErr, MatchResult};
+ghost use Rattle.std.specs.Prelude.{◌≡◌, [], ◌∷◌, IfErr, IfOk, IsSomeAnd, OnErr, MatchResult};
 ghost use Rattle.xa_server.specs.Connection.{IsHolding};
 ghost use Rattle.xa_server.specs.Front.{AnswersLine, IsPlayed};
 ghost use Rattle.xa_server.specs.FrontLaws.{LinesAreStreams, PlaysGoOn};
-ghost use Rattle.xa_server.specs.Lines.{IsClosed, IsHeld, IsOpened, all_open, line_at, none_open};
+ghost use Rattle.xa_server.specs.Lines.{IsClosed, IsHeld, IsOpened, IsUnasked, all_open, line_at, none_open};
 
 mod turning_away;
 
@@ -84,13 +84,13 @@ impl<R: Records> Front<R> {
     /// Takes a piece of the connection's stream, whole; or nothing of it, if the connection would hold
     /// more than 1,048,576 bytes (`Full`), if there is no memory (`Memory`), or if it isn't open
     /// (`NoSuchConnection`). A connection whose session has ended takes it too, and answers nothing to it.
-    #[tactic(auto, using(crate::proofs::LineLemmas::held_at))]
+    #[tactic(auto, using(crate::proofs::LineLemmas::held_at, crate::proofs::LineLemmas::refused_at))]
     pub fn piece(&mut self, conn: Conn, piece: &[u8]) -> Result<(), FrontError>
         ensures held { IsHeld conn piece.now self.old.lines result self.new.lines }
         ensures server { self.new.server ≡ self.old.server }
     {
         match self.lines.get_mut(conn) {
-            Some(connection) => connection.take(piece),
+            Some(connection) => Ok(connection.take(piece)?),
             None => Err(FrontError::NoSuchConnection),
         }
     }
@@ -100,6 +100,7 @@ impl<R: Records> Front<R> {
     pub fn holding(&mut self, conn: Conn) -> Result<Holding, FrontError>
         ensures holding { IfOk result (λ holding.
             IsSomeAnd (line_at conn self.old.lines) (λ stream. IsHolding stream holding)) }
+        ensures err { IfErr result (IsUnasked (line_at conn self.old.lines)) }
         ensures same { self.new ≡ self.old }
     {
         match self.lines.get_mut(conn) {

@@ -2,6 +2,7 @@
 ghost use Rattle.std.specs.Prelude.{◌≡◌};
 ghost use Rattle.xa_server.specs.declared.front_error.FrontError.TheVariants.{Memory};
 
+use crate::connection::TakeError;
 use std::alloc::AllocError;
 use thiserror::Error;
 
@@ -27,5 +28,18 @@ impl From<AllocError> for FrontError {
 
     fn from(_error: AllocError) -> FrontError {
         FrontError::Memory
+    }
+}
+
+impl From<TakeError> for FrontError {
+    ghost use Rattle.xa_server.specs.Lines.{refusal_of};
+
+    ghost from_gives = { λ why e. e ≡ refusal_of why };
+
+    fn from(why: TakeError) -> FrontError {
+        match why {
+            TakeError::Memory => FrontError::Memory,
+            TakeError::Full => FrontError::Full,
+        }
     }
 }

@@ -14,7 +14,8 @@
 //! `lines`. Its calls are values of `event`, its refusals are `front_error`. In the folders of both,
 //! `turning_away` answers a message without a server. `driving` reads a connection from a `reader` until it
 //! ends as `drive_end` says, and sends each reply by `sending` to a `writer`. `peers` give connections, or an
-//! `accept_error`. `interruption` has the law of a crash at any moment.
+//! `accept_error`. What was told and done can be `noted`, for clauses alone. `interruption` has the law of a
+//! crash at any moment.
 //!
 //! In a file of functions each stands after those that it calls. In a file of a type its methods come first.
 #![tactic(auto)]
@@ -44,6 +45,7 @@ mod holding;
 mod interruption;
 mod limits;
 mod lines;
+mod noted;
 mod oversized;
 mod peers;
 mod reader;
@@ -61,15 +63,16 @@ mod writer;
 pub use accept_error::AcceptError;
 pub use cause::{Cause, RefusedMessage, Unanswered};
 pub use clock::Clock;
-pub use connection::{Answer, Answered, Connection};
+pub use connection::{Answer, Answered, Connection, TakeError};
 pub use drive_end::DriveEnd;
-pub use driving::drive;
+pub use driving::{MAX_READS, drive};
 pub use error_code::{ErrorCode, fault_reply};
 pub use event::{Event, Outcome};
 pub use front::{Front, lines_are_streams, unchanging_messages_leave_the_state};
 pub use front_error::FrontError;
 pub use holding::Holding;
 pub use lines::{Conn, Lines};
+pub use noted::{Noted, Notes, PeerCall, ReadCall, WriteCall};
 pub use peers::{Peers, drive_next};
 pub use reader::Reader;
 pub use replies::Reply;

@@ -13,7 +13,8 @@ use crate::server::Server;
 use crate::writer::Writer;
 use xa_records::Records;
 
-/// What gives connections, one after another. It may say what is known of each.
+/// What gives connections, one after another. It may say what is known of each. If it gives only so many,
+/// none is taken any more after the last: who comes later is refused at once.
 pub trait Peers {
     /// What the bytes of a connection are read from.
     type Input: Reader + Drop;
@@ -27,9 +28,8 @@ pub trait Peers {
     /// Those that were taken back, each as it was taken back, if that is known.
     ghost parted: { Self → Option (List Peer) } = { λ _. None };
 
-    /// Gives the next connection. After the last, none is taken any more: who comes later is refused at
-    /// once.
-    fn next(&mut self, is_last: bool) -> Result<(Self::Input, Self::Output), AcceptError>
+    /// Gives the next connection.
+    fn next(&mut self) -> Result<(Self::Input, Self::Output), AcceptError>
         ensures came { MatchResult result
             (λ ends. Grows (came self.old) (came self.new)
             (record {
@@ -66,12 +66,11 @@ pub fn drive_next<R: Records, P: Peers, C: Clock>(
     server: &mut Server<R>,
     peers: &mut P,
     clock: &mut C,
-    is_last: bool,
 ) -> Result<DriveEnd, AcceptError>
     ensures { DrivesNext R.custody P.came P.parted result server.old server.new
         (C.told clock.old) (C.told clock.new) peers.old peers.new }
 {
-    let (mut input, mut output) = peers.next(is_last)?;
+    let (mut input, mut output) = peers.next()?;
     let mut connection = Connection::new(server.alloc);
     let end = drive_open(server, &mut connection, &mut input, &mut output, clock);
     peers.part(input, output, ends_by_fault(end, &connection));

@@ -1,25 +1,56 @@
 //! The clock of rows, and their moments.
+ghost use Rattle.std.specs.Prelude.{◌≡◌, Some};
+
 use crate::field::number_of;
 use crate::no_answer::NoAnswer;
-use xa_server::Clock;
+use xa_server::{Clock, Noted};
 use xa_value::Moment;
 
 /// A clock that stands, and tells its moment only so many times.
-#[derive(Clone, Copy)]
+#[derive(Drop)]
 pub struct StandingClock {
     /// The moment at which it stands.
-    pub moment: Moment,
+    moment: Moment,
     /// How often more it tells that.
-    pub left: u64,
+    left: u64,
+    /// What it has told.
+    told: Noted<Option<Moment>>,
 }
 
-impl Clock for StandingClock {
-    fn now(&mut self) -> Option<Moment> {
+impl StandingClock {
+    /// A clock that stands at that moment, and tells it so many times.
+    pub fn new(moment: Moment, left: u64) -> StandingClock {
+        StandingClock {
+            moment,
+            left,
+            told: Noted::new(),
+        }
+    }
+
+    /// Has it stand at another moment from now on.
+    pub fn set(&mut self, moment: Moment) {
+        self.moment = moment;
+    }
+
+    /// What it tells next.
+    fn next(&mut self) -> Option<Moment>
+        ensures { self.new.told ≡ self.old.told }
+    {
         if self.left == 0 {
             return None;
         }
         self.left -= 1;
         Some(self.moment)
+    }
+}
+
+impl Clock for StandingClock {
+    ghost told = { λ clock. Some clock.told.calls };
+
+    fn now(&mut self) -> Option<Moment> {
+        let moment = self.next();
+        self.told.note(&moment);
+        moment
     }
 }
 

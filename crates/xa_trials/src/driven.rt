@@ -41,7 +41,7 @@ impl Driving {
     /// A clock that stands at the moment.
     fn clock(&mut self, moment: Moment) -> StandingClock {
         let left = mem::replace(&mut self.moments, u64::MAX);
-        StandingClock { moment, left }
+        StandingClock::new(moment, left)
     }
 
     /// Takes in what the peer sends next.
@@ -87,9 +87,9 @@ impl Driving {
     ) -> Result<(), NoAnswer> {
         let mut clock = self.clock(trial.moment);
         let count: usize = number_of(text)?;
-        for index in 0..count {
-            let is_last = index + 1 == count;
-            match trial.front.drive_next(&mut self.door, &mut clock, is_last) {
+        self.door.left = count;
+        for _ in 0..count {
+            match trial.front.drive_next(&mut self.door, &mut clock) {
                 Ok(end) => answer.push_shown("", &end),
                 Err(error) => answer.push_shown("!", &error),
             }

@@ -62,7 +62,6 @@ pub trait FrontCalls {
         &mut self,
         peers: &mut P,
         clock: &mut C,
-        is_last: bool,
     ) -> Result<DriveEnd, AcceptError>;
 }
 
@@ -101,9 +100,8 @@ impl<R: Records> FrontCalls for Front<R> {
         &mut self,
         peers: &mut P,
         clock: &mut C,
-        is_last: bool,
     ) -> Result<DriveEnd, AcceptError> {
-        drive_next(&mut self.server, peers, clock, is_last)
+        drive_next(&mut self.server, peers, clock)
     }
 }
 

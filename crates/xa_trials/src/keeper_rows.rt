@@ -64,7 +64,7 @@ impl KeeperRow<'_> {
 }
 
 /// Adds the server's replies to the messages, which it answers in one run.
-fn push_replies<V: ServerCalls + Drop>(
+pub fn push_replies<V: ServerCalls + Drop>(
     answer: &mut Answer,
     mut server: V,
     messages: &[(Moment, Message)],

@@ -56,10 +56,10 @@ pub fn connection_after(alloc: Global, fields: &[&str]) -> Result<Connection<Mem
 }
 
 /// The keeper over the store.
-fn keeper_over(
+pub fn keeper_over<S: Alter + Drop>(
     alloc: Global,
-    conn: Connection<MemStore>,
-) -> Result<SqlRecords<MemStore>, NoAnswer> {
+    conn: Connection<S>,
+) -> Result<SqlRecords<S>, NoAnswer> {
     match open_keeper(alloc, conn) {
         Ok(records) => Ok(records),
         Err((OpenError::Memory, _)) => Err(NoAnswer::Memory),

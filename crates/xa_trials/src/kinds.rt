@@ -9,7 +9,8 @@ use crate::keeper_rows::{
 use crate::no_answer::NoAnswer;
 use crate::{
     bodies, combining, decisions, documents, frozen, functions, keeper, linking, loopback,
-    messages, plain, references, requests, stops, stored, stores, tripped, values, versions,
+    messages, plain, references, reopened, requests, stops, stored, stores, tripped, values,
+    versions,
 };
 use sqlite::FileStore;
 
@@ -118,13 +119,14 @@ fn answer_value(answer: &mut Answer, kind: &str, fields: &[&str]) -> Result<(), 
     }
 }
 
-/// Answers a row, whose first field is its kind. `loopback` is of no family: it alone needs the runtime.
+/// Answers a row, whose first field is its kind. Two are of no family: they alone need the runtime.
 pub fn answer_row(rt: &HostRuntime, answer: &mut Answer, fields: &[&str]) -> Result<(), NoAnswer> {
     let [kind, fields @ ..] = fields else {
         return Err(NoAnswer::Malformed);
     };
     match *kind {
         "loopback" => loopback::loopback(answer, rt, fields),
+        "reopened" => reopened::reopened(answer, rt, fields),
         kind => answer_value(answer, kind, fields),
     }
 }

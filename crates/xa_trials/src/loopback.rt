@@ -80,7 +80,7 @@ impl<F: FrontCalls + Drop> Sockets<F> {
             "piece" => self.piece(answer.alloc(), text),
             "close" => self.connection(answer),
             "moment" => {
-                self.clock.moment = moment_of(text)?;
+                self.clock.set(moment_of(text)?);
                 Ok(())
             }
             _ => Err(NoAnswer::Malformed),
@@ -106,12 +106,11 @@ fn run_socket_events<F: FrontCalls + Drop>(
     moment: Moment,
     events: &[&str],
 ) -> Result<(), NoAnswer> {
-    let left = u64::MAX;
     let mut sockets = Sockets {
         rt: *rt,
         front,
         listener,
-        clock: StandingClock { moment, left },
+        clock: StandingClock::new(moment, u64::MAX),
         written: Vec::new(answer.alloc()),
     };
     sockets.run_events(answer, events)

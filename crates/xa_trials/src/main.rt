@@ -31,6 +31,7 @@ mod messages;
 mod plain;
 mod played;
 mod references;
+mod reopened;
 mod requests;
 mod server;
 mod stops;

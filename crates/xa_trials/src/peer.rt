@@ -1,12 +1,16 @@
 //! The other end of a connection that is driven: a reader and a writer of their own, whose calls
 //! are short, are interrupted, or fail.
+ghost use Rattle.std.specs.Prelude.{◌≡◌, Some};
+ghost use Rattle.std.specs.Io.{ReadsAtMost, WritesAtMost};
+
 use crate::answer::Answer;
 use crate::field::{first_and_last, number_of};
 use crate::no_answer::NoAnswer;
 use crate::runs::Runs;
 use std::alloc::Global;
-use std::io::{self, ErrorKind, Read, Write};
+use std::io::{self, ErrorKind};
 use std::mem;
+use xa_server::{Noted, ReadCall, Reader, WriteCall, Writer};
 
 /// How calls of one kind go: how many bytes each gives or takes at most, which one fails, and which
 /// are interrupted. They are counted from 1 on.
@@ -74,6 +78,8 @@ pub struct Sender {
     pub bytes: Vec<u8>,
     /// How many of them are read.
     at: usize,
+    /// How the reads have ended, for clauses alone.
+    noted: Noted<ReadCall>,
 }
 
 impl Sender {
@@ -83,6 +89,7 @@ impl Sender {
             reads: CallPlan::new(),
             bytes: Vec::new(alloc),
             at: 0,
+            noted: Noted::new(),
         }
     }
 
@@ -93,16 +100,28 @@ impl Sender {
             answer.push_shown("unread ", &unread);
         }
     }
-}
 
-impl Read for Sender {
-    fn read(&mut self, buf: &mut [u8]) -> io::Result<usize> {
-        let size = self.reads.next()?.min(buf.len());
+    /// Gives the next bytes.
+    fn give(&mut self, room: &mut [u8]) -> io::Result<usize>
+        ensures bound { ReadsAtMost result room.new }
+        ensures noted { self.new.noted ≡ self.old.noted }
+    {
+        let size = self.reads.next()?.min(room.len());
         let rest = self.bytes.get(self.at..).unwrap_or(&[]);
         let count = size.min(rest.len());
-        buf[..count].copy_from_slice(&rest[..count]);
+        room[..count].copy_from_slice(&rest[..count]);
         self.at = self.at.saturating_add(count);
         Ok(count)
+    }
+}
+
+impl Reader for Sender {
+    ghost reads = { λ sender. Some sender.noted.calls };
+
+    fn receive(&mut self, room: &mut [u8]) -> io::Result<usize> {
+        let result = self.give(room);
+        self.noted.note_read(&result, room);
+        result
     }
 }
 
@@ -119,6 +138,8 @@ pub struct Receiver {
     kept: Vec<u8>,
     /// What it has got, at each flush.
     got: Vec<Vec<u8>>,
+    /// How the writes and flushes have ended, for clauses alone.
+    noted: Noted<WriteCall>,
 }
 
 impl Receiver {
@@ -130,6 +151,7 @@ impl Receiver {
             flushes: CallPlan::new(),
             kept: Vec::new(alloc),
             got: Vec::new(alloc),
+            noted: Noted::new(),
         }
     }
 
@@ -145,21 +167,42 @@ impl Receiver {
         }
         Ok(())
     }
-}
 
-impl Write for Receiver {
-    fn write(&mut self, buf: &[u8]) -> io::Result<usize> {
-        let count = self.writes.next()?.min(buf.len());
-        self.kept.extend_from_slice(&buf[..count])?;
+    /// Takes the next bytes.
+    fn take(&mut self, bytes: &[u8]) -> io::Result<usize>
+        ensures bound { WritesAtMost result bytes.now }
+        ensures noted { self.new.noted ≡ self.old.noted }
+    {
+        let count = self.writes.next()?.min(bytes.len());
+        self.kept.extend_from_slice(&bytes[..count])?;
         Ok(count)
     }
 
-    fn flush(&mut self) -> io::Result<()> {
+    /// Gets what it took since the last flush.
+    fn get(&mut self) -> io::Result<()>
+        ensures { self.new.noted ≡ self.old.noted }
+    {
         self.flushes.next()?;
         if !self.kept.is_empty() {
             let kept = mem::replace(&mut self.kept, Vec::new(self.alloc));
             self.got.push(kept)?;
         }
         Ok(())
+    }
+}
+
+impl Writer for Receiver {
+    ghost writes = { λ receiver. Some receiver.noted.calls };
+
+    fn send(&mut self, bytes: &[u8]) -> io::Result<usize> {
+        let result = self.take(bytes);
+        self.noted.note_write(&result, bytes);
+        result
+    }
+
+    fn deliver(&mut self) -> io::Result<()> {
+        let result = self.get();
+        self.noted.note_flush(&result);
+        result
     }
 }

@@ -1,6 +1,6 @@
 use Rattle.std.proofs.Common.{rules, ◌≡◌, ◌∙◌, ap, Err, Ok}
 use Rattle.sqlite.specs.WalFiles.{image_at}
-use Rattle.pdpd.proofs.BeginningLemmas.{serves_files}
+use Rattle.pdpd.proofs.BeginningLemmas.{serves_files, unclosed_as}
 use Rattle.pdpd.proofs.EndingLemmas.{serves_as}
 use Rattle.pdpd.specs.Beginning.{known_text}
 use Rattle.pdpd.specs.Connections.{at_clock}
@@ -37,12 +37,11 @@ returns-in-Ok-close_records-clause-address g c none =
 
 pub returns-in-Err-close_records-clause-served : goal.returns-in-Err-close_records-clause-served
 returns-in-Err-close_records-clause-served g c = (
-  c.in-Err-close_records.ensures.err,
-  (
-    c.in-Ok.left.front,
-    serves_as (image_at g.S.Start) (known_text g.F.Read.remaining c.args.token) (g.C.Clock.told c.args.clock.now) c.args.serving.now.connections c.in-Ok.left.result (Ok tt)
-        (at_clock c.in-Ok.left.front (g.C.Clock.told c.serve.new.clock)) c.in_default.is c.in-Ok.ensures.served,
-  ),
+  c.in-Ok.left.front,
+  serves_as (image_at g.S.Start) (known_text g.F.Read.remaining c.args.token) (g.C.Clock.told c.args.clock.now) c.args.serving.now.connections c.in-Ok.left.result (Ok tt)
+      (at_clock c.in-Ok.left.front (g.C.Clock.told c.serve.new.clock)) c.in_default.is c.in-Ok.ensures.served,
+  unclosed_as c.into_records.result c.in-Ok.left.front.server.records c.in-Err-close_records.store (c.into_records.ensures ∙ ap (λ s. s.records) c.into_server.ensures)
+      c.in-Err-close_records.ensures.left,
 )
 
 pub returns-in-Err-close_records-clause-address : goal.returns-in-Err-close_records-clause-address

@@ -5,11 +5,11 @@ use Rattle.xa_server.specs.declared.front.Front.{Front}
 use Rattle.xa_server.specs.declared.replies.Reply.{Reply as ServerReply}
 use Rattle.xa_server.specs.Alone.{Event}
 use Rattle.xa_server.specs.Peers.{HasVisits, Peer, Visit}
+use Rattle.xa_server.specs.Serving.{AreServed}
 use Rattle.pdpd.specs.declared.fault.Fault.{Fault}
 use Rattle.pdpd.specs.declared.serve.setting.Setting.TheVariants.{Work, Reply, Reading, Views, Idle, Sums}
 use Rattle.pdpd.specs.Connections.{AreIsolated, Clocked, ServesVisit}
 use Rattle.pdpd.specs.Fault.{IsOfSetting}
-use Rattle.pdpd.specs.OneRun.{AreOneRun}
 
 -- a fault of one of the settings
 abbrev pub IsOfSettings : Fault → Type 0
@@ -22,7 +22,7 @@ IsOfSettings fault =
 abbrev pub ServesAny : {R : Type 0} → (R → Custody) → Option Fault → Clocked R → Clocked R → Visit → Type 0
 ServesAny custody fault old new visit =
     (events : List Event) × (replies : List ServerReply) × ServesVisit custody fault old new events replies visit
-    × AreOneRun custody old.front.server new.front.server events replies
+    × AreServed custody old.front.server new.front.server events replies
 
 -- what serving the next connection has come to: it was served, and the next is; or the program ends by the fault,
 -- before a connection was there or after it was served

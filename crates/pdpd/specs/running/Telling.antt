@@ -9,10 +9,10 @@ use Rattle.xa_http.specs.Stream.{Stream}
 use Rattle.xa_records.specs.Keeper.{Custody}
 use Rattle.xa_server.specs.declared.replies.Reply.{Reply}
 use Rattle.xa_server.specs.Connection.{all_replies}
+use Rattle.xa_server.specs.Serving.{AreServed}
 use Rattle.xa_server.specs.World.{ServerModel}
 use Rattle.pdpd.specs.declared.replay.heading.Heading.{Heading}
 use Rattle.pdpd.specs.Entry.{events_at, reply_entries}
-use Rattle.pdpd.specs.OneRun.{AreOneRun}
 
 -- the stream stands where messages that were cut off leave it, or it has ended there by the fault
 abbrev pub LeavesOff : Option SessionFault → Stream → Stream → Type 0
@@ -28,7 +28,7 @@ pub record AreTold {R : Type 0} (custody : R → Custody) (moment : ℤ) (old ne
   pub run : List Reply
   pub last : Stream
   pub cuts : Cuts stream messages last
-  pub are_one : AreOneRun custody old new (events_at moment messages) run
+  pub are_one : AreServed custody old new (events_at moment messages) run
   pub ends : LeavesOff fault last after
   pub are_all : replies ≡ all_replies run fault
 

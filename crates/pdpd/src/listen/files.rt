@@ -38,6 +38,6 @@ pub fn listen_and_close<S: Start, F: OpenFile + Read + Drop, C: Clock>(
     }
     match close_records(left.front.into_server().into_records()) {
         Ok(closed) => Ended::Closed(closed),
-        Err(fault) => Ended::Unclosed(fault),
+        Err(store) => Ended::Unclosed(store),
     }
 }

@@ -6,8 +6,7 @@ ghost use Rattle.xa_server.specs.Decisions.{nothing_cached};
 ghost use Rattle.xa_server.specs.Lines.{all_open};
 ghost use Rattle.pdpd.specs.declared.exit.Exit.TheVariants.{Memory};
 ghost use Rattle.pdpd.specs.Exit.{breaks_off};
-ghost use Rattle.pdpd.specs.OneRun.{IsSomeRun};
-ghost use Rattle.pdpd.specs.Replay.{IsEntryReplied};
+ghost use Rattle.pdpd.specs.Replay.{IsEntryReplied, IsSomeRun};
 ghost use Rattle.pdpd.specs.running.Replaying.{AreReady, Writes};
 
 use crate::exit::Exit;

@@ -1,11 +1,8 @@
 //! What a connection is told: the replies to its messages, each written once it is answered.
 ghost use Rattle.std.specs.Prelude.{◌≡◌, ◌≤◌, ◌<◌, Ok, IfErr, IfOk, IsTrue, OnOk, false, true, length};
 ghost use Rattle.xa_http.specs.Stream.{fed};
-ghost use Rattle.xa_server.specs.declared.front_error.FrontError.TheVariants as front;
-ghost use Rattle.pdpd.specs.declared.exit.Exit.TheVariants.{Memory};
 ghost use Rattle.pdpd.specs.Exit.{breaks_off};
-ghost use Rattle.pdpd.specs.OneRun.{IsSomeRun};
-ghost use Rattle.pdpd.specs.Replay.{ConnectionTakes, StreamTakes};
+ghost use Rattle.pdpd.specs.Replay.{ConnectionTakes, IsSomeRun, StreamTakes};
 ghost use Rattle.pdpd.specs.running.Replaying.{Writes};
 ghost use Rattle.pdpd.specs.running.Telling.{HasRoom, IsToldAndWritten, Stands};
 
@@ -15,19 +12,11 @@ use crate::replay::writing::write_reply;
 use std::alloc::Global;
 use std::io::Write;
 use xa_records::Records;
-use xa_server::{Answered, Connection, FrontError, Server};
+use xa_server::{Answered, Connection, Server};
 
 /// How many bytes of an entry are handed over at once. All messages that are whole then are answered
 /// before the next piece, so that a connection always has room for it.
 const PIECE_BYTES: usize = 65_536;
-
-/// How the program ends if a connection that has room for a piece doesn't take it: there was no memory.
-fn exit_of_refusal(_error: FrontError) -> Exit
-    requires { _error ≡ front.Memory }
-    ensures { result ≡ Memory }
-{
-    Exit::Memory
-}
 
 /// Answers the next of a connection, and writes the reply, if there is one. Whether its session goes on, so
 /// that another message may be whole.
@@ -73,9 +62,7 @@ fn take_piece<R: Records, W: Write>(
     ensures served { IsSomeRun R.custody server.old server.new }
     ensures err { IfErr result (λ exit. IsTrue (breaks_off exit)) }
 {
-    if let Err(error) = connection.take(piece) {
-        return Err(exit_of_refusal(error));
-    }
+    connection.feed(piece)?;
     while answer_next(server, connection, writer, heading)? {}
     Ok(())
 }

@@ -1,5 +1,6 @@
 //! Taking connections: one that fails is passed over, unless the listener failed.
-ghost use Rattle.std.specs.Prelude.{◌≡◌, IfErr, IsFalse, IsTrue, MatchResult};
+ghost use Rattle.std.specs.Prelude.{◌≡◌, IfErr, IsFalse, IsTrue, MatchResult, Some};
+ghost use Rattle.std.specs.Io.{ReadsAtMost, WritesAtMost};
 ghost use Rattle.xa_server.specs.declared.accept_error.AcceptError.TheVariants.{Failed, Memory};
 ghost use Rattle.pdpd.specs.Fault.{goes_on_after, is_of_network, is_passing, is_want_of_room};
 
@@ -11,7 +12,7 @@ use std::rc::Rc;
 use std::rt::HostRuntime;
 use std::thread;
 use std::time::Duration;
-use xa_server::{AcceptError, Peers};
+use xa_server::{AcceptError, Noted, PeerCall, Peers, ReadCall, Reader, WriteCall, Writer};
 
 /// How often in a row taking a connection may fail. Peers that close first end the program only if so
 /// many do in a row.
@@ -57,17 +58,31 @@ pub struct Listening {
     rt: HostRuntime,
     /// The socket at which connections come, until the last has come.
     listener: Option<TcpListener>,
+    /// How many are still taken.
+    left: usize,
     /// For how many seconds each connection may give nothing, or take nothing; 0 for ever.
     idle: usize,
+    /// The connections that were given, for clauses alone.
+    came: Noted<PeerCall>,
+    /// Those that were taken back, too.
+    parted: Noted<PeerCall>,
 }
 
 impl Listening {
-    /// Takes connections by that listener. Each may be idle for so many seconds; 0 for ever.
-    pub fn new(rt: &HostRuntime, listener: TcpListener, idle: usize) -> Listening {
+    /// Takes so many connections by that listener. Each may be idle for so many seconds; 0 for ever.
+    pub fn new(
+        rt: &HostRuntime,
+        listener: TcpListener,
+        connections: usize,
+        idle: usize,
+    ) -> Listening {
         Listening {
             rt: *rt,
             listener: Some(listener),
+            left: connections,
             idle,
+            came: Noted::new(),
+            parted: Noted::new(),
         }
     }
 
@@ -91,37 +106,74 @@ impl Listening {
     }
 }
 
-/// A connection that is read from or written to: both share its socket.
+/// Reads from a socket.
+fn read_from(mut stream: &TcpStream, room: &mut [u8]) -> io::Result<usize>
+    ensures { ReadsAtMost result room.new }
+{
+    stream.read(room)
+}
+
+/// Writes to a socket.
+fn write_to(mut stream: &TcpStream, bytes: &[u8]) -> io::Result<usize>
+    ensures { WritesAtMost result bytes.now }
+{
+    stream.write(bytes)
+}
+
+/// Flushes a socket.
+fn flush(mut stream: &TcpStream) -> io::Result<()> {
+    stream.flush()
+}
+
+/// What a connection is read from.
 #[derive(Drop)]
-pub struct SharedStream {
-    /// The socket.
+pub struct Input {
+    /// The socket, which the output shares.
     stream: Rc<TcpStream>,
     /// How often it was read from.
-    reads: u32,
+    count: u32,
+    /// How the reads have ended, for clauses alone.
+    reads: Noted<ReadCall>,
 }
 
-impl Read for SharedStream {
-    fn read(&mut self, room: &mut [u8]) -> io::Result<usize> {
-        let mut stream = &*self.stream;
-        self.reads = self.reads.saturating_add(1);
-        stream.read(room)
+impl Reader for Input {
+    ghost reads = { λ input. Some input.reads.calls };
+
+    fn receive(&mut self, room: &mut [u8]) -> io::Result<usize> {
+        self.count = self.count.saturating_add(1);
+        let result = read_from(&self.stream, room);
+        self.reads.note_read(&result, room);
+        result
     }
 }
 
-impl Write for SharedStream {
-    fn write(&mut self, bytes: &[u8]) -> io::Result<usize> {
-        let mut stream = &*self.stream;
-        stream.write(bytes)
+/// What a connection is written to.
+#[derive(Drop)]
+pub struct Output {
+    /// The socket, which the input shares.
+    stream: Rc<TcpStream>,
+    /// How the writes and flushes have ended, for clauses alone.
+    writes: Noted<WriteCall>,
+}
+
+impl Writer for Output {
+    ghost writes = { λ output. Some output.writes.calls };
+
+    fn send(&mut self, bytes: &[u8]) -> io::Result<usize> {
+        let result = write_to(&self.stream, bytes);
+        self.writes.note_write(&result, bytes);
+        result
     }
 
-    fn flush(&mut self) -> io::Result<()> {
-        let mut stream = &*self.stream;
-        stream.flush()
+    fn deliver(&mut self) -> io::Result<()> {
+        let result = flush(&self.stream);
+        self.writes.note_flush(&result);
+        result
     }
 }
 
 /// The connection, to be read from and to be written to.
-fn shared(alloc: Global, stream: TcpStream) -> Result<(SharedStream, SharedStream), AcceptError>
+fn shared(alloc: Global, stream: TcpStream) -> Result<(Input, Output), AcceptError>
     ensures { IfErr result (λ error. error ≡ Memory) }
 {
     let Ok(input) = Rc::new(alloc, stream) else {
@@ -131,33 +183,42 @@ fn shared(alloc: Global, stream: TcpStream) -> Result<(SharedStream, SharedStrea
         return Err(AcceptError::Memory);
     };
     Ok((
-        SharedStream {
+        Input {
             stream: input,
-            reads: 0,
+            count: 0,
+            reads: Noted::new(),
         },
-        SharedStream {
+        Output {
             stream: output,
-            reads: 0,
+            writes: Noted::new(),
         },
     ))
 }
 
 impl Peers for Listening {
-    type Input = SharedStream;
+    type Input = Input;
 
-    type Output = SharedStream;
+    type Output = Output;
 
-    fn next(&mut self, is_last: bool) -> Result<(SharedStream, SharedStream), AcceptError> {
+    ghost came = { λ listening. Some listening.came.calls };
+
+    ghost parted = { λ listening. Some listening.parted.calls };
+
+    fn next(&mut self) -> Result<(Input, Output), AcceptError> {
         let stream = self.next_connection()?;
-        if is_last {
+        self.left = self.left.saturating_sub(1);
+        if self.left == 0 {
             self.listener = None;
         }
-        shared(self.rt.alloc(), stream)
+        let (input, output) = shared(self.rt.alloc(), stream)?;
+        self.came.note_peer(&input, &output);
+        Ok((input, output))
     }
 
-    fn part(&mut self, input: SharedStream, _output: SharedStream, by_fault: bool) {
+    fn part(&mut self, input: Input, output: Output, by_fault: bool) {
+        self.parted.note_peer(&input, &output);
         if by_fault {
-            part_with(&self.rt, &input.stream, input.reads);
+            part_with(&self.rt, &input.stream, input.count);
         }
     }
 }

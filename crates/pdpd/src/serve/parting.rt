@@ -3,14 +3,12 @@ use std::io::{ErrorKind, Read};
 use std::net::{Shutdown, TcpStream};
 use std::rt::{Clock, HostRuntime};
 use std::time::Duration;
+use xa_server::MAX_READS;
 
 /// For how many seconds what comes is dropped.
 const PARTING_SECONDS: u64 = 2;
 
-/// How often a connection is read from in all, before and then (`drive` of `xa_server`).
-const MAX_READS: u32 = 1_000_000;
-
-/// How often it is then at most: 64 MiB, as by `listen`.
+/// How often a connection is read from then at most: 64 MiB, as by `listen`.
 const MAX_DROPPED: u32 = 1_024;
 
 /// How many bytes are read at once.

@@ -3,8 +3,9 @@ ghost use Rattle.std.specs.Prelude.{◌≡◌, None, Some};
 ghost use Rattle.pdpd.specs.Ending.{exit_of_end, fault_in_end};
 
 use crate::exit::Exit;
-use crate::fault::{Asked, Fault, FaultLine};
+use crate::fault::{Asked, Fault, FaultLine, StoreFault};
 use crate::store::closed::ClosedStore;
+use sqlite::FileStore;
 use sqlite_disk::Disk;
 use std::rt::HostRuntime;
 use xa_records::Records;
@@ -24,8 +25,9 @@ pub struct Serving<R: Records> {
 pub enum Ended<D: Disk, R: Records> {
     /// All connections were served, and then the store's files were closed.
     Closed(ClosedStore<D>),
-    /// All connections were served, and then the files couldn't be closed.
-    Unclosed(Fault),
+    /// All connections were served, and then the files couldn't be closed. This is the store, as that has
+    /// left it.
+    Unclosed(FileStore<D>),
     /// A fault has ended serving. This is the front, as the connections have left it.
     Broken(Front<R>, Fault),
     /// A fault has come before any connection.
@@ -39,7 +41,7 @@ impl<D: Disk, R: Records> Ended<D, R> {
     {
         match self {
             Ended::Closed(_) => None,
-            Ended::Unclosed(fault) => Some(*fault),
+            Ended::Unclosed(_) => Some(Fault::Store(StoreFault::Unclosed)),
             Ended::Broken(_, fault) => Some(*fault),
             Ended::Unbegun(fault) => Some(*fault),
         }

@@ -1,10 +1,10 @@
 //! The machine's clock.
-ghost use Rattle.std.specs.Prelude.{◌≡◌, ◌/◌, pos, IfSome};
+ghost use Rattle.std.specs.Prelude.{◌≡◌, ◌/◌, [], pos, IfSome, Some};
 ghost use Rattle.std.specs.Duration.{as_nanos};
 
 use std::rt::HostRuntime;
 use std::time::{Clock as Time, Duration};
-use xa_server::Clock;
+use xa_server::{Clock, Noted};
 use xa_value::Moment;
 
 /// The machine's clock, which tells seconds since 1970.
@@ -12,12 +12,19 @@ use xa_value::Moment;
 pub struct WallClock {
     /// The runtime, which has the clock.
     rt: HostRuntime,
+    /// What it has told.
+    told: Noted<Option<Moment>>,
 }
 
 impl WallClock {
     /// The clock of the machine on which the program runs.
-    pub fn new(rt: &HostRuntime) -> WallClock {
-        WallClock { rt: *rt }
+    pub fn new(rt: &HostRuntime) -> WallClock
+        ensures { result.told.calls ≡ [] }
+    {
+        WallClock {
+            rt: *rt,
+            told: Noted::new(),
+        }
     }
 }
 
@@ -28,8 +35,17 @@ fn moment_after(since: Duration) -> Option<Moment>
     Moment::new(i64::try_from(since.as_secs()).ok()?)
 }
 
+/// The present moment; none if the machine's clock can't be read.
+fn present_moment(rt: &HostRuntime) -> Option<Moment> {
+    moment_after(rt.since_1970().ok()?)
+}
+
 impl Clock for WallClock {
+    ghost told = { λ clock. Some clock.told.calls };
+
     fn now(&mut self) -> Option<Moment> {
-        moment_after(self.rt.since_1970().ok()?)
+        let moment = present_moment(&self.rt);
+        self.told.note(&moment);
+        moment
     }
 }

@@ -8,7 +8,7 @@ use std::time::Duration;
 impl Reactor {
     /// Whether one may wait at a door.
     pub(super) fn one_waits(&self) -> bool {
-        self.board.door || self.is_split && self.board.changes
+        self.board.waits(Access::All) || self.is_split && self.board.waits(Access::Changes)
     }
 
     /// How much is left of the time of a program that ends; none for ever, if it wasn't told to.

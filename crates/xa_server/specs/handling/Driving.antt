@@ -9,7 +9,7 @@ use Rattle.xa_server.specs.Alone.{Event}
 use Rattle.xa_server.specs.Connection.{TakesPiece}
 use Rattle.xa_server.specs.declared.drive_end.DriveEnd.{DriveEnd}
 use Rattle.xa_server.specs.declared.drive_end.DriveEnd.TheVariants.{Ended, ReadFault, WriteFault, Memory, Shut}
-use Rattle.xa_server.specs.declared.front_error.FrontError.TheVariants as refused
+use Rattle.xa_server.specs.declared.connection.TakeError.TheVariants as refused
 use Rattle.xa_server.specs.declared.replies.Reply.{Reply}
 use Rattle.xa_server.specs.Driven.{Ends, HasAnswered, IsWaiting, Situation}
 use Rattle.xa_server.specs.Serving.{HaveServed}
@@ -39,8 +39,8 @@ pub record ReadsOnce (result : Result (Unit {0}) DriveEnd) (old new : Stream) (l
 
 -- how a connection goes on after an answer, by whether its reply was written whole, whether it may go on after that
 -- reply, and whether the answer is its last
-abbrev pub IsSentAs : (Bool → Type 0) → Bool → Bool → Result Bool DriveEnd → Type 0
-IsSentAs written may_go_on last (Ok true) = written true × (may_go_on ≡ true) × (last ≡ false)
+abbrev pub IsSentAs : (Bool → Type 0) → Bool → Bool → Result (Unit {0}) DriveEnd → Type 0
+IsSentAs written may_go_on last (Ok _) = written true × (may_go_on ≡ true) × (last ≡ false)
 IsSentAs written may_go_on last (Err Ended) = written true × (may_go_on ≡ true) × (last ≡ true)
 IsSentAs written may_go_on last (Err Shut) = written true × (may_go_on ≡ false)
 IsSentAs written may_go_on last (Err WriteFault) = written false

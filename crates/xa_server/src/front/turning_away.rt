@@ -1,7 +1,7 @@
 //! How a connection's message is turned away that asks for a change where none is taken.
-ghost use Rattle.std.specs.Prelude.{◌≡◌, IfOk, IsSomeAnd};
+ghost use Rattle.std.specs.Prelude.{◌≡◌, IfErr, IfOk, IsSomeAnd};
 ghost use Rattle.xa_http.specs.Changing.{TellsChange};
-ghost use Rattle.xa_server.specs.Lines.{line_at};
+ghost use Rattle.xa_server.specs.Lines.{IsUnasked, line_at};
 ghost use Rattle.xa_server.specs.TurningAway.{LeavesState, TurnsAwayAt};
 
 use crate::connection::Answer;
@@ -16,6 +16,7 @@ impl<R: Records> Front<R> {
     pub fn asks_for_change(&mut self, conn: Conn) -> Result<bool, FrontError>
         ensures tells { IfOk result (λ changes.
             IsSomeAnd (line_at conn self.old.lines) (λ stream. TellsChange stream changes)) }
+        ensures err { IfErr result (IsUnasked (line_at conn self.old.lines)) }
         ensures same { self.new ≡ self.old }
     {
         match self.lines.get_mut(conn) {

@@ -1,5 +1,5 @@
 use Rattle.std.specs.Io.Buffered.{writer_contents}
-use Rattle.pdpd.specs.OneRun.{IsSomeRun}
+use Rattle.pdpd.specs.Replay.{IsSomeRun}
 use Rattle.pdpd.specs.running.Reading.{remaining_of}
 use Rattle.pdpd.specs.running.Replaying.{AreReady}
 use Rattle.pdpd.proofs.ReplayLemmas.{AnsweredTo, ReadTo}

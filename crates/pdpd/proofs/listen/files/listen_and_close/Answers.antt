@@ -1,6 +1,7 @@
 use Rattle.std.proofs.Common.{rules, ◌≡◌, ◌∙◌, ap, Err, Ok}
 use Rattle.std.specs.Prelude.{is_some}
 use Rattle.sqlite.specs.WalFiles.{image_at}
+use Rattle.pdpd.proofs.BeginningLemmas.{unclosed_as}
 use Rattle.pdpd.proofs.ListeningLemmas.{serves_at_once_as, serves_files_at_once}
 use Rattle.pdpd.specs.Beginning.{known_text}
 use Rattle.pdpd.specs.declared.fault.Fault.TheVariants.{Place}
@@ -35,11 +36,10 @@ returns-in-Ok-close_records-clause-place g c none =
 
 pub returns-in-Err-close_records-clause-served : goal.returns-in-Err-close_records-clause-served
 returns-in-Err-close_records-clause-served g c = (
-  c.in-Err-close_records.ensures.err,
-  (
-    c.in-Ok.left.front,
-    serves_at_once_as (image_at g.S.Start) (known_text g.F.Read.remaining c.args.token) (is_some c.args.listening.now.changes) c.in-Ok.left.result (Ok tt) c.in-Ok.left.front c.in_default.is c.in-Ok.ensures.served,
-  ),
+  c.in-Ok.left.front,
+  serves_at_once_as (image_at g.S.Start) (known_text g.F.Read.remaining c.args.token) (is_some c.args.listening.now.changes) c.in-Ok.left.result (Ok tt) c.in-Ok.left.front c.in_default.is c.in-Ok.ensures.served,
+  unclosed_as c.into_records.result c.in-Ok.left.front.server.records c.in-Err-close_records.store (c.into_records.ensures ∙ ap (λ s. s.records) c.into_server.ensures)
+      c.in-Err-close_records.ensures.left,
 )
 
 pub returns-in-Err-close_records-clause-place : goal.returns-in-Err-close_records-clause-place

@@ -1,5 +1,5 @@
 use Rattle.std.proofs.Common.{◌≡◌, false, length}
-use Rattle.pdpd.specs.OneRun.{IsSomeRun}
+use Rattle.pdpd.specs.Replay.{IsSomeRun}
 use Rattle.pdpd.specs.running.Telling.{HasRoom}
 use Rattle.pdpd.proofs.PieceLemmas.{TakenTo}
 use Rattle.pdpd.proofs.replay.telling.take.Given as goal

@@ -1,20 +1,19 @@
 use Rattle.std.proofs.Common.{◌∙◌, ap, refl}
 use Rattle.xa_http.specs.Stream.{Stream}
-use Rattle.pdpd.proofs.PieceLemmas.{only_memory}
+use Rattle.pdpd.proofs.PieceLemmas.{has_room}
 use Rattle.pdpd.proofs.RunLemmas.{some_none, some_on}
 use Rattle.pdpd.proofs.TellingLemmas.{stands_on, told_idle, told_on}
 use Rattle.pdpd.proofs.replay.telling.take_piece.Goals as goal
 
-pub exit_of_refusal-requires : goal.exit_of_refusal-requires
-exit_of_refusal-requires g c =
-    only_memory c.args.piece.now c.args.connection.now c.take.new.self c.in-Err.error c.in-Err.ensures c.requires.goes_on c.requires.room c.requires.few
+pub feed-requires : goal.feed-requires
+feed-requires g c = has_room c.args.piece.now c.args.connection.now c.requires.goes_on c.requires.room c.requires.few
 
 pub loop-init : goal.loop-init
 loop-init g c = record {
   served = some_none g.R.Records.custody g.met.R.Records.open_if_sound c.args.server.now c.args.server.now refl;
-  goes_on = ap (λ (s : Stream). s.ended) c.in_default.ensures.1 ∙ c.requires.goes_on;
+  goes_on = ap (λ (s : Stream). s.ended) c.in_ok-feed.ensures ∙ c.requires.goes_on;
   told =
-      told_idle g.R.Records.custody g.met.R.Records.open_if_sound c.args.heading.now c.args.server.now c.args.server.now _ c.take.new.self _ refl c.in_default.ensures.1;
+      told_idle g.R.Records.custody g.met.R.Records.open_if_sound c.args.heading.now c.args.server.now c.args.server.now _ c.feed.new.self _ refl c.in_ok-feed.ensures;
 }
 
 pub loop-preserved : goal.loop-preserved

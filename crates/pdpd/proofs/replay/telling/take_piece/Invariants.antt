@@ -1,6 +1,6 @@
 use Rattle.std.proofs.Common.{◌≡◌, false, length}
 use Rattle.xa_http.specs.Stream.{fed}
-use Rattle.pdpd.specs.OneRun.{IsSomeRun}
+use Rattle.pdpd.specs.Replay.{IsSomeRun}
 use Rattle.pdpd.specs.running.Telling.{IsToldAndWritten}
 use Rattle.pdpd.proofs.replay.telling.take_piece.Given as goal
 
